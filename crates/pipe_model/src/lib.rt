@@ -1,0 +1,12 @@
+//! What a pipeline works on: records, the texts that they are read from and written to, and codes.
+#![tactic(auto)]
+
+mod code;
+mod lines;
+mod memory;
+mod record;
+
+pub use code::worst;
+pub use lines::{Lines, lines_of, text_of};
+pub use memory::NoMemory;
+pub use record::{Rec, Recs};
