@@ -10,3 +10,6 @@ pub use code::worst;
 pub use lines::{Lines, lines_of, text_of};
 pub use memory::NoMemory;
 pub use record::{Rec, Recs};
+
+#[cfg(test)]
+mod tests;

@@ -1,0 +1,5 @@
+pub mod Answer
+pub mod Devices
+pub mod Meaning
+pub mod Status
+pub mod Steps

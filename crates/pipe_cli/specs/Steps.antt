@@ -1,0 +1,50 @@
+-- What the parts of a call do.
+use Rattle.std.specs.Prelude.{◌≡◌, ℕ, ◌<◌, ◌≤◌, List, length, Ok, Err, OnOk, MatchResult}
+use Rattle.std.specs.declared.result.Result.{Result}
+use Rattle.outside.specs.Source.{Gave}
+use Rattle.outside.specs.Sink.{Gained}
+use Rattle.pipe_cli.specs.declared.status.Status.{Status}
+use Rattle.pipe_cli.specs.declared.status.Status.TheVariants.{Zero, ReadFault, WriteFault, NoMemory, InputTooLarge, NotYet}
+use Rattle.pipe_cli.specs.Devices.{Device, Steady, Failed, IsRead}
+use Rattle.pipe_cli.specs.Meaning.{input_limit}
+use Rattle.pipe_cli.specs.Answer.{IsCutShort}
+
+-- the status of what was done
+abbrev pub status_of : Result (Unit {0}) Status → Status
+status_of (Ok done) = Zero
+status_of (Err status) = status
+
+-- the input was read to its end
+pub record IsWhole (input input' : Device) (bytes : List ℕ) : Type 0 where
+  pub gave : Gave bytes input.bytes input'.bytes
+  pub fits : length bytes ≤ input_limit
+  pub ended : IsRead input'
+  pub steady : Steady input input'
+
+-- why the reading of the input ended before
+abbrev pub StopsReading : Device → Device → List ℕ → Status → Type 0
+StopsReading input input' given ReadFault = (length given ≤ input_limit) × Failed input input'
+StopsReading input input' given InputTooLarge = (input_limit < length given) × Steady input input'
+StopsReading input input' given NoMemory = Steady input input'
+StopsReading input input' given Zero = ⊥
+StopsReading input input' given WriteFault = ⊥
+StopsReading input input' given NotYet = ⊥
+
+-- the reading of the input ended before its end
+pub record IsPart (input input' : Device) (status : Status) : Type 0 where
+  pub given : List ℕ
+  pub gave : Gave given input.bytes input'.bytes
+  pub stops : StopsReading input input' given status
+
+-- the bytes were written
+pub record IsWritten (bytes : List ℕ) (output output' : Device) : Type 0 where
+  pub gained : Gained bytes output.bytes output'.bytes
+  pub steady : Steady output output'
+
+-- a fault ended the writing of the bytes
+pub record IsPartWritten (bytes : List ℕ) (output output' : Device) (status : Status) : Type 0 where
+  pub fault : status ≡ WriteFault
+  pub wrote : List ℕ
+  pub cut : IsCutShort wrote bytes
+  pub gained : Gained wrote output.bytes output'.bytes
+  pub failed : Failed output output'

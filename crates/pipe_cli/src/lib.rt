@@ -1,0 +1,11 @@
+//! The program's one call: it reads the words of the command line, does what they say, and answers a status.
+#![tactic(auto)]
+
+mod filter;
+mod main_call;
+mod read;
+mod status;
+mod write;
+
+pub use main_call::pipe_main;
+pub use status::Status;

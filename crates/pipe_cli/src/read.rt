@@ -1,0 +1,38 @@
+ghost use Rattle.std.specs.Prelude.{MatchResult};
+ghost use Rattle.pipe_cli.specs.Devices.{device};
+ghost use Rattle.pipe_cli.specs.Steps.{IsWhole, IsPart};
+
+use crate::status::Status;
+use outside::{ReadAnswer, Source};
+use std::alloc::Global;
+
+/// The most bytes that a run reads.
+pub(crate) const INPUT_LIMIT: usize = 67_108_864;
+
+/// How many bytes a read asks for.
+const ROOM: usize = 65_536;
+
+// Reads the input to its end. An error is a read fault, too much input or want of memory.
+pub(crate) fn read_all<I: Source>(alloc: Global, input: &mut I) -> Result<Vec<u8>, Status>
+    ensures { let old = device (I.left input.old) (I.faults input.old) in let new = device (I.left input.new) (I.faults input.new) in
+        MatchResult result (λ bytes. IsWhole old new bytes.items) (λ status. IsPart old new status) }
+{
+    let mut bytes = Vec::new(alloc);
+    let Ok(mut room) = vec![in alloc; 0u8; ROOM] else {
+        return Err(Status::NoMemory);
+    };
+    loop {
+        match input.read(&mut room) {
+            ReadAnswer::End => return Ok(bytes),
+            ReadAnswer::Failed => return Err(Status::ReadFault),
+            ReadAnswer::Bytes(count) => {
+                if count > INPUT_LIMIT - bytes.len() {
+                    return Err(Status::InputTooLarge);
+                }
+                if bytes.extend_from_slice(&room[..count]).is_err() {
+                    return Err(Status::NoMemory);
+                }
+            }
+        }
+    }
+}
