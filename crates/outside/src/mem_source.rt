@@ -1,4 +1,4 @@
-ghost use Rattle.std.specs.Prelude.{◌≡◌, ◌≤◌, ◌<◌, ◌×◌, ℕ, length, [], drop, Some};
+ghost use Rattle.std.specs.Prelude.{◌≡◌, ◌≤◌, ◌<◌, length, Some};
 ghost use Rattle.outside.specs.Source.{Reads, CountsRead};
 ghost use Rattle.outside.specs.InMemory.{read_answer, read_room, after_read};
 
@@ -53,6 +53,7 @@ impl Source for MemSource {
     ghost faults = { λ s. s.faults };
 
     fn read(&mut self, room: &mut [u8]) -> ReadAnswer
+        requires { 0 < length room.old }
         ensures bytes { Reads (Some self.old.left) (Some self.new.left) result room.new }
         ensures count { CountsRead self.old.faults self.new.faults result }
         ensures answer { result ≡ read_answer self.old (length room.old) }
