@@ -1,2 +1,2 @@
-pub mod Puts
-pub mod Reads
+pub mod FilePuts
+pub mod GivenBytes

@@ -1,5 +1,6 @@
-ghost use Rattle.std.specs.Prelude.{◌≡◌, [], Some, OnOk, OnErr, position};
+ghost use Rattle.std.specs.Prelude.{◌≡◌, [], Some, OnOk, OnErr, find, position};
 ghost use Rattle.std.specs.Bool.{OnTrue};
+ghost use Rattle.std.specs.Option.{option_copied};
 ghost use Rattle.outside.specs.Faults.{Rose};
 ghost use Rattle.outside.specs.Shelf.{Fetches, CountsFetch, Replaces, CountsReplace};
 ghost use Rattle.outside.specs.InMemory.{is_named, files_of, put_file, call_fails, fetch_answer, AnswersFetch, replace_answer, AnswersReplace, files_after, after_call};
@@ -76,12 +77,12 @@ impl Shelf for MemShelf {
         if self.count_call() {
             return Fetched::Failed;
         }
-        match self.files.iter().find(|file| file.name.bytes() == name) {
-            None => Fetched::Absent,
-            Some(file) => match Rec::from_slice(alloc, file.bytes.bytes()) {
-                Ok(bytes) => Fetched::Found(bytes),
-                Err(NoMemory) => Fetched::NoMemory,
-            },
+        let Some(file) = file_named(&self.files, name) else {
+            return Fetched::Absent;
+        };
+        match Rec::from_slice(alloc, file.bytes.bytes()) {
+            Ok(bytes) => Fetched::Found(bytes),
+            Err(NoMemory) => Fetched::NoMemory,
         }
     }
 
@@ -95,10 +96,10 @@ impl Shelf for MemShelf {
         if self.count_call() {
             return Replaced::Failed;
         }
-        match put(&mut self.files, alloc, name, bytes) {
-            Ok(()) => Replaced::Stored,
-            Err(NoMemory) => Replaced::NoMemory,
+        if put(&mut self.files, alloc, name, bytes).is_err() {
+            return Replaced::NoMemory;
         }
+        Replaced::Stored
     }
 
     fn faults(&self) -> u64 {
@@ -107,6 +108,7 @@ impl Shelf for MemShelf {
 }
 
 // Puts copies of the name and the bytes in the place of the file of that name, or at the end.
+#[tactic(auto, using(crate::proofs::FilePuts::put_file_at_place))]
 fn put(files: &mut Vec<File>, alloc: Global, name: &[u8], bytes: &[u8]) -> Result<(), NoMemory>
     ensures ok { OnOk result (files.new.items ≡ put_file files.old.items (record { name = name.now; bytes = bytes.now })) }
     ensures err { OnErr result (files.new.items ≡ files.old.items) }
@@ -120,6 +122,13 @@ fn put(files: &mut Vec<File>, alloc: Global, name: &[u8], bytes: &[u8]) -> Resul
         None => files.push(file)?,
     }
     Ok(())
+}
+
+// The first file of this name.
+fn file_named<'a>(files: &'a [File], name: &[u8]) -> Option<&'a File>
+    ensures { option_copied result ≡ find (is_named name.now) files.now }
+{
+    files.iter().find(|file| file.name.bytes() == name)
 }
 
 // Where the first file of this name is.
