@@ -45,7 +45,7 @@ after_read s room = record {
   piece = s.piece;
   fails = s.fails;
   calls = next_number s.calls;
-  faults = if read_fails s then next_number s.faults else s.faults
+  faults = if read_fails s then next_number s.faults else s.faults;
 }
 
 -- a sink: the bytes written, how many it has room for in all, the most that a call takes, the calls that are to fail, and how many were made and failed
@@ -81,7 +81,7 @@ after_write s bytes = record {
   piece = s.piece;
   fails = s.fails;
   calls = next_number s.calls;
-  faults = if write_fails s then next_number s.faults else s.faults
+  faults = if write_fails s then next_number s.faults else s.faults;
 }
 
 -- a shelf: the files, the calls that are to fail, and how many were made and failed
@@ -141,5 +141,5 @@ after_call s files = record {
   files = files;
   fails = s.fails;
   calls = next_number s.calls;
-  faults = if call_fails s then next_number s.faults else s.faults
+  faults = if call_fails s then next_number s.faults else s.faults;
 }

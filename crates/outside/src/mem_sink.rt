@@ -34,7 +34,12 @@ impl Model for MemSink {
 impl MemSink {
     /// A sink that holds no byte and has had no call. The memory for all of `room` is taken here, so that a
     /// write takes none.
-    pub fn new(alloc: Global, room: usize, piece: usize, fails: Vec<u32>) -> Result<MemSink, NoMemory>
+    pub fn new(
+        alloc: Global,
+        room: usize,
+        piece: usize,
+        fails: Vec<u32>,
+    ) -> Result<MemSink, NoMemory>
         requires { 1 ≤ piece }
         ensures { IfOk result (λ sink. sink ≡ record { written = []; room = room; piece = piece; fails = fails.items; calls = 0; faults = 0 }) }
     {

@@ -1,5 +1,7 @@
-ghost use Rattle.std.specs.Prelude.{◌≡◌, ℕ, None};
+ghost use Rattle.std.specs.Prelude.{◌≡◌, ◌↔◌, ℕ, None, IsTrue, IsErrAnd};
 ghost use Rattle.std.specs.Io.{ReadsAtMost, WritesAtMost};
+ghost use Rattle.std.specs.Io.KnownBytes.{ReadConsumes, WriteAppends};
+ghost use Rattle.std.specs.IoError.{error_kind};
 ghost use Rattle.outside.specs.Streams.{read_told, write_told};
 
 use crate::sink::{Sink, WriteAnswer};
@@ -115,9 +117,10 @@ fn write_answer(given: io::Result<usize>) -> WriteAnswer
 
 // One read, made once more where a signal interrupts it.
 fn read_uninterrupted<R: Read>(reader: &mut R, room: &mut [u8]) -> io::Result<usize>
-    ensures { ReadsAtMost result room.new }
+    ensures bound { ReadsAtMost result room.new }
+    ensures bytes { ReadConsumes (R.remaining reader.old) (R.remaining reader.new) result room.new }
 {
-    for _ in 0..TRIES {
+    'tries: for _ in 0..TRIES {
         let given = reader.read(room);
         if !is_interrupted(&given) {
             return given;
@@ -128,9 +131,10 @@ fn read_uninterrupted<R: Read>(reader: &mut R, room: &mut [u8]) -> io::Result<us
 
 // One write, made once more where a signal interrupts it.
 fn write_uninterrupted<W: Write>(writer: &mut W, piece: &[u8]) -> io::Result<usize>
-    ensures { WritesAtMost result piece.now }
+    ensures bound { WritesAtMost result piece.now }
+    ensures bytes { WriteAppends (W.contents writer.old) (W.contents writer.new) result piece.now }
 {
-    for _ in 0..TRIES {
+    'tries: for _ in 0..TRIES {
         let given = writer.write(piece);
         if !is_interrupted(&given) {
             return given;
@@ -140,6 +144,10 @@ fn write_uninterrupted<W: Write>(writer: &mut W, piece: &[u8]) -> io::Result<usi
 }
 
 // Whether a signal came before anything was moved.
-fn is_interrupted(given: &io::Result<usize>) -> bool {
-    given.as_ref().is_err_and(|error| error.kind() == ErrorKind::Interrupted)
+fn is_interrupted(given: &io::Result<usize>) -> bool
+    ensures { IsTrue result ↔ IsErrAnd given.now (λ error. error_kind error ≡ ErrorKind.Interrupted) }
+{
+    given
+        .as_ref()
+        .is_err_and(|error| error.kind() == ErrorKind::Interrupted)
 }

@@ -1,10 +1,11 @@
 ghost use Rattle.std.specs.Prelude.{◌<◌, length};
 
 use crate::{
-    Fetched, Gate, MemShelf, MemSink, MemSource, OpenGate, ReadAnswer, Replaced, Shelf, Sink, Source,
-    StdSink, StdSource, WriteAnswer,
+    Fetched, Gate, MemShelf, MemSink, MemSource, OpenGate, ReadAnswer, Replaced, Shelf, Sink,
+    Source, StdSink, StdSource, WriteAnswer,
 };
 use pipe_model::Rec;
+use std::alloc::Global;
 use std::fs;
 use std::io::{self, ErrorKind, Read, Write};
 use std::test::Fail;
@@ -32,7 +33,12 @@ fn fetch_from<S: Shelf>(shelf: &mut S, alloc: Global, name: &[u8]) -> (Fetched, 
 }
 
 // A replacement through the trait alone, and the count of faults after it.
-fn replace_on<S: Shelf>(shelf: &mut S, alloc: Global, name: &[u8], bytes: &[u8]) -> (Replaced, u64) {
+fn replace_on<S: Shelf>(
+    shelf: &mut S,
+    alloc: Global,
+    name: &[u8],
+    bytes: &[u8],
+) -> (Replaced, u64) {
     let answer = shelf.replace(alloc, name, bytes);
     (answer, shelf.faults())
 }
@@ -80,61 +86,41 @@ fn takes_pieces_until_it_is_full(rt: HostRuntime) -> Result<(), Fail> {
     Ok(())
 }
 
-// What a call of a shelf is, and what is to come of it.
-enum Call {
-    Absent(&'static str),
-    Found(&'static str, &'static str),
-    FailsToFetch(&'static str),
-    Stores(&'static str, &'static str),
-    FailsToReplace(&'static str, &'static str),
+// A fetch's answer in words: the bytes of the file, or the name of what there is in place of them.
+fn fetched_words(answer: &Fetched) -> &[u8] {
+    match answer {
+        Fetched::Found(bytes) => bytes.bytes(),
+        Fetched::Absent => b"(absent)",
+        Fetched::Failed => b"(failed)",
+        Fetched::NoMemory => b"(no memory)",
+    }
 }
 
 #[test]
 fn holds_what_was_put_there(rt: HostRuntime) -> Result<(), Fail> {
-    let mut shelf = MemShelf::new(rt.alloc(), vec![in rt.alloc(); 4, 9]?);
-    for (call, faults) in [
-        (Call::Absent("a"), 0),
-        (Call::Stores("a", "one"), 0),
-        (Call::Found("a", "one"), 0),
-        (Call::FailsToFetch("a"), 1),
-        (Call::Stores("b", ""), 1),
-        (Call::Stores("a", "two"), 1),
-        (Call::Found("a", "two"), 1),
-        (Call::Found("b", ""), 1),
-        (Call::FailsToReplace("b", "three"), 2),
-        (Call::Found("b", ""), 2),
-        (Call::Absent(""), 2),
+    let mut shelf = MemShelf::new(rt.alloc(), vec![in rt.alloc(); 5, 10]?);
+    let (fetched, count) = fetch_from(&mut shelf, rt.alloc(), b"a");
+    assert_eq!(rt; fetched_words(&fetched), b"(absent)".as_slice());
+    assert_eq!(rt; count, 0);
+    for (name, bytes, answer, faults) in [
+        ("a", "one", Replaced::Stored, 0),
+        ("b", "", Replaced::Stored, 0),
+        ("a", "two", Replaced::Stored, 0),
+        ("b", "three", Replaced::Failed, 1),
     ] {
-        let count = match call {
-            Call::Absent(name) => {
-                let (fetched, count) = fetch_from(&mut shelf, rt.alloc(), name.as_bytes());
-                assert!(rt; matches!(&fetched, Fetched::Absent));
-                count
-            }
-            Call::Found(name, bytes) => {
-                let (fetched, count) = fetch_from(&mut shelf, rt.alloc(), name.as_bytes());
-                let Fetched::Found(found) = fetched else {
-                    panic!(rt; "{name} is not found")
-                };
-                assert_eq!(rt; found.bytes(), bytes.as_bytes());
-                count
-            }
-            Call::FailsToFetch(name) => {
-                let (fetched, count) = fetch_from(&mut shelf, rt.alloc(), name.as_bytes());
-                assert!(rt; matches!(&fetched, Fetched::Failed));
-                count
-            }
-            Call::Stores(name, bytes) => {
-                let (replaced, count) = replace_on(&mut shelf, rt.alloc(), name.as_bytes(), bytes.as_bytes());
-                assert_eq!(rt; replaced, Replaced::Stored);
-                count
-            }
-            Call::FailsToReplace(name, bytes) => {
-                let (replaced, count) = replace_on(&mut shelf, rt.alloc(), name.as_bytes(), bytes.as_bytes());
-                assert_eq!(rt; replaced, Replaced::Failed);
-                count
-            }
-        };
+        let replaced = replace_on(&mut shelf, rt.alloc(), name.as_bytes(), bytes.as_bytes());
+        assert_eq!(rt; replaced, (answer, faults));
+    }
+    for (name, answer, faults) in [
+        ("a", "two", 1),
+        ("b", "", 1),
+        ("", "(absent)", 1),
+        ("A", "(absent)", 1),
+        ("a", "(failed)", 2),
+        ("a", "two", 2),
+    ] {
+        let (fetched, count) = fetch_from(&mut shelf, rt.alloc(), name.as_bytes());
+        assert_eq!(rt; fetched_words(&fetched), answer.as_bytes());
         assert_eq!(rt; count, faults);
     }
     Ok(())
@@ -191,7 +177,7 @@ fn reads_a_file_and_tells_a_fault_from_the_end(rt: HostRuntime) -> Result<(), Fa
     let mut room = [b'.'; 4];
     let mut file = StdSource::new(fs::open(&rt, "lines")?);
     assert_eq!(rt; read_from(&mut file, &mut room), (ReadAnswer::Bytes(3), 0));
-    assert_eq!(rt; room.as_slice(), b"ab\n.");
+    assert_eq!(rt; room.as_slice(), b"ab\n.".as_slice());
     assert_eq!(rt; read_from(&mut file, &mut room), (ReadAnswer::End, 0));
 
     let mut device = StdSource::new(Device { calls: 0 });
@@ -205,7 +191,10 @@ fn reads_a_file_and_tells_a_fault_from_the_end(rt: HostRuntime) -> Result<(), Fa
     }
 
     let mut interrupted = StdSource::new(Interrupted);
-    assert_eq!(rt; read_from(&mut interrupted, &mut room), (ReadAnswer::Failed, 1));
+    assert_eq!(rt;
+        read_from(&mut interrupted, &mut room),
+        (ReadAnswer::Failed, 1)
+    );
     Ok(())
 }
 
@@ -214,7 +203,7 @@ fn writes_a_file_and_counts_what_is_not_taken(rt: HostRuntime) -> Result<(), Fai
     let mut file = StdSink::new(fs::create(&rt, "lines")?);
     assert_eq!(rt; write_to(&mut file, b"ab\n"), (WriteAnswer::Took(3), 0));
     let written = fs::read(&rt, "lines")?;
-    assert_eq!(rt; written.as_slice(), b"ab\n");
+    assert_eq!(rt; written.as_slice(), b"ab\n".as_slice());
 
     let mut device = StdSink::new(Device { calls: 0 });
     for answer in [

@@ -7,6 +7,6 @@ use Rattle.outside.proofs.mem_shelf.MemShelfShelf.fetch.Goals.{in-Ok, in-Err}
 pub returns-clause-answer : goal.returns-clause-answer
 returns-clause-answer c =
     elim c.match-from_slice.branch [
-      in-Ok w ↦ grind (arith, common_steps)
-    | in-Err w ↦ rw w.result-is (c.in-Some.file.now.bytes, grind (arith, common_steps))
+      | in-Ok w ↦ grind (arith, common_steps)
+      | in-Err w ↦ rw w.result-is (c.in-Some.file.now.bytes, grind (arith, common_steps))
     ]
