@@ -32,7 +32,12 @@ impl Model for MemShelf {
 
     ghost Value = { ShelfState };
 
-    ghost view = { λ s. record { files = s.files.items; fails = s.fails.items; calls = s.calls; faults = s.faults } };
+    ghost view = { λ s. record {
+      files = s.files.items;
+      fails = s.fails.items;
+      calls = s.calls;
+      faults = s.faults;
+    } };
 }
 
 impl MemShelf {
@@ -69,7 +74,8 @@ impl Shelf for MemShelf {
     ghost faults = { λ s. s.faults };
 
     fn fetch(&mut self, alloc: Global, name: &[u8]) -> Fetched
-        ensures files { Fetches (Some (files_of self.old.files)) (Some (files_of self.new.files)) name.now result }
+        ensures files { Fetches (Some (files_of self.old.files)) (Some (files_of self.new.files))
+            name.now result }
         ensures count { CountsFetch self.old.faults self.new.faults result }
         ensures answer { AnswersFetch (fetch_answer self.old name.now) result }
         ensures after { self.new ≡ after_call self.old self.old.files }
@@ -88,10 +94,12 @@ impl Shelf for MemShelf {
 
     /// After want of memory all files are as they were.
     fn replace(&mut self, alloc: Global, name: &[u8], bytes: &[u8]) -> Replaced
-        ensures files { Replaces (Some (files_of self.old.files)) (Some (files_of self.new.files)) name.now bytes.now result }
+        ensures files { Replaces (Some (files_of self.old.files)) (Some (files_of self.new.files))
+            name.now bytes.now result }
         ensures count { CountsReplace self.old.faults self.new.faults result }
         ensures answer { AnswersReplace (replace_answer self.old) result }
-        ensures after { self.new ≡ after_call self.old (files_after self.old.files (record { name = name.now; bytes = bytes.now }) result) }
+        ensures after { self.new ≡ after_call self.old
+            (files_after self.old.files (record { name = name.now; bytes = bytes.now }) result) }
     {
         if self.count_call() {
             return Replaced::Failed;
@@ -110,7 +118,8 @@ impl Shelf for MemShelf {
 // Puts copies of the name and the bytes in the place of the file of that name, or at the end.
 #[tactic(auto, using(crate::proofs::FilePuts::put_file_at_place))]
 fn put(files: &mut Vec<File>, alloc: Global, name: &[u8], bytes: &[u8]) -> Result<(), NoMemory>
-    ensures ok { OnOk result (files.new.items ≡ put_file files.old.items (record { name = name.now; bytes = bytes.now })) }
+    ensures ok { OnOk result
+        (files.new.items ≡ put_file files.old.items (record { name = name.now; bytes = bytes.now })) }
     ensures err { OnErr result (files.new.items ≡ files.old.items) }
 {
     let file = File {

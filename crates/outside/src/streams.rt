@@ -120,7 +120,7 @@ fn read_uninterrupted<R: Read>(reader: &mut R, room: &mut [u8]) -> io::Result<us
     ensures bound { ReadsAtMost result room.new }
     ensures bytes { ReadConsumes (R.remaining reader.old) (R.remaining reader.new) result room.new }
 {
-    'tries: for _ in 0..TRIES {
+    for _ in 0..TRIES {
         let given = reader.read(room);
         if !is_interrupted(&given) {
             return given;
@@ -134,7 +134,7 @@ fn write_uninterrupted<W: Write>(writer: &mut W, piece: &[u8]) -> io::Result<usi
     ensures bound { WritesAtMost result piece.now }
     ensures bytes { WriteAppends (W.contents writer.old) (W.contents writer.new) result piece.now }
 {
-    'tries: for _ in 0..TRIES {
+    for _ in 0..TRIES {
         let given = writer.write(piece);
         if !is_interrupted(&given) {
             return given;

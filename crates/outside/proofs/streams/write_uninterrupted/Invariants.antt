@@ -2,5 +2,5 @@ use Rattle.std.specs.Io.KnownBytes.{Keeps}
 use Rattle.outside.proofs.streams.write_uninterrupted.Given as goal
 
 -- an interrupted write moves nothing
-abbrev pub invariant-tries : goal.invariant-tries
-invariant-tries g l = Keeps (g.W.Write.contents l.fn.writer) (g.W.Write.contents l.writer)
+abbrev pub invariant-loop : goal.invariant-loop
+invariant-loop g l = Keeps (g.W.Write.contents l.fn.writer) (g.W.Write.contents l.writer)
