@@ -5,3 +5,4 @@ pub mod Sink
 pub mod Shelf
 pub mod Calls
 pub mod InMemory
+pub mod Streams

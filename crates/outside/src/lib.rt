@@ -11,6 +11,8 @@ mod shelf;
 mod sink;
 mod source;
 mod streams;
+#[cfg(test)]
+mod tests;
 
 pub use gate::{Gate, OpenGate};
 pub use mem_shelf::MemShelf;

@@ -1,4 +1,4 @@
-ghost use Rattle.std.specs.Prelude.{◌≡◌, ◌≤◌, ◌<◌, ◌×◌, ℕ, length, [], drop, Some};
+ghost use Rattle.std.specs.Prelude.{◌≡◌, ◌≤◌, ◌<◌, length, Some};
 ghost use Rattle.outside.specs.Source.{Reads, CountsRead};
 ghost use Rattle.outside.specs.InMemory.{read_answer, read_room, after_read};
 
@@ -25,7 +25,13 @@ impl Model for MemSource {
 
     ghost Value = { SourceState };
 
-    ghost view = { λ s. record { left = drop s.at s.bytes; piece = s.piece; fails = s.fails.items; calls = s.calls; faults = s.faults } };
+    ghost view = { λ s. record {
+      left = drop s.at s.bytes;
+      piece = s.piece;
+      fails = s.fails.items;
+      calls = s.calls;
+      faults = s.faults;
+    } };
 
     ghost invariant = { λ s. (s.at ≤ length s.bytes) × (1 ≤ s.piece) };
 }
@@ -34,7 +40,13 @@ impl MemSource {
     /// A source of these bytes, none of them read and no call made.
     pub fn new(bytes: Rec, piece: usize, fails: Vec<u32>) -> MemSource
         requires { 1 ≤ piece }
-        ensures { result ≡ record { left = bytes; piece = piece; fails = fails.items; calls = 0; faults = 0 } }
+        ensures { result ≡ record {
+          left = bytes;
+          piece = piece;
+          fails = fails.items;
+          calls = 0;
+          faults = 0;
+        } }
     {
         MemSource {
             bytes,
@@ -53,6 +65,7 @@ impl Source for MemSource {
     ghost faults = { λ s. s.faults };
 
     fn read(&mut self, room: &mut [u8]) -> ReadAnswer
+        requires { 0 < length room.old }
         ensures bytes { Reads (Some self.old.left) (Some self.new.left) result room.new }
         ensures count { CountsRead self.old.faults self.new.faults result }
         ensures answer { result ≡ read_answer self.old (length room.old) }

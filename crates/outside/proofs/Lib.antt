@@ -1,0 +1,2 @@
+pub mod FilePuts
+pub mod GivenBytes
