@@ -1,5 +1,5 @@
 pub mod Blanks
 pub mod Consoles
-pub mod Cuts
 pub mod Locates
+pub mod Readings
 pub mod Slashes

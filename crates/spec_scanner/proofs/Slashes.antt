@@ -1,7 +1,8 @@
 -- What is known of an operand between slashes.
 use Rattle.std.proofs.Common.{◌≡◌, ℕ, suc, ◌+◌, ◌-◌, ◌<◌, ◌≤◌, true, List, [], ◌∷◌, ◌++◌, take, drop, length, get_or, refl, sym, ap, ◌∙◌, arith, length-append, Option, Some, None, is_some}
+use borrow.Author.Tests.{eqb-true}
 use Rattle.std.specs.List.{Contains}
-use Rattle.std.proofs.lemmas.List.{get_or_at, take_at, take_rest}
+use Rattle.std.proofs.lemmas.List.{get_or_at, get_or_default, take_at, take_rest}
 use Rattle.bstr.specs.Find.{IsFirstByte, is_byte}
 use Rattle.spec_scanner.specs.Straight.{IsDelimited}
 
@@ -26,4 +27,4 @@ module _ (operand string : List ℕ) (delimited : IsDelimited operand string) wh
 -- where a slash is found, one is in the bytes
 pub slash_found : (bytes : List ℕ) (found : Option ℕ) → is_some found ≡ true → IsFirstByte (is_byte 47) bytes found → Contains bytes 47
 slash_found bytes None some first = cc
-slash_found bytes (Some k) some first = (k, first.0.high, ?)
+slash_found bytes (Some k) some first = (k, first.0.high, get_or_default bytes k 47 0 first.0.high ∙ eqb-true (get_or bytes k 0) 47 first.1)

@@ -1,4 +1,5 @@
-use Rattle.std.proofs.Common.{◌≡◌, ◌∷◌, ◌∙◌, ◌-◌, ap, arith, codes, drop, false, length, sym, take, true, get_or}
+use Rattle.std.proofs.Common.{rules, ◌≡◌, ◌∷◌, ◌∙◌, ◌-◌, ap, arith, codes, drop, false, length, refl, sym, take, true, get_or}
+use Rattle.std.proofs.lemmas.Bool.Decides.{nat_tests}
 use Rattle.std.specs.Str.{str_to_ascii_lowercase}
 use Rattle.spec_scanner.specs.Blanks.{trim, without_leading}
 use Rattle.spec_scanner.proofs.Locates.{first_byte, locate_apart, locate_long, locate_named, locate_where}
@@ -21,13 +22,13 @@ returns-in_default c = λ string locate.
     let operand = c.in_ok-name.ensures.cases.2 ∙ ap (drop 6) c.trimmed.ensures ∙ apart.1 in
     let long = ap length operand in
     let first = ap (λ bytes. get_or bytes 0 0) operand in
-    elim c.in_default.branch [ in_default-via-then-operand-lt1 w ↦ omega arith | in_default-via-else-operand-lt1+in_default-1 w ↦ omega arith ]
+    elim c.in_default.branch [ in_default-via-then-operand-lt1 w ↦ search rules | in_default-via-else-operand-lt1+in_default-1 w ↦ search rules ]
 
 pub returns : goal.returns
 returns c =
     let cut = c.in_ok-name.ensures.cases in
     let operand = c.in_ok-name.operand.now in
     let rest = take (length operand - 1) (drop 1 operand) in
-    let named = ap (λ bytes. str_to_ascii_lowercase (take 6 bytes)) (sym c.trimmed.ensures) ∙ ap str_to_ascii_lowercase (sym cut.1) ∙ c.if-not-eq_ignore_ascii_case.ensures.test.0 ? in
+    let named = ap (λ bytes. str_to_ascii_lowercase (take 6 bytes)) (sym c.trimmed.ensures) ∙ ap str_to_ascii_lowercase (sym cut.1) ∙ c.if-not-eq_ignore_ascii_case.ensures.test.0 refl in
     let apart = ap (drop 6) (sym c.trimmed.ensures) ∙ sym cut.2 ∙ first_byte operand 32 (omega arith) (omega arith) in
     locate_where c.args.part.now rest c.between_slashes.result named apart (rw (sym c.without_leading_blanks.ensures) c.between_slashes.ensures)
