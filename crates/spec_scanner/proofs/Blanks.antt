@@ -1,6 +1,6 @@
 -- What is left without the blanks around a part.
-use Rattle.std.proofs.Common.{◌≡◌, ◌≢◌, ℕ, zero, suc, ◌+◌, ◌<◌, Bool, true, false, cond, List, [], ◌∷◌, ◌++◌, map, length, reverse, refl, sym, ap, ◌∙◌, add-one, eq-eqb, ne_eqb, eqb, arith, subst, inl, inr}
-use Rattle.std.proofs.lemmas.List.{reverse-append, reverse-reverse, append_assoc, replicate_more}
+use Rattle.std.proofs.Common.{◌≡◌, ◌≢◌, ℕ, zero, suc, List, [], ◌∷◌, ◌++◌, reverse, refl, sym, ap, ◌∙◌, eq-eqb, ne_eqb, inl, inr}
+use Rattle.std.proofs.lemmas.List.{reverse-append, reverse-reverse}
 use Rattle.std.proofs.lemmas.Bool.{cases_eq}
 use Rattle.spec_scanner.specs.Blanks.{blanks, without_leading, trim}
 
@@ -29,8 +29,8 @@ leading [] = (0, refl)
 leading (byte ∷ bytes) =
     let rest = leading bytes in
     elim (cases_eq byte 32) [
-    | inl is ↦ (suc rest.0, rw (eq-eqb byte 32 is) (ap (λ b. b ∷ bytes) is ∙ ap (λ more. 32 ∷ more) rest.1))
-    | inr other ↦ (0, sym (stays byte bytes other))
+      | inl is ↦ (suc rest.0, rw (eq-eqb byte 32 is) (ap (λ b. b ∷ bytes) is ∙ ap (λ more. 32 ∷ more) rest.1))
+      | inr other ↦ (0, sym (stays byte bytes other))
     ]
 
 -- a part is what is left of it, between blanks
@@ -40,7 +40,7 @@ around part =
     let back = leading (reverse (without_leading part)) in
     let kept = without_leading (reverse (without_leading part)) in
     let turned : without_leading part ≡ trim part ++ blanks back.0 =
-      sym (reverse-reverse (without_leading part)) ∙ ap reverse back.1 ∙ reverse-append (blanks back.0) kept ∙ ap (λ bytes. reverse kept ++ bytes) (reverse-blanks back.0) in
+    sym (reverse-reverse (without_leading part)) ∙ ap reverse back.1 ∙ reverse-append (blanks back.0) kept ∙ ap (λ bytes. reverse kept ++ bytes) (reverse-blanks back.0) in
     (front.0, back.0, front.1 ∙ ap (λ bytes. blanks front.0 ++ bytes) turned)
 
 -- the bytes begin and end with another byte than a blank
@@ -58,16 +58,16 @@ pub record IsBare (bytes : List ℕ) : Type 0 where
 pub trim_between : (before after : ℕ) (bytes : List ℕ) → IsBare bytes → trim (blanks before ++ (bytes ++ blanks after)) ≡ bytes
 trim_between before after bytes bare =
     let opened : without_leading (blanks before ++ (bytes ++ blanks after)) ≡ bytes ++ blanks after =
-      without_blanks before (bytes ++ blanks after)
-      ∙ ap (λ b. without_leading (b ++ blanks after)) bare.begins
-      ∙ stays bare.first (bare.rest ++ blanks after) bare.first_other
-      ∙ ap (λ b. b ++ blanks after) (sym bare.begins) in
+    without_blanks before (bytes ++ blanks after)
+    ∙ ap (λ b. without_leading (b ++ blanks after)) bare.begins
+    ∙ stays bare.first (bare.rest ++ blanks after) bare.first_other
+    ∙ ap (λ b. b ++ blanks after) (sym bare.begins) in
     let turned : reverse (bytes ++ blanks after) ≡ blanks after ++ reverse bytes =
-      reverse-append bytes (blanks after) ∙ ap (λ b. b ++ reverse bytes) (reverse-blanks after) in
+    reverse-append bytes (blanks after) ∙ ap (λ b. b ++ reverse bytes) (reverse-blanks after) in
     let backwards : reverse bytes ≡ bare.last ∷ reverse bare.front = ap reverse bare.ends ∙ reverse-append bare.front (bare.last ∷ []) in
     let closed : without_leading (blanks after ++ reverse bytes) ≡ reverse bytes =
-      without_blanks after (reverse bytes)
-      ∙ ap without_leading backwards
-      ∙ stays bare.last (reverse bare.front) bare.last_other
-      ∙ sym backwards in
+    without_blanks after (reverse bytes)
+    ∙ ap without_leading backwards
+    ∙ stays bare.last (reverse bare.front) bare.last_other
+    ∙ sym backwards in
     ap (λ b. reverse (without_leading (reverse b))) opened ∙ ap (λ b. reverse (without_leading b)) turned ∙ ap reverse closed ∙ reverse-reverse bytes

@@ -1,8 +1,8 @@
 -- A part is a CONSOLE where its name is left without the blanks around it.
-use Rattle.std.proofs.Common.{◌≡◌, ◌≢◌, ℕ, zero, suc, List, [], ◌∷◌, ◌++◌, map, refl, sym, ap, ◌∙◌, arith, codes}
+use Rattle.std.proofs.Common.{◌≡◌, ◌≢◌, ℕ, List, [], ◌∷◌, ◌++◌, refl, sym, ap, ◌∙◌, arith, codes}
 use Rattle.std.specs.Char.{to_ascii_lowercase}
 use Rattle.std.specs.Str.{str_to_ascii_lowercase}
-use Rattle.spec_scanner.specs.Blanks.{blanks, trim}
+use Rattle.spec_scanner.specs.Blanks.{trim}
 use Rattle.spec_scanner.specs.Straight.{IsConsole}
 use Rattle.spec_scanner.proofs.Blanks.{IsBare, around, trim_between}
 

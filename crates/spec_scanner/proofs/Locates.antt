@@ -1,5 +1,5 @@
 -- What is left of a LOCATE without the blanks around it: the name, blanks and the string between slashes.
-use Rattle.std.proofs.Common.{◌≡◌, ◌≢◌, ℕ, zero, suc, ◌+◌, ◌-◌, ◌<◌, ◌≤◌, List, [], ◌∷◌, ◌++◌, map, take, drop, length, get_or, refl, sym, ap, ap₂, ◌∙◌, arith, codes, length-append, Option, Some, None, MatchOption, Bor}
+use Rattle.std.proofs.Common.{◌≡◌, ℕ, zero, suc, ◌-◌, ◌<◌, ◌≤◌, List, [], ◌∷◌, ◌++◌, take, drop, length, get_or, refl, sym, ap, ◌∙◌, arith, codes, length-append, Option, Some, None, MatchOption, Bor}
 use Rattle.std.specs.Char.{to_ascii_lowercase}
 use Rattle.std.specs.Str.{str_to_ascii_lowercase}
 use Rattle.std.proofs.lemmas.List.{append_assoc, append_cancel_right, take_rest, length-map, take-append-drop, take_at, drop_at}
@@ -46,7 +46,7 @@ module _ (part string : List ℕ) (locate : IsLocate part string) where
         front = locate.name ++ (blanks locate.between ++ (47 ∷ string));
         last = 47;
         ends = sym (append_assoc locate.name (blanks locate.between ++ (47 ∷ string)) (47 ∷ [])
-          ∙ ap (λ rest. locate.name ++ rest) (append_assoc (blanks locate.between) (47 ∷ string) (47 ∷ [])));
+            ∙ ap (λ rest. locate.name ++ rest) (append_assoc (blanks locate.between) (47 ∷ string) (47 ∷ [])));
         last_other = λ blank. omega arith;
       }
 
@@ -92,7 +92,7 @@ locate_from part rest string named apart quoted =
     let gap = leading rest in
     let name = take 6 (trim part) in
     let operand : drop 6 (trim part) ≡ blanks (suc gap.0) ++ delimited string =
-      apart ∙ ap (λ bytes. 32 ∷ bytes) (gap.1 ∙ ap (λ bytes. blanks gap.0 ++ bytes) quoted.spells) in
+    apart ∙ ap (λ bytes. 32 ∷ bytes) (gap.1 ∙ ap (λ bytes. blanks gap.0 ++ bytes) quoted.spells) in
     let whole : trim part ≡ name ++ (blanks (suc gap.0) ++ delimited string) = sym (take-append-drop 6 (trim part)) ∙ ap (λ bytes. name ++ bytes) operand in
     record {
       before = spelled.0;
@@ -104,8 +104,8 @@ locate_from part rest string named apart quoted =
       filled = quoted.filled;
       whole = quoted.whole;
       spells = spelled.2
-        ∙ ap (λ bytes. blanks spelled.0 ++ (bytes ++ blanks spelled.1)) whole
-        ∙ ap (λ bytes. blanks spelled.0 ++ bytes) (closed_after name (suc gap.0) spelled.1 string);
+          ∙ ap (λ bytes. blanks spelled.0 ++ (bytes ++ blanks spelled.1)) whole
+          ∙ ap (λ bytes. blanks spelled.0 ++ bytes) (closed_after name (suc gap.0) spelled.1 string);
     }
 
 -- a first byte is known, and the rest stands after it

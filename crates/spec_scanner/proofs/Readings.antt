@@ -1,7 +1,7 @@
 -- What was read of a straight line, and that there is one reading.
-use Rattle.std.proofs.Common.{◌≡◌, ℕ, suc, ◌+◌, ◌<◌, ◌≤◌, List, [], ◌∷◌, ◌++◌, length, refl, sym, ap, ◌∙◌, subst, arith, length-append}
+use Rattle.std.proofs.Common.{◌≡◌, ℕ, suc, ◌<◌, ◌≤◌, List, [], ◌∷◌, ◌++◌, length, refl, sym, ap, ◌∙◌, subst, arith, length-append}
 use Rattle.std.specs.List.{slice_split}
-use Rattle.std.proofs.lemmas.List.{append_assoc, append_cancel_right, append_cancel_left}
+use Rattle.std.proofs.lemmas.List.{append_assoc}
 use Rattle.std.proofs.lemmas.List.Splits.{length-slice_split}
 use Rattle.spec_scanner.specs.Straight.{AreLocates, IsConsole, IsLocate, IsStraight, is_separator}
 use Rattle.spec_scanner.proofs.Locates.{one_string}

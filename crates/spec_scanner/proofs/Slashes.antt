@@ -1,8 +1,8 @@
 -- What is known of an operand between slashes.
-use Rattle.std.proofs.Common.{◌≡◌, ℕ, suc, ◌+◌, ◌-◌, ◌<◌, ◌≤◌, true, List, [], ◌∷◌, ◌++◌, take, drop, length, get_or, refl, sym, ap, ◌∙◌, arith, length-append, Option, Some, None, is_some}
+use Rattle.std.proofs.Common.{◌≡◌, ℕ, suc, ◌+◌, ◌-◌, true, List, [], ◌∷◌, take, drop, length, get_or, refl, ap, ◌∙◌, arith, length-append, Option, Some, None, is_some}
 use borrow.Author.Tests.{eqb-true}
 use Rattle.std.specs.List.{Contains}
-use Rattle.std.proofs.lemmas.List.{get_or_at, get_or_default, take_at, take_rest}
+use Rattle.std.proofs.lemmas.List.{get_or_at, get_or_default, take_at}
 use Rattle.bstr.specs.Find.{IsFirstByte, is_byte}
 use Rattle.spec_scanner.specs.Straight.{IsDelimited}
 

@@ -5,3 +5,6 @@ mod parts;
 mod straight_line;
 
 pub use straight_line::{one_reading, straight};
+
+#[cfg(test)]
+mod tests;

@@ -1,7 +1,5 @@
-use Rattle.std.proofs.Common.{rules, ◌≡◌, ◌∷◌, ◌∙◌, ◌-◌, ap, arith, codes, drop, false, length, refl, sym, take, true, get_or}
-use Rattle.std.proofs.lemmas.Bool.Decides.{nat_tests}
+use Rattle.std.proofs.Common.{rules, ◌≡◌, ◌∙◌, ◌-◌, ap, arith, drop, false, length, refl, sym, take, true, get_or}
 use Rattle.std.specs.Str.{str_to_ascii_lowercase}
-use Rattle.spec_scanner.specs.Blanks.{trim, without_leading}
 use Rattle.spec_scanner.proofs.Locates.{first_byte, locate_apart, locate_long, locate_named, locate_where}
 use Rattle.spec_scanner.proofs.parts.located.Goals as goal
 use Rattle.spec_scanner.proofs.parts.located.Goals.{in_default-via-then-operand-lt1, in_default-via-else-operand-lt1+in_default-1}

@@ -1,5 +1,4 @@
-use Rattle.std.proofs.Common.{◌∙◌, ◌≡◌, ◌++◌, ◌∷◌, [], List, ℕ, Some, None, IfSome, sym, subst, arith, ap, ne_eqb}
-use Rattle.spec_scanner.specs.Straight.{IsStraight}
+use Rattle.std.proofs.Common.{◌∙◌, ◌++◌, ◌∷◌, [], sym, subst, arith, ap}
 use Rattle.spec_scanner.proofs.Readings.{ReadSoFar, read_more, read_all, next_locate, next_room}
 use Rattle.spec_scanner.proofs.straight_line.straight.Goals as goal
 use Rattle.spec_scanner.proofs.straight_line.straight.Goals.{then-is_console, else-is_console}
@@ -26,6 +25,6 @@ loop-part-preserved c =
 
 pub returns-clause-found : goal.returns-clause-found
 returns-clause-found c = elim c.if-is_console.branch [
-    | then-is_console w ↦ rw w.result-is (read_all _ _ _ c.loop-part.invariant c.in_default-split_part.ensures (c.is_console-2.ensures.0 w.if-is_console.true))
-    | else-is_console w ↦ rw w.result-is tt
+  | then-is_console w ↦ rw w.result-is (read_all _ _ _ c.loop-part.invariant c.in_default-split_part.ensures (c.is_console-2.ensures.0 w.if-is_console.true))
+  | else-is_console w ↦ rw w.result-is tt
 ]
