@@ -1,4 +1,4 @@
+pub mod Checks
 pub mod Replies
 pub mod Streams
-pub mod Tests
 pub mod Words

@@ -9,3 +9,6 @@ mod write;
 
 pub use main_call::pipe_main;
 pub use status::Status;
+
+#[cfg(test)]
+mod tests;

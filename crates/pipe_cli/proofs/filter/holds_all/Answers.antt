@@ -1,6 +1,6 @@
 use Rattle.std.proofs.Common.{◌≡◌, ◌∙◌, sym, ap, take, false}
 use Rattle.pipe_model.specs.Search.{holds}
-use Rattle.pipe_cli.proofs.Tests.{list_all-take_more, list_all-false_at}
+use Rattle.pipe_cli.proofs.Checks.{list_all-take_more, list_all-false_at}
 use Rattle.pipe_cli.proofs.filter.holds_all.Goals as goal
 
 pub returns-then-not-contains : goal.returns-then-not-contains
