@@ -28,7 +28,7 @@ pub begins_alike : (bytes : List ℕ) (first : ℕ) (more : List ℕ) → str_to
 begins_alike [] first more is = cc
 begins_alike (b ∷ bytes) first more is = (b, bytes, refl, cc)
 
--- a name of two letters or more has no blank at its ends
+-- the name of a CONSOLE has no blank at its ends
 pub name_is_bare : (name : List ℕ) → str_to_ascii_lowercase name ≡ codes "console" → IsBare name
 name_is_bare name is =
     let front = begins_alike name 99 (codes "onsole") is in
