@@ -1,3 +1,14 @@
 pub mod Code
+pub mod Committed
+pub mod Event
+pub mod Licence
+pub mod Next
+pub mod Play
+pub mod Ranges
 pub mod Records
+pub mod Row
+pub mod Run
 pub mod Search
+pub mod Settled
+pub mod State
+pub mod Table

@@ -2,7 +2,7 @@ use crate::kind::Kind;
 use std::marker::Model;
 
 /// The name of a stage, seen as a list of numbers. The k-th stage of the main specification is `[k]`.
-#[derive(Debug, Drop)]
+#[derive(Drop)]
 pub struct StageName {
     path: Vec<u32>,
 }
@@ -16,7 +16,7 @@ impl Model for StageName {
 }
 
 /// Truth values, seen as a list.
-#[derive(Debug, Drop)]
+#[derive(Drop)]
 pub struct Flags {
     items: Vec<bool>,
 }
@@ -30,7 +30,7 @@ impl Model for Flags {
 }
 
 /// The places of a strand: how many inputs and outputs it has, and which of them are connected.
-#[derive(Debug, Drop)]
+#[derive(Drop)]
 pub struct Ports {
     pub inputs: u16,
     pub outputs: u16,
@@ -39,7 +39,7 @@ pub struct Ports {
 }
 
 /// The sequential part of a stage. Most stages have one.
-#[derive(Debug, Drop)]
+#[derive(Drop)]
 pub struct Strand {
     pub name: StageName,
     pub kind: Kind,
@@ -61,7 +61,7 @@ pub struct Link {
 }
 
 /// Strands by their numbers, seen as a list.
-#[derive(Debug, Drop)]
+#[derive(Drop)]
 pub struct Strands {
     items: Vec<Strand>,
 }
@@ -76,7 +76,7 @@ impl Model for Strands {
 }
 
 /// Links, seen as a list.
-#[derive(Debug, Drop)]
+#[derive(Drop)]
 pub struct Links {
     items: Vec<Link>,
 }
@@ -91,7 +91,7 @@ impl Model for Links {
 }
 
 /// What a specification's pipelines are made of: strands, and the links between them.
-#[derive(Debug, Drop)]
+#[derive(Drop)]
 pub struct Net {
     pub strands: Strands,
     pub links: Links,
