@@ -14,5 +14,6 @@ pub mod Run
 pub mod Search
 pub mod Settled
 pub mod State
+pub mod Straight
 pub mod Table
 pub mod WellFormed
