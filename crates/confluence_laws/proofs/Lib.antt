@@ -1,4 +1,4 @@
 pub mod Facts
 pub mod Fitting
-pub mod Kinds
 pub mod Rows
+pub mod Sound
