@@ -1,9 +1,10 @@
-ghost use Rattle.std.specs.Prelude.{MatchResult};
+ghost use Rattle.std.specs.Prelude.{◌≡◌, IfOk, MatchResult, vec_len};
 ghost use Rattle.pipe_cli.specs.Devices.{device};
 ghost use Rattle.pipe_cli.specs.Steps.{IsWhole, IsPart};
 
 use crate::status::Status;
 use outside::{ReadAnswer, Source};
+use pipe_model::NoMemory;
 use std::alloc::Global;
 
 /// The most bytes that a run reads.
@@ -18,7 +19,7 @@ pub(crate) fn read_all<I: Source>(alloc: Global, input: &mut I) -> Result<Vec<u8
         MatchResult result (λ bytes. IsWhole old new bytes.items) (λ status. IsPart old new status) }
 {
     let mut bytes = Vec::new(alloc);
-    let Ok(mut room) = vec![in alloc; 0u8; ROOM] else {
+    let Ok(mut room) = zeroed(alloc, ROOM) else {
         return Err(Status::NoMemory);
     };
     loop {
@@ -35,4 +36,11 @@ pub(crate) fn read_all<I: Source>(alloc: Global, input: &mut I) -> Result<Vec<u8
             }
         }
     }
+}
+
+// This many bytes, all 0.
+fn zeroed(alloc: Global, len: usize) -> Result<Vec<u8>, NoMemory>
+    ensures { IfOk result (λ bytes. vec_len bytes ≡ len) }
+{
+    Ok(vec![in alloc; 0u8; len]?)
 }

@@ -1,15 +1,12 @@
 -- The straight line: `console | locate /string/ | .. | console`.
-use Rattle.std.specs.Prelude.{◌≡◌, ℕ, ◌<◌, ◌≤◌, ◌==◌, Bool, List, [], ◌∷◌, ◌++◌, length, Contains, codes, replicate, ⊤}
+use Rattle.std.specs.Prelude.{◌≡◌, ℕ, ◌<◌, ◌≤◌, ◌==◌, Bool, List, [], ◌∷◌, ◌++◌, length, Contains, codes, ⊤}
 use Rattle.std.specs.Str.{str_to_ascii_lowercase}
 use Rattle.std.specs.List.{slice_split}
+use Rattle.spec_scanner.specs.Blanks.{blanks}
 
 -- `|`, which stands between two stages
 abbrev pub is_separator : ℕ → Bool
 is_separator b = b == 124
-
--- n blanks
-abbrev pub blanks : ℕ → List ℕ
-blanks n = replicate n 32
 
 -- the part is `console`, in any case, between any number of blanks
 pub record IsConsole (part : List ℕ) : Type 0 where
@@ -18,6 +15,12 @@ pub record IsConsole (part : List ℕ) : Type 0 where
   pub after : ℕ
   pub names : str_to_ascii_lowercase name ≡ codes "console"
   pub spells : part ≡ blanks before ++ (name ++ blanks after)
+
+-- the operand is the string between two slashes; the string isn't empty and has no slash
+pub record IsDelimited (operand string : List ℕ) : Type 0 where
+  pub filled : 0 < length string
+  pub whole : ¬ Contains string 47
+  pub spells : operand ≡ 47 ∷ string ++ (47 ∷ [])
 
 -- the part is `locate`, in any case, one or more blanks and the string between two slashes, between any number of blanks;
 -- the string isn't empty and has no slash

@@ -2,6 +2,9 @@
 #![tactic(auto)]
 
 mod parts;
-mod straight;
+mod straight_line;
 
-pub use straight::{one_reading, straight};
+pub use straight_line::{one_reading, straight};
+
+#[cfg(test)]
+mod tests;

@@ -36,11 +36,14 @@ pub fn straight(alloc: Global, text: &[u8]) -> Result<Option<Recs>, NoMemory>
         strings.push(Rec::from_slice(alloc, string)?)?;
         rest = after;
     }
-    Ok(if is_console(rest) { Some(strings) } else { None })
+    Ok(if is_console(rest) {
+        Some(strings)
+    } else {
+        None
+    })
 }
 
 /// A text is a straight line in one way at most.
 pub fn one_reading()
     ensures { (text : List ℕ) (a b : List (List ℕ)) → IsStraight text a → IsStraight text b → a ≡ b }
-{
-}
+{}

@@ -1,0 +1,4 @@
+pub mod Replies
+pub mod Streams
+pub mod Tests
+pub mod Words

@@ -1,0 +1,5 @@
+pub mod Blanks
+pub mod Consoles
+pub mod Locates
+pub mod Readings
+pub mod Slashes
