@@ -53,7 +53,7 @@ impl MemShelf {
         }
     }
 
-    // Counts a call, and whether it fails.
+    // Counts a call, and a fault where the call is to fail. Answers whether it is.
     fn count_call(&mut self) -> bool
         ensures fails { result ≡ call_fails self.old }
         ensures after { self.new ≡ after_call self.old self.old.files }

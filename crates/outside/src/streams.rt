@@ -54,7 +54,8 @@ impl<R: Read> Source for StdSource<R> {
 }
 
 /// A sink over a writer, seen as its count of faults: what the writer holds is told by no clause.
-/// A write that takes no byte is a fault, as an error is.
+/// A write that takes no byte is a fault, as an error is. Nothing flushes the writer, so it should keep no
+/// bytes back.
 #[derive(Debug, Drop)]
 pub struct StdSink<W> {
     writer: W,

@@ -1,4 +1,4 @@
-ghost use Rattle.std.specs.Prelude.{◌<◌, length};
+ghost use Rattle.std.specs.Prelude.{◌<◌, ◌≤◌, length, IfOk};
 
 use crate::{
     Fetched, Gate, MemShelf, MemSink, MemSource, OpenGate, ReadAnswer, Replaced, Shelf, Sink,
@@ -134,10 +134,12 @@ struct Device {
 }
 
 impl Device {
-    fn next_call(&mut self, length: usize) -> io::Result<usize> {
+    fn next_call(&mut self, at_most: usize) -> io::Result<usize>
+        ensures { IfOk result (λ count. count ≤ at_most) }
+    {
         self.calls = self.calls.wrapping_add(1);
         match self.calls {
-            1 | 4 => Ok(length.min(2)),
+            1 | 4 => Ok(at_most.min(2)),
             2 => Err(io::Error::from(ErrorKind::Interrupted)),
             3 => Err(io::Error::from(ErrorKind::Other)),
             _ => Ok(0),

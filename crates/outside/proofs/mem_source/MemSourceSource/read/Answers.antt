@@ -1,5 +1,5 @@
 -- The piece that was given and what is left are what was left.
-use Rattle.std.proofs.Common.{arith, length-append}
+use Rattle.std.proofs.Common.{arith}
 use Rattle.std.proofs.lemmas.Grind.{common_steps}
 use Rattle.outside.proofs.GivenBytes.{given_and_left}
 use Rattle.outside.proofs.mem_source.MemSourceSource.read.Goals as goal
