@@ -7,7 +7,7 @@ mod memory;
 mod record;
 
 pub use code::worst;
-pub use lines::{Lines, lines_of, text_of};
+pub use lines::{Lines, lines_and_text, lines_of, text_of};
 pub use memory::NoMemory;
 pub use record::{Rec, Recs};
 
