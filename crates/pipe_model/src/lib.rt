@@ -6,7 +6,7 @@ mod lines;
 mod memory;
 mod record;
 
-pub use code::worst;
+pub use code::{worst, worst_of_many};
 pub use lines::{Lines, lines_and_text, lines_of, text_of};
 pub use memory::NoMemory;
 pub use record::{Rec, Recs};
