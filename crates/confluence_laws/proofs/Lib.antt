@@ -1,4 +1,5 @@
 pub mod Facts
 pub mod Fitting
+pub mod Pending
 pub mod Rows
 pub mod Sound
