@@ -1,5 +1,10 @@
+pub mod Basics
+pub mod Confluence
 pub mod Facts
 pub mod Fitting
+pub mod Later
+pub mod Orders
 pub mod Pending
 pub mod Rows
+pub mod Sights
 pub mod Sound
