@@ -8,3 +8,4 @@ pub mod Pending
 pub mod Rows
 pub mod Sights
 pub mod Sound
+pub mod Within
