@@ -2,6 +2,7 @@ pub mod Basics
 pub mod Confluence
 pub mod Facts
 pub mod Fitting
+pub mod Follow
 pub mod Later
 pub mod Orders
 pub mod Pending
