@@ -9,4 +9,5 @@ pub mod Pending
 pub mod Rows
 pub mod Sights
 pub mod Sound
+pub mod Ways
 pub mod Within
