@@ -1,4 +1,9 @@
+pub mod Basics
+pub mod Confluence
 pub mod Facts
 pub mod Fitting
+pub mod Later
+pub mod Orders
 pub mod Rows
+pub mod Sights
 pub mod Sound
