@@ -5,5 +5,6 @@ pub mod Fitting
 pub mod Later
 pub mod Orders
 pub mod Rows
+pub mod Rules
 pub mod Sights
 pub mod Sound
