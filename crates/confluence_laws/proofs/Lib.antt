@@ -8,5 +8,6 @@ pub mod Orders
 pub mod Owed
 pub mod Prefixes
 pub mod Rows
+pub mod Rules
 pub mod Sights
 pub mod Sound
