@@ -3,7 +3,10 @@ pub mod Confluence
 pub mod Facts
 pub mod Fitting
 pub mod Later
+pub mod LeftOut
 pub mod Orders
+pub mod Owed
+pub mod Prefixes
 pub mod Rows
 pub mod Rules
 pub mod Sights
