@@ -1,3 +1,5 @@
+pub mod Basics
+pub mod Confluence
 pub mod Facts
 pub mod Fitting
 pub mod Rows
