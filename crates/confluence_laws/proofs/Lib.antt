@@ -1,5 +1,6 @@
 pub mod Basics
 pub mod Confluence
+pub mod Ends
 pub mod Facts
 pub mod Fitting
 pub mod Later
@@ -11,3 +12,4 @@ pub mod Rows
 pub mod Rules
 pub mod Sights
 pub mod Sound
+pub mod Sums
