@@ -19,13 +19,8 @@ use Rattle.pipe_model.specs.Table.Meeting.{Ordered, Braided}
 use Rattle.pipe_model.specs.Next.{has, without, learned, nothing_known}
 use Rattle.pipe_model.specs.State.{nothing_yet, strand_at}
 use Rattle.pipe_model.specs.WellFormed.{IsWellFormed, places_of}
+use Rattle.confluence_laws.proofs.Basics.{same_number, test_same}
 use Rattle.confluence_laws.proofs.Facts.{Fits, IsLook, IsSound, IsThin, IsFiniteRow, IsFiniteLook, IsSoundLine, ReadsOne, ReadsInTurn, LooksAtAny, NoWrites, ThinActs, NoRepeats, has_take, Allows, asking, reach_of, taken, sees}
-
-same_number : (a b : ℕ) → (a == b) ≡ true → a ≡ b
-same_number a b p = grind (arith, nat_tests)
-
-test_same : (a : ℕ) → (a == a) ≡ true
-test_same a = grind (arith, nat_tests)
 
 -- Acts
 
