@@ -3,6 +3,7 @@ pub mod Confluence
 pub mod Ends
 pub mod Facts
 pub mod Fitting
+pub mod Passes
 pub mod Rows
 pub mod Sound
 pub mod Sums
