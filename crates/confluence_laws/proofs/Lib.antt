@@ -3,7 +3,17 @@ pub mod Confluence
 pub mod Ends
 pub mod Facts
 pub mod Fitting
+pub mod Formed
+pub mod Later
+pub mod LeftOut
+pub mod Orders
+pub mod Owed
 pub mod Passes
+pub mod Pending
+pub mod Prefixes
 pub mod Rows
+pub mod Rules
+pub mod Sights
 pub mod Sound
 pub mod Sums
+pub mod Within

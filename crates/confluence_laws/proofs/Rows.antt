@@ -19,47 +19,47 @@ use Rattle.pipe_model.specs.Plain.{is_plain, is_ordered}
 use Rattle.pipe_model.specs.Reply.{reply, Reply}
 
 -- a strand whose stage has one strand
-abbrev strand : ℕ → Kind → List Bool → List Bool → Strand
+abbrev pub strand : ℕ → Kind → List Bool → List Bool → Strand
 strand n kind ins outs = record { name = n ∷ []; kind = kind; part = 0; unit = 0; ports = record { inputs = length ins; outputs = length outs; has_input = ins; has_output = outs } }
 
-abbrev link : ℕ → ℕ → ℕ → ℕ → Link
+abbrev pub link : ℕ → ℕ → ℕ → ℕ → Link
 link from output to input = record { from = from; output = output; to = to; input = input; queue = false }
 
-abbrev queue : ℕ → ℕ → Link
+abbrev pub queue : ℕ → ℕ → Link
 queue from to = record { from = from; output = 0; to = to; input = 0; queue = true }
 
-abbrev all_columns : Range
+abbrev pub all_columns : Range
 all_columns = record { span = Columns; first = 1; last = None }
 
-abbrev locate : List ℕ → Kind
+abbrev pub locate : List ℕ → Kind
 locate text = Locate all_columns (Some text)
 
-abbrev lf : List ℕ
+abbrev pub lf : List ℕ
 lf = 10 ∷ []
 
 -- the least stream below n on which the strand may go on
-abbrev on_stream : Net → State → ℕ → ℕ → Option ℕ
+abbrev pub on_stream : Net → State → ℕ → ℕ → Option ℕ
 on_stream net st s zero = None
 on_stream net st s (suc n) = elim (on_stream net st s n) [ Some k ↦ Some k | None ↦ elim (licence net st none_left s n) [ Some e ↦ Some n | None ↦ None ] ]
 
-abbrev entry : ℕ → ℕ → Entry
+abbrev pub entry : ℕ → ℕ → Entry
 entry s k = record { strand = s; stream = k }
 
 -- the least strand below s that may go on, on its least stream
-abbrev turn : Net → State → ℕ → Option Entry
+abbrev pub turn : Net → State → ℕ → Option Entry
 turn net st zero = None
 turn net st (suc s) = elim (turn net st s) [ Some e ↦ Some e | None ↦ elim (on_stream net st s 3) [ Some k ↦ Some (entry s k) | None ↦ None ] ]
 
 -- the dispatch that always takes the least strand that may go on, of at most n entries
-abbrev least_first : ℕ → Net → State → List Entry
+abbrev pub least_first : ℕ → Net → State → List Entry
 least_first zero net st = []
 least_first (suc n) net st = elim (turn net st (length net.strands)) [ None ↦ [] | Some e ↦ e ∷ least_first n net (step net st e) ]
 
-abbrev one_by_one : ℕ → Net → List Entry
+abbrev pub one_by_one : ℕ → Net → List Entry
 one_by_one n net = least_first n net nothing_yet
 
 -- console | locate /b/ | console
-abbrev filtering : Net
+abbrev pub filtering : Net
 filtering = record {
   strands = strand 0 (ConsoleIn (codes "ab" ++ lf ++ codes "cd" ++ lf ++ codes "b")) [] (true ∷ []) ∷ strand 1 (locate (codes "b")) (true ∷ []) (true ∷ []) ∷ strand 2 ConsoleOut (true ∷ []) (false ∷ []) ∷ [];
   links = link 0 0 1 0 ∷ link 1 0 2 0 ∷ [];
@@ -72,7 +72,7 @@ filtering_reply : reply filtering (play filtering (one_by_one 40 filtering)) ≡
 filtering_reply = refl
 
 -- (endchar ?) console | a: locate /x/ | locate /x/ | b: faninany | console ? a: | b:
-abbrev joining : Net
+abbrev pub joining : Net
 joining = record {
   strands = strand 0 (ConsoleIn (codes "x1" ++ lf ++ codes "2" ++ lf ++ codes "x3" ++ lf)) [] (true ∷ []) ∷ strand 1 (locate (codes "x")) (true ∷ []) (true ∷ true ∷ []) ∷ strand 2 (locate (codes "x")) (true ∷ []) (true ∷ []) ∷ strand 3 FanInAny (true ∷ true ∷ []) (true ∷ []) ∷ strand 4 ConsoleOut (true ∷ []) (false ∷ []) ∷ [];
   links = link 0 0 1 0 ∷ link 1 0 2 0 ∷ link 2 0 3 0 ∷ link 3 0 4 0 ∷ link 1 1 3 1 ∷ [];
@@ -88,7 +88,7 @@ joining_settled : is_settled joining ≡ true
 joining_settled = refl
 
 -- the same with a COPY in place of the second LOCATE isn't settled
-abbrev delayed : Net
+abbrev pub delayed : Net
 delayed = record {
   strands = strand 0 (ConsoleIn []) [] (true ∷ []) ∷ strand 1 (locate (codes "x")) (true ∷ []) (true ∷ true ∷ []) ∷ strand 2 Copy (true ∷ []) (true ∷ []) ∷ strand 3 FanInAny (true ∷ true ∷ []) (true ∷ []) ∷ strand 4 ConsoleOut (true ∷ []) (false ∷ []) ∷ [];
   links = link 0 0 1 0 ∷ link 1 0 2 0 ∷ link 2 0 3 0 ∷ link 3 0 4 0 ∷ link 1 1 3 1 ∷ [];
@@ -98,13 +98,13 @@ delayed_loose : is_settled delayed ≡ false
 delayed_loose = refl
 
 -- (endchar ?) console | a: fanout | b: fanin | console ? a: | b:
-abbrev fanning : List ℕ → Net
+abbrev pub fanning : List ℕ → Net
 fanning input = record {
   strands = strand 0 (ConsoleIn input) [] (true ∷ []) ∷ strand 1 FanOut (true ∷ []) (true ∷ true ∷ []) ∷ strand 2 FanIn (true ∷ true ∷ []) (true ∷ []) ∷ strand 3 ConsoleOut (true ∷ []) (false ∷ []) ∷ [];
   links = link 0 0 1 0 ∷ link 1 0 2 0 ∷ link 2 0 3 0 ∷ link 1 1 2 1 ∷ [];
 }
 
-abbrev stalling : Net
+abbrev pub stalling : Net
 stalling = fanning (codes "x" ++ lf)
 
 stalling_steps : length (one_by_one 60 stalling) ≡ 15
@@ -121,7 +121,7 @@ stalling_plain : is_plain stalling ≡ true
 stalling_plain = refl
 
 -- (endchar ?) console | a: fanout | b: fanin | console ? a: | elastic | b:
-abbrev buffered : Net
+abbrev pub buffered : Net
 buffered = record {
   strands = strand 0 (ConsoleIn (codes "x" ++ lf ++ codes "y" ++ lf)) [] (true ∷ []) ∷ strand 1 FanOut (true ∷ []) (true ∷ true ∷ []) ∷ strand 2 FanIn (true ∷ true ∷ []) (true ∷ []) ∷ strand 3 ConsoleOut (true ∷ []) (false ∷ []) ∷ strand 4 Elastic (true ∷ []) (true ∷ []) ∷ record (strand 4 Elastic (true ∷ []) (true ∷ [])) { part = 1 } ∷ [];
   links = link 0 0 1 0 ∷ link 1 0 2 0 ∷ link 2 0 3 0 ∷ link 1 1 4 0 ∷ queue 4 5 ∷ link 5 0 2 1 ∷ [];
