@@ -102,7 +102,7 @@ fewer p (x ∷ xs) = go (p x) (fewer p xs)
     go true le = omega (arith, le)
     go false le = omega (arith, le)
 
-at_place : {A : Type 0} {x : A} (xs : List A) (n : ℕ) → slice_get xs n ≡ Some x → n < length xs
+pub at_place : {A : Type 0} {x : A} (xs : List A) (n : ℕ) → slice_get xs n ≡ Some x → n < length xs
 at_place [] n e = cc
 at_place (x ∷ xs) zero e = omega arith
 at_place (x ∷ xs) (suc n) e = let r = at_place xs n e in omega arith
