@@ -8,6 +8,7 @@ pub mod Later
 pub mod LeftOut
 pub mod Orders
 pub mod Owed
+pub mod Owns
 pub mod Passes
 pub mod Pending
 pub mod Prefixes
