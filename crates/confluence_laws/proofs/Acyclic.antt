@@ -10,10 +10,14 @@ use Rattle.pipe_model.specs.Table.{Meeting, form}
 use Rattle.pipe_model.specs.Table.Meeting.{Ordered, Braided, Loose}
 use Rattle.pipe_model.specs.State.{Who, below, nothing_yet, strand_at}
 use Rattle.pipe_model.specs.Licence.{first_part}
-use Rattle.pipe_model.specs.Settled.{is_settled}
+use Rattle.pipe_model.specs.Settled.{IsSettled, is_settled}
 use Rattle.pipe_model.specs.Plain.{waits_for_first, IsAcyclic, IsPlain, IsOrdered, height, rises, is_acyclic, is_plain, is_ordered, is_ordered_meeting}
 use Rattle.confluence_laws.proofs.Basics.{both, all_at, equal_or_not}
 use Rattle.confluence_laws.proofs.Ends.{at_place}
+
+-- owed by B
+settled_if : (net : Net) → is_settled net ≡ true → IsSettled net
+settled_if net test = ?
 
 -- what passes for all below n passes for each
 in_below : (p : ℕ → Bool) (n u : ℕ) → list_all p (below n) ≡ true → u < n → p u ≡ true
@@ -45,3 +49,23 @@ acyclic_if net test =
     by_strand s (Some p) here waits all =
         less (height net (length net.strands) (first_part net nothing_yet s)) (height net (length net.strands) s)
         (ap (λ b. not b || rises net (first_part net nothing_yet s) s) (sym waits) ∙ all (at_place net.strands s here))
+
+-- the test says that the net is plain
+pub plain_if : (net : Net) → is_plain net ≡ true → IsPlain net
+plain_if net test =
+    let a = both (is_settled net) (is_acyclic net && list_all (λ p. (form p).finite) net.strands) test in
+    let b = both (is_acyclic net) (list_all (λ p. (form p).finite) net.strands) a.1 in
+    record {
+      settled = settled_if net a.0;
+      acyclic = acyclic_if net b.0;
+      finite = λ s p here. all_at (λ p. (form p).finite) net.strands s b.1 here;
+    }
+
+-- the test says that no strand takes what comes first
+pub ordered_if : (net : Net) → is_ordered net ≡ true → IsOrdered net
+ordered_if net test = λ s p here. meeting (form p).meeting (all_at (λ p. is_ordered_meeting (form p).meeting) net.strands s test here)
+  where
+    meeting : (m : Meeting) → is_ordered_meeting m ≡ true → m ≡ Ordered
+    meeting Ordered e = refl
+    meeting Braided e = cc
+    meeting Loose e = cc
