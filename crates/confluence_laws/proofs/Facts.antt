@@ -11,6 +11,7 @@ use Rattle.pipe_model.specs.Row.Act.{Writes, Repeats, Takes}
 use Rattle.pipe_model.specs.Row.Goal.{Asks, Ends}
 use Rattle.pipe_model.specs.Table.{Line, Meeting, form, line_of}
 use Rattle.pipe_model.specs.Table.Meeting.{Ordered, Braided, Loose}
+use Rattle.pipe_model.specs.Table.Parting.{Queued}
 use Rattle.pipe_model.specs.Next.{has, without, learned, nothing_known}
 
 -- a record is in sight on the input
@@ -107,6 +108,8 @@ pub record IsSoundLine (A : Known → Want → Type 0) (line : Line) (reach : �
   pub sound : IsSound A line.row reach
   pub allows : (k : Known) (want : Want) → A k want → Allows line.meeting want
   pub thin : line.thin ≡ true → IsThin A line.row
+  -- a queue joins no strands that are thin or take what comes first
+  pub queued : line.parting ≡ Queued → (line.thin ≡ false) × (line.meeting ≡ Ordered)
   pub finite : line.finite ≡ true → IsFiniteRow A line.row
 
 -- The kinds

@@ -12,13 +12,11 @@ use Rattle.pipe_model.specs.Row.{Pair, Act, Goal, Plan, Known, Row}
 use Rattle.pipe_model.specs.Row.Act.{Writes, Repeats, Takes}
 use Rattle.pipe_model.specs.Row.Goal.{Asks, Ends}
 use Rattle.pipe_model.specs.Table.{form}
-use Rattle.pipe_model.specs.Next.{Phase, Past, past_by, after, want_in, wanted_by, next, learned, without, has, nothing_known, first_phase, is_live, is_open, is_refused, IsOwn}
+use Rattle.pipe_model.specs.Next.{Phase, Past, begins_plan, doing, past_by, after, want_in, wanted_by, next, learned, without, has, nothing_known, first_phase, is_live, is_open, is_refused, IsOwn}
 use Rattle.pipe_model.specs.Next.Phase.{Starting, Doing, Lost}
+use Rattle.confluence_laws.proofs.Basics.{both, same_number}
 use Rattle.confluence_laws.proofs.Facts.{Fits, IsLook, IsSound, asking, reach_of, sees, taken}
 use Rattle.confluence_laws.proofs.Sound.{sound_line}
-
-same_number : (a b : ℕ) → (a == b) ≡ true → a ≡ b
-same_number a b p = grind (arith, nat_tests)
 
 -- a strand's own past
 abbrev pub past_of : Strand → List Event → Past
@@ -210,3 +208,121 @@ own_knows s (e ∷ h) own =
 -- what a strand sees is what is in sight in its history
 pub sees_is : (s : Strand) (h : List Event) → IsOwn s h → (i : ℕ) → sees i (past_of s h).known.sight ≡ in_sight i h
 sees_is s h own i = (own_knows s h own).sight i
+
+-- What a strand wants
+
+-- it writes what can be written
+pub record IsWriter (s : Strand) (h : List Event) (o : ℕ) (rec : List ℕ) : Type 0 where
+  pub acts : List Act
+  pub goal : Goal
+  pub stands : ((past_of s h).phase ≡ Doing (Writes o rec ∷ acts) goal) ⊎ ((past_of s h).phase ≡ Doing (Repeats o rec ∷ acts) goal)
+  pub live : is_open s.ports.has_output (past_of s h).refused o ≡ true
+
+-- all that is to be done can be done
+abbrev pub PhaseLives : List Bool → List ℕ → Phase → Type 0
+PhaseLives outputs refused (Starting level) = Unit {0}
+PhaseLives outputs refused (Doing acts goal) = list_all (is_live outputs refused) acts ≡ true
+PhaseLives outputs refused Lost = Unit {0}
+
+-- what passed the test passes it
+all_filter : (p : Act → Bool) (acts : List Act) → list_all p (filter p acts) ≡ true
+all_filter p [] = refl
+all_filter p (a ∷ acts) = (elim (p a) as (λ b. p a ≡ b → list_all p (cond b (a ∷ filter p acts) (filter p acts)) ≡ true) [
+  | true ↦ λ is. ap (λ b. b && list_all p (filter p acts)) is ∙ all_filter p acts
+  | false ↦ λ is. all_filter p acts
+]) refl
+
+module _ (A : Known → Want → Type 0) (w : Row) (outputs : List Bool) where
+  lives_step : (p : Past) (f : Phase) (e : Event) → p.phase ≡ f → PhaseFits A p.known f → answers (want_in f) e ≡ true → PhaseLives outputs p.refused f → PhaseLives outputs (after w outputs p f e).refused (after w outputs p f e).phase
+  lives_step p (Starting (negsuc zero)) (Up level code) at fits it lives = elim (int_eq code (pos 0)) as (λ b. PhaseLives outputs p.refused (cond b (Starting (pos 0)) (Doing [] (Ends (pos 0))))) [ true ↦ tt | false ↦ refl ]
+  lives_step p (Starting (negsuc (suc n))) (Up level code) at fits it lives = elim fits.1 [ inl is ↦ cc | inr is ↦ cc ]
+  lives_step p (Starting (pos n)) (Up level code) at fits it lives = by_code (int_eq code (pos 0))
+    where
+      by_code : (b : Bool) → PhaseLives outputs p.refused (cond b (begins_plan outputs p.refused (w.plan p.known)) (Doing [] (Ends (pos 0))))
+      by_code true = all_filter (is_live outputs p.refused) (w.plan p.known).acts
+      by_code false = refl
+  lives_step p (Starting _) _ at fits it lives = tt
+  lives_step p (Doing [] (Asks want)) e at fits it lives =
+      let now = learned p.known e in
+      subst (λ b. PhaseLives outputs (cond b (record { known = now; refused = p.refused; phase = begins_plan outputs p.refused (w.plan now) }) (record p { phase = Lost })).refused (cond b (record { known = now; refused = p.refused; phase = begins_plan outputs p.refused (w.plan now) }) (record p { phase = Lost })).phase) (sym it)
+      (all_filter (is_live outputs p.refused) (w.plan now).acts)
+  lives_step p (Doing [] (Ends code)) e at fits it lives = tt
+  lives_step p (Doing (Writes o rec ∷ acts) goal) (Put o' rec') at fits it lives = (both (is_open outputs p.refused o) (list_all (is_live outputs p.refused) acts) lives).1
+  lives_step p (Doing (Writes o rec ∷ acts) goal) (Refused o') at fits it lives = by_end (w.yields && is_refused outputs (o' ∷ p.refused))
+    where
+      by_end : (b : Bool) → PhaseLives outputs (o' ∷ p.refused) (cond b (Doing [] (Ends (pos 0))) (doing outputs (o' ∷ p.refused) acts goal))
+      by_end true = refl
+      by_end false = all_filter (is_live outputs (o' ∷ p.refused)) acts
+  lives_step p (Doing (Writes o rec ∷ acts) goal) _ at fits it lives = tt
+  lives_step p (Doing (Repeats o rec ∷ acts) goal) (Put o' rec') at fits it lives = subst (PhaseLives outputs p.refused) (sym at) lives
+  lives_step p (Doing (Repeats o rec ∷ acts) goal) (Refused o') at fits it lives = by_end (w.yields && is_refused outputs (o' ∷ p.refused))
+    where
+      by_end : (b : Bool) → PhaseLives outputs (o' ∷ p.refused) (cond b (Doing [] (Ends (pos 0))) (doing outputs (o' ∷ p.refused) acts goal))
+      by_end true = refl
+      by_end false = all_filter (is_live outputs (o' ∷ p.refused)) acts
+  lives_step p (Doing (Repeats o rec ∷ acts) goal) _ at fits it lives = tt
+  lives_step p (Doing (Takes i ∷ acts) goal) (Took j) at fits it lives = lives
+  lives_step p (Doing (Takes i ∷ acts) goal) _ at fits it lives = tt
+  lives_step p Lost e at fits it lives = tt
+
+pub own_lives : (s : Strand) (h : List Event) → IsOwn s h → PhaseLives s.ports.has_output (past_of s h).refused (past_of s h).phase
+own_lives s [] own = elim (form s).row.early as (λ m. PhaseLives s.ports.has_output [] (first_phase m)) [ None ↦ tt | Some code ↦ refl ]
+own_lives s (e ∷ h) own =
+    let p = past_of s h in
+    lives_step (asking s s.kind) (form s).row s.ports.has_output p p.phase e refl (own_fits s h own.1) (still_wants s h e own.0) (own_lives s h own.1)
+
+-- a strand that asks is told the answer: it asks for nothing that it does by itself
+pub record IsAsker (s : Strand) (h : List Event) (want : Want) : Type 0 where
+  pub stands : (past_of s h).phase ≡ Doing [] (Asks want)
+  pub asked : asking s s.kind (past_of s h).known want
+  pub look : IsLook (reach_of s s.kind) (past_of s h).known want
+
+-- where a strand stands, by what it wants
+abbrev pub StandsFor : Strand → List Event → Want → Type 0
+StandsFor s h (Commit level) = ((past_of s h).phase ≡ Starting level) × ((past_of s h).known ≡ nothing_known) × ((level ≡ negsuc 0) ⊎ (level ≡ pos 0))
+StandsFor s h (Take i) = (acts : List Act) × (goal : Goal) × ((past_of s h).phase ≡ Doing (Takes i ∷ acts) goal) × (sees i (past_of s h).known.sight ≡ true) × Fits (asking s s.kind) (taken i (past_of s h).known) acts goal
+StandsFor s h (Write o rec) = IsWriter s h o rec
+StandsFor s h (Done code) = (past_of s h).phase ≡ Doing [] (Ends code)
+StandsFor s h want = IsAsker s h want
+
+pub stands_for : (s : Strand) (h : List Event) → IsOwn s h → (want : Want) → next s h ≡ Some want → StandsFor s h want
+stands_for s h own want next_is = by_phase (past_of s h).phase refl (own_fits s h own) (own_lives s h own) (wants_now s h want next_is).0
+  where
+    A : Known → Want → Type 0
+    A = asking s s.kind
+
+    asks_for : (asked want : Want) → (past_of s h).phase ≡ Doing [] (Asks asked) → A (past_of s h).known asked → asked ≡ want → IsLook (reach_of s s.kind) (past_of s h).known want → StandsFor s h want
+    asks_for asked (Commit level) at a is look = absurd look
+    asks_for asked (Take i) at a is look = absurd look
+    asks_for asked (Write o rec) at a is look = absurd look
+    asks_for asked (Done code) at a is look = absurd look
+    asks_for asked _ at a is look = record { stands = at ∙ ap (λ z. Doing [] (Asks z)) is; asked = subst (asking s s.kind (past_of s h).known) is a; look = look }
+
+    by_phase : (f : Phase) → (past_of s h).phase ≡ f → PhaseFits (asking s s.kind) (past_of s h).known f → PhaseLives s.ports.has_output (past_of s h).refused f → want_in f ≡ Some want → StandsFor s h want
+    by_phase (Starting level) at fits lives p = (let is : Commit level ≡ want = cc in subst (StandsFor s h) is (at, fits.0, fits.1))
+    by_phase (Doing [] (Asks asked)) at fits lives p = (let is : asked ≡ want = cc in asks_for asked want at fits is (subst (IsLook (reach_of s s.kind) (past_of s h).known) is ((sound_line s).sound.looks (past_of s h).known asked fits)))
+    by_phase (Doing [] (Ends code)) at fits lives p = (let is : Done code ≡ want = cc in subst (StandsFor s h) is at)
+    by_phase (Doing (Writes o rec ∷ acts) goal) at fits lives p =
+        (let is : Write o rec ≡ want = cc in subst (StandsFor s h) is (record { acts = acts; goal = goal; stands = inl at; live = (both (is_open s.ports.has_output (past_of s h).refused o) (list_all (is_live s.ports.has_output (past_of s h).refused) acts) lives).0 }))
+    by_phase (Doing (Repeats o rec ∷ acts) goal) at fits lives p =
+        (let is : Write o rec ≡ want = cc in subst (StandsFor s h) is (record { acts = acts; goal = goal; stands = inr at; live = (both (is_open s.ports.has_output (past_of s h).refused o) (list_all (is_live s.ports.has_output (past_of s h).refused) acts) lives).0 }))
+    by_phase (Doing (Takes i ∷ acts) goal) at fits lives p = (let is : Take i ≡ want = cc in subst (StandsFor s h) is (acts, goal, at, fits.0, fits.1))
+    by_phase Lost at fits lives p = cc
+
+-- whoever takes a record has it in sight
+pub wants_take : (s : Strand) (h : List Event) → IsOwn s h → (i : ℕ) → next s h ≡ Some (Take i) → in_sight i h ≡ true
+wants_take s h own i want = sym (sees_is s h own i) ∙ (stands_for s h own (Take i) want).3
+
+-- whoever reads an input sees no record there, and hasn't seen its end
+pub wants_read : (s : Strand) (h : List Event) → IsOwn s h → (i : ℕ) → next s h ≡ Some (Read i) → (i < reach_of s s.kind) × (in_sight i h ≡ false) × (has_seen_end i h ≡ false)
+wants_read s h own i want =
+    let look = (stands_for s h own (Read i) want).look in
+    (look.0, sym (sees_is s h own i) ∙ look.1, sym ((own_knows s h own).ends i) ∙ look.2)
+
+-- whoever looks at any input sees no record
+pub wants_any : (s : Strand) (h : List Event) → IsOwn s h → next s h ≡ Some Any → (i : ℕ) → in_sight i h ≡ false
+wants_any s h own want i = sym (sees_is s h own i) ∙ ap (sees i) (stands_for s h own Any want).look
+
+-- whoever writes has the output connected, and it hasn't refused
+pub wants_write : (s : Strand) (h : List Event) → IsOwn s h → (o : ℕ) (rec : List ℕ) → next s h ≡ Some (Write o rec) → IsWriter s h o rec
+wants_write s h own o rec want = stands_for s h own (Write o rec) want

@@ -16,16 +16,12 @@ use Rattle.pipe_model.specs.Records.{lines}
 use Rattle.pipe_model.specs.Ranges.{locates}
 use Rattle.pipe_model.specs.Table.{Line, Meeting, form, line_of, fanin_plan, from_input, on_each}
 use Rattle.pipe_model.specs.Table.Meeting.{Ordered, Braided}
+use Rattle.pipe_model.specs.Table.Parting.{Queued}
 use Rattle.pipe_model.specs.Next.{has, without, learned, nothing_known}
 use Rattle.pipe_model.specs.State.{nothing_yet, strand_at}
 use Rattle.pipe_model.specs.WellFormed.{IsWellFormed, places_of}
+use Rattle.confluence_laws.proofs.Basics.{same_number, test_same}
 use Rattle.confluence_laws.proofs.Facts.{Fits, IsLook, IsSound, IsThin, IsFiniteRow, IsFiniteLook, IsSoundLine, ReadsOne, ReadsInTurn, LooksAtAny, NoWrites, ThinActs, NoRepeats, has_take, Allows, asking, reach_of, taken, sees}
-
-same_number : (a b : ℕ) → (a == b) ≡ true → a ≡ b
-same_number a b p = grind (arith, nat_tests)
-
-test_same : (a : ℕ) → (a == a) ≡ true
-test_same a = grind (arith, nat_tests)
 
 -- Acts
 
@@ -243,11 +239,12 @@ sound_line s = by_kind s.kind
     reads : (k : Known) (want : Want) → ReadsOne k want → Allows Ordered want
     reads k want a = subst (Allows Ordered) (sym a.want_is) tt
 
-    through_line : (t : Stream) → t.before ≡ [] → ((seen : List Pair) → t.last seen ≡ []) → (l : Line) (yields : Bool) → l.row ≡ through_row t (Read 0) yields → l.meeting ≡ Ordered → IsSoundLine ReadsOne l 1
-    through_line t none_before none_last l yields row_is meeting = record {
+    through_line : (t : Stream) → t.before ≡ [] → ((seen : List Pair) → t.last seen ≡ []) → (l : Line) (yields : Bool) → l.row ≡ through_row t (Read 0) yields → l.meeting ≡ Ordered → (l.parting ≡ Queued → l.thin ≡ false) → IsSoundLine ReadsOne l 1
+    through_line t none_before none_last l yields row_is meeting thick = record {
       sound = subst (λ w. IsSound ReadsOne w 1) (sym row_is) (through_sound ReadsOne (Read 0) 1 one_looking t yields);
       allows = λ k want a. subst (λ m. Allows m want) (sym meeting) (reads k want a);
       thin = λ e. subst (IsThin ReadsOne) (sym row_is) (through_thin ReadsOne (Read 0) 1 one_looking t none_before none_last refl yields);
+      queued = λ e. (thick e, meeting);
       finite = λ e. subst (IsFiniteRow ReadsOne) (sym row_is) (through_finite ReadsOne (Read 0) 1 one_looking t tt yields);
     }
 
@@ -256,30 +253,47 @@ sound_line s = by_kind s.kind
       sound = subst (λ w. IsSound ReadsOne w 1) (sym row_is) (hold_sound ReadsOne 1 one_looking t);
       allows = λ k want a. subst (λ m. Allows m want) (sym meeting) (reads k want a);
       thin = λ e. (let z : true ≡ false = sym e ∙ thick in cc);
+      queued = λ e. (thick, meeting);
       finite = λ e. subst (IsFiniteRow ReadsOne) (sym row_is) (hold_finite ReadsOne 1 one_looking t);
     }
 
     by_kind : (kind : Kind) → IsSoundLine (asking s kind) (line_of s kind) (reach_of s kind)
     by_kind (ConsoleIn bytes) =
         let pairs : List Pair = map (λ rec. (0, rec)) (lines bytes) in
-        record { sound = source_sound pairs 0; allows = λ k want a. absurd a; thin = λ e. cc; finite = λ e. source_finite pairs }
-    by_kind ConsoleOut = through_line (each_record copied) refl (λ seen. refl) (line_of s ConsoleOut) false refl refl
-    by_kind (Locate range text) = through_line (each_record (selects (locates range text))) refl (λ seen. refl) (line_of s (Locate range text)) true refl refl
-    by_kind FanOut = through_line (each_record (λ seen. on_each 0 s.ports.has_output (at_hand_of seen))) refl (λ seen. refl) (line_of s FanOut) true refl refl
+        record { sound = source_sound pairs 0; allows = λ k want a. absurd a; thin = λ e. cc; queued = λ e. (refl, refl); finite = λ e. source_finite pairs }
+    by_kind ConsoleOut = through_line (each_record copied) refl (λ seen. refl) (line_of s ConsoleOut) false refl refl (λ e. cc)
+    by_kind (Locate range text) = through_line (each_record (selects (locates range text))) refl (λ seen. refl) (line_of s (Locate range text)) true refl refl (λ e. cc)
+    by_kind FanOut = through_line (each_record (λ seen. on_each 0 s.ports.has_output (at_hand_of seen))) refl (λ seen. refl) (line_of s FanOut) true refl refl (λ e. cc)
     by_kind FanIn = record {
       sound = turn_sound (length s.ports.has_input);
       allows = λ k want a. subst (Allows Ordered) (sym a.want_is) tt;
       thin = λ e. cc;
+      queued = λ e. (refl, refl);
       finite = λ e. turn_finite (length s.ports.has_input);
     }
     by_kind FanInAny = record {
       sound = through_sound LooksAtAny Any (length s.ports.has_input) (any_looking (length s.ports.has_input)) (each_record copied) true;
       allows = λ k want a. subst (Allows Braided) (sym a.want_is) tt;
       thin = λ e. cc;
+      queued = λ e. cc;
       finite = λ e. through_finite LooksAtAny Any (length s.ports.has_input) (any_looking (length s.ports.has_input)) (each_record copied) tt true;
     }
     by_kind Elastic = hold_line (each_record copied) (line_of s Elastic) refl refl refl
     by_kind Copy = hold_line (each_record copied) (line_of s Copy) refl refl refl
+
+-- strands of one kind are parted alike
+pub one_parting : (s t : Strand) → s.kind ≡ t.kind → (form s).parting ≡ (form t).parting
+one_parting s t one = by_kind s.kind ∙ ap (λ kind. (line_of t kind).parting) one
+  where
+    by_kind : (kind : Kind) → (line_of s kind).parting ≡ (line_of t kind).parting
+    by_kind (ConsoleIn bytes) = refl
+    by_kind ConsoleOut = refl
+    by_kind (Locate range text) = refl
+    by_kind FanOut = refl
+    by_kind FanIn = refl
+    by_kind FanInAny = refl
+    by_kind Elastic = refl
+    by_kind Copy = refl
 
 -- a strand reads no more inputs than twice its input places
 pub reach_near : (net : Net) → IsWellFormed net → (s : ℕ) (p : Strand) → strand_at net nothing_yet s ≡ Some p → reach_of p p.kind ≤ 2 * p.ports.inputs
