@@ -1,3 +1,4 @@
+pub mod Acyclic
 pub mod Basics
 pub mod Confluence
 pub mod Ends
