@@ -1,5 +1,5 @@
 -- What the laws need of a row, and of a line of the stage table.
-use Rattle.std.proofs.Common.{◌≡◌, ◌≢◌, ℕ, suc, ◌<◌, ◌≤◌, ◌*◌, Bool, true, false, ◌==◌, List, [], ◌∷◌, length, Some}
+use Rattle.std.proofs.Common.{◌≡◌, ◌≢◌, ℕ, suc, ◌<◌, ◌≤◌, ◌*◌, Bool, true, false, ◌==◌, List, [], ◌∷◌, length, Some, refl}
 use Rattle.std.specs.List.{list_any}
 use Rattle.pipe_model.specs.declared.net.Strand.{Strand}
 use Rattle.pipe_model.specs.declared.kind.Kind.{Kind}
@@ -9,8 +9,9 @@ use Rattle.pipe_model.specs.Event.Want.{Commit, Read, Any, Gate, Take, Write, Pr
 use Rattle.pipe_model.specs.Row.{Pair, Act, Goal, Plan, Known, Row}
 use Rattle.pipe_model.specs.Row.Act.{Writes, Repeats, Takes}
 use Rattle.pipe_model.specs.Row.Goal.{Asks, Ends}
-use Rattle.pipe_model.specs.Table.{Line, Meeting, form}
+use Rattle.pipe_model.specs.Table.{Line, Meeting, form, line_of}
 use Rattle.pipe_model.specs.Table.Meeting.{Ordered, Braided, Loose}
+use Rattle.pipe_model.specs.Table.Parting.{Queued}
 use Rattle.pipe_model.specs.Next.{has, without, learned, nothing_known}
 
 -- a record is in sight on the input
@@ -107,6 +108,8 @@ pub record IsSoundLine (A : Known → Want → Type 0) (line : Line) (reach : �
   pub sound : IsSound A line.row reach
   pub allows : (k : Known) (want : Want) → A k want → Allows line.meeting want
   pub thin : line.thin ≡ true → IsThin A line.row
+  -- a queue joins no strands that are thin or take what comes first
+  pub queued : line.parting ≡ Queued → (line.thin ≡ false) × (line.meeting ≡ Ordered)
   pub finite : line.finite ≡ true → IsFiniteRow A line.row
 
 -- The kinds
@@ -151,3 +154,8 @@ reach_of s FanIn = length s.ports.has_input
 reach_of s FanInAny = length s.ports.has_input
 reach_of s Elastic = 1
 reach_of s Copy = 1
+
+-- strands of one kind are parted alike
+pub same_parting : (p q : Strand) (k : Kind) → (line_of q k).parting ≡ (line_of p k).parting
+same_parting p q (ConsoleIn bytes) = refl
+same_parting p q _ = refl

@@ -1,3 +1,5 @@
+ghost use Rattle.std.specs.Prelude.{◌≡◌};
+
 use crate::kind::Kind;
 use std::marker::Model;
 
@@ -15,6 +17,15 @@ impl Model for StageName {
     ghost view = { λ name. name.path.items };
 }
 
+impl StageName {
+    /// The name of these numbers, which takes no memory.
+    pub fn from_vec(path: Vec<u32>) -> StageName
+        ensures { result ≡ path.items }
+    {
+        StageName { path }
+    }
+}
+
 /// Truth values, seen as a list.
 #[derive(Drop)]
 pub struct Flags {
@@ -27,6 +38,15 @@ impl Model for Flags {
     ghost Value = { List Bool };
 
     ghost view = { λ flags. flags.items.items };
+}
+
+impl Flags {
+    /// These truth values, which takes no memory.
+    pub fn from_vec(items: Vec<bool>) -> Flags
+        ensures { result ≡ items.items }
+    {
+        Flags { items }
+    }
 }
 
 /// The places of a strand: how many inputs and outputs it has, and which of them are connected.
@@ -75,6 +95,15 @@ impl Model for Strands {
     ghost view = { λ strands. strands.items.items };
 }
 
+impl Strands {
+    /// These strands, which takes no memory.
+    pub fn from_vec(items: Vec<Strand>) -> Strands
+        ensures { result ≡ items.items }
+    {
+        Strands { items }
+    }
+}
+
 /// Links, seen as a list.
 #[derive(Drop)]
 pub struct Links {
@@ -88,6 +117,15 @@ impl Model for Links {
     ghost Value = { List Link };
 
     ghost view = { λ links. links.items.items };
+}
+
+impl Links {
+    /// These links, which takes no memory.
+    pub fn from_vec(items: Vec<Link>) -> Links
+        ensures { result ≡ items.items }
+    {
+        Links { items }
+    }
 }
 
 /// What a specification's pipelines are made of: strands, and the links between them.
