@@ -16,6 +16,7 @@ pub mod Pending
 pub mod Prefixes
 pub mod Rows
 pub mod Rules
+pub mod Second
 pub mod Sights
 pub mod Sound
 pub mod Sums
