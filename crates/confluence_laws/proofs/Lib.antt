@@ -1,4 +1,5 @@
 pub mod Basics
+pub mod Braids
 pub mod Confluence
 pub mod Ends
 pub mod Facts
