@@ -1,5 +1,5 @@
 -- In a settled net a strand has one licensed entry at most.
-use Rattle.std.proofs.Common.{◌≡◌, ◌≢◌, ◌⊎◌, inl, inr, ℕ, suc, ◌+◌, ◌-◌, Bool, true, false, cond, ◌&&◌, ◌||◌, not, ◌==◌, List, [], ◌∷◌, refl, sym, ◌∙◌, ap, subst, arith, Option, Some, None, slice_get, ℤ}
+use Rattle.std.proofs.Common.{◌≡◌, ◌≢◌, ◌⊎◌, inl, inr, ℕ, suc, ◌<◌, ◌+◌, ◌-◌, Bool, true, false, cond, ◌&&◌, ◌||◌, not, ◌==◌, List, [], ◌∷◌, refl, sym, ◌∙◌, ap, subst, arith, Option, Some, None, slice_get, ℤ}
 use Rattle.pipe_model.specs.declared.net.Net.{Net}
 use Rattle.pipe_model.specs.declared.net.Link.{Link}
 use Rattle.pipe_model.specs.declared.net.Strand.{Strand}
@@ -152,3 +152,198 @@ module _ (net : Net) (formed : IsWellFormed net) where
   -- a legal dispatch leads to a reached state
   pub play_reached : (es : List Entry) → IsLegal net es → IsReached net (play net es)
   play_reached es legal = reached_from nothing_yet es (at_first net) legal
+
+-- Ways of writes
+
+-- from d one write leads on to the next, and at last to the input i of s
+pub data Leads (net : Net) (st : State) (s : Who) (i : ℕ) : Who → Type 0 where
+  leads_in : {d : Who} (o : ℕ) (rec : List ℕ) (l : Link) → want_at net st none_left d ≡ Some (Write o rec) → link_out net st d o ≡ Some l → l.to ≡ s → l.input ≡ i → Leads net st s i d
+  leads_on : {d : Who} (o : ℕ) (rec : List ℕ) (l : Link) (p : Strand) → want_at net st none_left d ≡ Some (Write o rec) → link_out net st d o ≡ Some l → strand_at net st l.to ≡ Some p → is_thin p ≡ true → Leads net st s i l.to → Leads net st s i d
+
+-- a strand writes on one link
+same_link : (net : Net) (st : State) (d : Who) (o o' : ℕ) (rec rec' : List ℕ) (l l' : Link) → want_at net st none_left d ≡ Some (Write o rec) → want_at net st none_left d ≡ Some (Write o' rec') → link_out net st d o ≡ Some l → link_out net st d o' ≡ Some l' → l ≡ l'
+same_link net st d o o' rec rec' l l' w w' e e' =
+    let same_o : o ≡ o' = cc in
+    let q : Some l ≡ Some l' = sym e ∙ ap (link_out net st d) same_o ∙ e' in
+    cc
+
+-- from d they lead to one input only of a strand that isn't thin
+leads_one_way : (net : Net) (st : State) (s : Who) (i j : ℕ) (d : Who) → ((p : Strand) → strand_at net st s ≡ Some p → is_thin p ≡ false) → Leads net st s i d → Leads net st s j d → i ≡ j
+leads_one_way net st s i j d thick (leads_in o rec l w e to in') (leads_in o' rec' l' w' e' to' in'') = sym in' ∙ ap (λ z. z.input) (same_link net st d o o' rec rec' l l' w w' e e') ∙ in''
+leads_one_way net st s i j d thick (leads_in o rec l w e to in') (leads_on o' rec' l' p w' e' is thin rest) =
+    let q : strand_at net st s ≡ Some p = ap (strand_at net st) (sym to ∙ ap (λ z. z.to) (same_link net st d o o' rec rec' l l' w w' e e')) ∙ is in
+    (let a : true ≡ false = sym thin ∙ thick p q in cc)
+leads_one_way net st s i j d thick (leads_on o' rec' l' p w' e' is thin rest) (leads_in o rec l w e to in') =
+    let q : strand_at net st s ≡ Some p = ap (strand_at net st) (sym to ∙ ap (λ z. z.to) (same_link net st d o o' rec rec' l l' w w' e e')) ∙ is in
+    (let a : true ≡ false = sym thin ∙ thick p q in cc)
+leads_one_way net st s i j d thick (leads_on o rec l p w e is thin rest) (leads_on o' rec' l' p' w' e' is' thin' rest') =
+    leads_one_way net st s i j l.to thick rest (subst (Leads net st s j) (ap (λ z. z.to) (same_link net st d o' o rec' rec l' l w' w e' e)) rest')
+
+-- a way to a thin strand goes on by its write
+goes_further : (net : Net) (st : State) (q : Who) (j : ℕ) (s : Who) (i : ℕ) (d : Who) (o : ℕ) (rec : List ℕ) (l : Link) (p : Strand) →
+    strand_at net st q ≡ Some p → is_thin p ≡ true → want_at net st none_left q ≡ Some (Write o rec) → link_out net st q o ≡ Some l → l.to ≡ s → l.input ≡ i →
+    Leads net st q j d → Leads net st s i d
+goes_further net st q j s i d o rec l p is thin w e to in' (leads_in o' rec' l' w' e' to' in'') =
+    leads_on o' rec' l' p w' e' (ap (strand_at net st) to' ∙ is) thin (subst (Leads net st s i) (sym to') (leads_in o rec l w e to in'))
+goes_further net st q j s i d o rec l p is thin w e to in' (leads_on o' rec' l' p' w' e' is' thin' rest) =
+    leads_on o' rec' l' p' w' e' is' thin' (goes_further net st q j s i l'.to o rec l p is thin w e to in' rest)
+
+-- what is offered is written
+pub writes_there : (net : Net) (st : State) (l : Link) → IsWriting net st l → (rec : List ℕ) × (want_at net st none_left l.from ≡ Some (Write l.output rec))
+writes_there net st l w = by_want (want_at net st none_left l.from) refl w.shown_there.1
+  where
+    by_want : (x : Option Want) → want_at net st none_left l.from ≡ x → offered l.output x ≡ Some w.shown_there.0 → (rec : List ℕ) × (want_at net st none_left l.from ≡ Some (Write l.output rec))
+    by_want (Some (Write o rec)) e p = (rec, e ∙ ap (λ z. Some (Write z rec)) (same_number o l.output (cond_some (o == l.output) (Some rec) p).0))
+    by_want _ e p = cc
+
+-- whoever consumes from a queue is the second strand of a stage that has one
+pub queue_to : (net : Net) → IsWellFormed net → (j : ℕ) (l : Link) (p : Strand) → slice_get net.links j ≡ Some l → l.queue ≡ true → strand_at net nothing_yet l.to ≡ Some p → (form p).parting ≡ Queued
+queue_to net formed j l p at queue is =
+    let q = (formed.queues j l at).0 queue in
+    let stage = formed.staged l.from q.producer q.from_strand in
+    let second = stage.1.others 1 (subst (λ z. 1 < strands_of z stage.0) (sym q.queued) (omega arith)) in
+    let place : l.from - q.producer.part + 1 ≡ l.to = (let first = q.first in let next_is = q.second in omega arith) in
+    let it : Some second.0 ≡ Some p = sym second.1 ∙ ap (strand_at net nothing_yet) place ∙ is in
+    let one : second.0 ≡ p = cc in
+    one_parting p q.producer (ap (λ z. z.kind) (sym one) ∙ second.4) ∙ q.queued
+
+module _ (net : Net) (formed : IsWellFormed net) (st : State) (reached : IsReached net st) where
+  -- no queue leads to a strand that isn't one of two
+  plain_link : (s : Who) (i : ℕ) (l : Link) (p : Strand) → link_in net st s i ≡ Some l → strand_at net st s ≡ Some p → (form p).parting ≢ Queued → l.queue ≡ false
+  plain_link s i l p e is other = (elim l.queue as (λ b. l.queue ≡ b → b ≡ false) [
+    | true ↦ λ queue.
+        let r = found_at (λ k. same k.to s && k.input == i) net.links e in
+        absurd (other (queue_to net formed r.1.0 l p r.1.1 queue (ap (strand_at net st) (from_in net formed st s i l e).0 ∙ is)))
+    | false ↦ λ queue. refl
+  ]) refl
+
+  -- the writers stand in a row, back to d
+  chain : (d s : Who) (i : ℕ) → OnWalk net d s i → ((l : Link) → link_in net st s i ≡ Some l → IsWriting net st l) → Leads net st s i d
+  chain d s i (comes_from m is from) w =
+      let a = from_in net formed st s i m is in
+      let x = writes_there net st m (w m is) in
+      subst (Leads net st s i) from (leads_in m.output x.0 m x.1 a.2 a.0 a.1)
+  chain d s i (passes m p is at thin rest) w =
+      let a = from_in net formed st s i m is in
+      let x = writes_there net st m (w m is) in
+      let want : next p (past st m.from) ≡ Some (Write m.output x.0) = ap (λ z. want_after z (past st m.from)) (sym at) ∙ x.1 in
+      let thin_is = both (form p).thin (p.ports.inputs == 1) thin in
+      let sight = thin_writes p thin_is.0 (past st m.from) (reached.own m.from p at) m.output x.0 want in
+      let going = not_ended (strand_at net st m.from) (past st m.from) (Write m.output x.0) x.1 in
+      let upper : (l : Link) → link_in net st m.from 0 ≡ Some l → IsWriting net st l =
+      λ l e. reached.waits m.from 0 l e (plain_link m.from 0 l p e at (λ queued. let z : true ≡ false = sym thin_is.0 ∙ ((sound_line p).queued queued).0 in cc)) going sight in
+      goes_further net st m.from 0 s i d m.output x.0 m p at thin x.1 a.2 a.0 a.1 (chain d m.from 0 rest upper)
+
+  -- Of a strand that looks at any input
+
+  module _ (s : Who) (p : Strand) (is : strand_at net st s ≡ Some p) (braided : (form p).meeting ≡ Braided) (asks_any : next p (past st s) ≡ Some Any) where
+    no_queue : (form p).parting ≢ Queued
+    no_queue queued = let z : Braided ≡ Ordered = sym braided ∙ ((sound_line p).queued queued).1 in cc
+
+    -- a record is at hand on one input only
+    one_hand : IsBraided net s → (i j : ℕ) (x y : List ℕ) → at_hand net st none_left (link_in net st s i) ≡ Some x → at_hand net st none_left (link_in net st s j) ≡ Some y → i ≡ j
+    one_hand braid i j x y at_i at_j = leads_one_way net st s i j braid.0 thick (way i x at_i) (way j y at_j)
+      where
+        never_thin : (form p).thin ≡ false
+        never_thin = (elim (form p).thin as (λ b. (form p).thin ≡ b → b ≡ false) [
+          | true ↦ λ thin. absurd (thin_never_any p thin (past st s) (reached.own s p is) asks_any)
+          | false ↦ λ thin. refl
+        ]) refl
+
+        thick : (q : Strand) → strand_at net st s ≡ Some q → is_thin q ≡ false
+        thick q e =
+            let same_one : Some p ≡ Some q = sym is ∙ e in
+            let one : p ≡ q = cc in
+            subst (λ z. is_thin z ≡ false) one (ap (λ b. b && (p.ports.inputs == 1)) never_thin)
+
+        way : (k : ℕ) (z : List ℕ) → at_hand net st none_left (link_in net st s k) ≡ Some z → Leads net st s k braid.0
+        way k z at = by_link (link_in net st s k) refl at
+          where
+            by_link : (lk : Option Link) → link_in net st s k ≡ lk → at_hand net st none_left lk ≡ Some z → Leads net st s k braid.0
+            by_link None e got = cc
+            by_link (Some l) e got = chain braid.0 s k (braid.1 k l e) (λ m e'. let same_one : Some l ≡ Some m = sym e ∙ e' in let one : l ≡ m = cc in subst (IsWriting net st) one (seen_there net st l z (plain_link s k l p e is no_queue) got))
+
+    -- where a record is at hand nothing is over
+    hand_not_over : (i : ℕ) (x : List ℕ) (lk : Option Link) → link_in net st s i ≡ lk → at_hand net st none_left lk ≡ Some x → is_over st lk ≡ true → ⊥
+    hand_not_over i x None e got over = cc
+    hand_not_over i x (Some l) e got over =
+        let w = writes_there net st l (seen_there net st l x (plain_link s i l p e is no_queue) got) in
+        let going = not_ended (strand_at net st l.from) (past st l.from) (Write l.output w.0) w.1 in
+        let o = both (has_ended (past st l.from)) (is_level st l) over in
+        (let z : true ≡ false = sym o.0 ∙ going in cc)
+
+    hand_or_over : (k : ℕ) (e : Event) (a : Option (List ℕ)) (over : Bool) → any_answer k a (k == 0 && over) ≡ Some e →
+        ((x : List ℕ) × (a ≡ Some x)) ⊎ ((k ≡ 0) × (over ≡ true))
+    hand_or_over k e (Some x) over got = inl (x, refl)
+    hand_or_over k e None over got = let c = cond_some (k == 0 && over) (Some SawAllEnd) got in let b = both (k == 0) over c.0 in inr (same_number k 0 b.0, b.1)
+
+    -- so it looks at one
+    one_look : IsBraided net s → (k j : ℕ) (e f : Event) → answer (sight_of net st none_left s) k (Some Any) ≡ Some e → answer (sight_of net st none_left s) j (Some Any) ≡ Some f → k ≡ j
+    one_look braid k j e f may_k may_j = by_hand
+        (hand_or_over k e (at_hand net st none_left (link_in net st s k)) (all_over net st s) may_k)
+        (hand_or_over j f (at_hand net st none_left (link_in net st s j)) (all_over net st s) may_j)
+      where
+        by_hand : ((x : List ℕ) × (at_hand net st none_left (link_in net st s k) ≡ Some x)) ⊎ ((k ≡ 0) × (all_over net st s ≡ true)) →
+            ((x : List ℕ) × (at_hand net st none_left (link_in net st s j) ≡ Some x)) ⊎ ((j ≡ 0) × (all_over net st s ≡ true)) → k ≡ j
+        by_hand (inl x) (inl y) = one_hand braid k j x.0 y.0 x.1 y.1
+        by_hand (inl x) (inr y) = absurd (hand_not_over k x.0 (link_in net st s k) refl x.1 (over_there net st s k (link_in net st s k) refl y.1))
+        by_hand (inr x) (inl y) = absurd (hand_not_over j y.0 (link_in net st s j) refl y.1 (over_there net st s j (link_in net st s j) refl x.1))
+        by_hand (inr x) (inr y) = x.0 ∙ sym y.0
+
+  -- Of any strand of a settled net
+
+  module _ (settled : IsSettled net) (s : Who) where
+    -- whoever looks at any input is braided
+    any_braided : (p : Strand) → strand_at net st s ≡ Some p → next p (past st s) ≡ Some Any → (m : Meeting) → (form p).meeting ≡ m → Meets net s m → Allows m Any → ((form p).meeting ≡ Braided) × IsBraided net s
+    any_braided p is want Ordered at meets allowed = absurd allowed
+    any_braided p is want Braided at meets allowed = (at, meets)
+    any_braided p is want Loose at meets allowed = absurd meets
+
+    never_gate : (m : Meeting) → Meets net s m → Allows m Gate → ⊥
+    never_gate Ordered meets allowed = allowed
+    never_gate Braided meets allowed = allowed
+    never_gate Loose meets allowed = meets
+
+    any_one : (m : Option Strand) → strand_at net st s ≡ m → want_after m (past st s) ≡ Some Any → (k j : ℕ) (e f : Event) → answer (sight_of net st none_left s) k (Some Any) ≡ Some e → answer (sight_of net st none_left s) j (Some Any) ≡ Some f → k ≡ j
+    any_one None is want k j e f may_k may_j = cc
+    any_one (Some p) is want k j e f may_k may_j =
+        let asked = stands_for p (past st s) (reached.own s p is) Any want in
+        let b = any_braided p is want (form p).meeting refl (settled s p is) ((sound_line p).allows (past_of p (past st s)).known Any asked.asked) in
+        one_look s p is b.0 want b.1 k j e f may_k may_j
+
+    no_gate : (m : Option Strand) → strand_at net st s ≡ m → want_after m (past st s) ≡ Some Gate → ⊥
+    no_gate None is want = cc
+    no_gate (Some p) is want =
+        let asked = stands_for p (past st s) (reached.own s p is) Gate want in
+        never_gate (form p).meeting (settled s p is) ((sound_line p).allows (past_of p (past st s)).known Gate asked.asked)
+
+    one_stream : (k j : ℕ) (e f : Event) → licence net st none_left s k ≡ Some e → licence net st none_left s j ≡ Some f → k ≡ j
+    one_stream k j e f may_k may_j = by_want (want_at net st none_left s) refl may_k may_j
+      where
+        two : (x a b : ℕ) → (a == x) ≡ true → (b == x) ≡ true → a ≡ b
+        two x a b p q = same_number a x p ∙ sym (same_number b x q)
+
+        on : (x : ℕ) (a : Option Event) → cond (k == x) a None ≡ Some e → cond (j == x) a None ≡ Some f → k ≡ j
+        on x a p q = two x k j (cond_some (k == x) a p).0 (cond_some (j == x) a q).0
+
+        by_want : (w : Option Want) → want_at net st none_left s ≡ w → answer (sight_of net st none_left s) k w ≡ Some e → answer (sight_of net st none_left s) j w ≡ Some f → k ≡ j
+        by_want None w p q = cc
+        by_want (Some (Commit l)) w p q = on 0 (up_answer l (level_of net st none_left s l)) p q
+        by_want (Some (Read i)) w p q = on i (read_answer i (at_hand net st none_left (link_in net st s i)) (is_over st (link_in net st s i))) p q
+        by_want (Some Any) w p q = any_one (strand_at net st s) refl w k j e f p q
+        by_want (Some Gate) w p q = absurd (no_gate (strand_at net st s) refl w)
+        by_want (Some (Take i)) w p q = on i (Some (Took i)) p q
+        by_want (Some (Write o rec)) w p q = on o (write_answer o rec (may_put st (link_out net st s o)) (may_refuse st (link_out net st s o))) p q
+        by_want (Some Prime) w p q = on 0 (primed_answer (primed_by (past st (first_part net st s)))) p q
+        by_want (Some (Issue text)) w p q = on 0 None p q
+        by_want (Some (Join u)) w p q = on 0 (joined_answer u (joined_by st (issued_unit net st s u))) p q
+        by_want (Some (Sever x)) w p q = on x (Some (Severed x)) p q
+        by_want (Some (Done code)) w p q = on 0 (Some (Ended code)) p q
+
+-- a strand of a settled net goes on by one entry only
+pub same_entry : (net : Net) → IsWellFormed net → IsSettled net → (st : State) → (a b : Entry) → IsReached net st → IsLicensed net st a → IsLicensed net st b → a.strand ≡ b.strand → a ≡ b
+same_entry net formed settled st a b reached may_a may_b one =
+    let x = the_event (licence net st none_left a.strand a.stream) may_a in
+    let y = the_event (licence net st none_left b.strand b.stream) may_b in
+    let streams = one_stream net formed st reached settled a.strand a.stream b.stream x.0 y.0 x.1 (ap (λ z. licence net st none_left z b.stream) one ∙ y.1) in
+    λ i. record { strand = one i; stream = streams i }

@@ -17,4 +17,5 @@ pub mod Rules
 pub mod Sights
 pub mod Sound
 pub mod Sums
+pub mod Walks
 pub mod Within
