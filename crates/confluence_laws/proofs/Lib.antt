@@ -1,5 +1,6 @@
 pub mod Acyclic
 pub mod Basics
+pub mod Braids
 pub mod Confluence
 pub mod Ends
 pub mod Facts
@@ -20,4 +21,5 @@ pub mod Rules
 pub mod Sights
 pub mod Sound
 pub mod Sums
+pub mod Walks
 pub mod Within
