@@ -1,6 +1,7 @@
 pub mod Acyclic
 pub mod Basics
 pub mod Confluence
+pub mod Credit
 pub mod Ends
 pub mod Facts
 pub mod Fitting
