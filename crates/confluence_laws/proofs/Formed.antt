@@ -10,7 +10,7 @@ use Rattle.pipe_model.specs.State.{nothing_yet, strand_at, link_in, link_out}
 use Rattle.pipe_model.specs.Table.{form, Parting}
 use Rattle.pipe_model.specs.Table.Parting.{Whole, Queued, Streamed}
 use Rattle.pipe_model.specs.WellFormed.{IsWellFormed, IsJoined, TellsPorts, IsOfStage, IsQueue, strands_of, places_of}
-use Rattle.confluence_laws.proofs.Rows.{filtering, joining}
+use Rattle.confluence_laws.specs.Examples.{filtering, joining}
 
 -- a fact of each member of a list, by its place
 abbrev pub AllAt : {X : Type 0} → (ℕ → X → Type 0) → List X → Type 0
