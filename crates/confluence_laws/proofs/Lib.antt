@@ -1,5 +1,6 @@
 pub mod Acyclic
 pub mod Basics
+pub mod Braids
 pub mod Confluence
 pub mod Credit
 pub mod Ends
@@ -21,5 +22,6 @@ pub mod Second
 pub mod Sights
 pub mod Sound
 pub mod Sums
+pub mod Walks
 pub mod Ways
 pub mod Within
