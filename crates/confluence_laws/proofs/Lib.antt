@@ -2,6 +2,7 @@ pub mod Acyclic
 pub mod Basics
 pub mod Braids
 pub mod Confluence
+pub mod Credit
 pub mod Ends
 pub mod Facts
 pub mod Fitting
@@ -18,8 +19,10 @@ pub mod Pending
 pub mod Prefixes
 pub mod Rows
 pub mod Rules
+pub mod Second
 pub mod Sights
 pub mod Sound
 pub mod Sums
 pub mod Walks
+pub mod Ways
 pub mod Within
