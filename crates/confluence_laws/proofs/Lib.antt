@@ -1,5 +1,6 @@
 pub mod Basics
 pub mod Braids
+pub mod Commits
 pub mod Confluence
 pub mod Ends
 pub mod Facts
