@@ -8,7 +8,7 @@ use Rattle.pipe_model.specs.declared.net.Link.{Link}
 use Rattle.pipe_model.specs.declared.net.Strand.{Strand}
 use Rattle.pipe_model.specs.Event.{Event, Want, is_put, is_took, one_more, puts_on, tooks_on, has_ended}
 use Rattle.pipe_model.specs.Next.{next, wanted_by}
-use Rattle.pipe_model.specs.Table.{Line, form}
+use Rattle.pipe_model.specs.Table.{form}
 use Rattle.pipe_model.specs.State.{State, Who, past, same, with_event, link_in, link_out}
 use Rattle.pipe_model.specs.Licence.{want_after}
 use Rattle.pipe_model.specs.WellFormed.{IsWellFormed}

@@ -224,3 +224,164 @@ early_history s code early (e ∷ h) own = by_rest (early_history s code early h
         end_is (Ended c) it = ap Ended ((Decides-int_eq c code).0 it)
         end_is _ it = cc
     by_rest (inr over) = absurd (nothing_more s e h own.0 (ap has_ended over))
+
+-- whoever moves a record doesn't end before its first commit
+mover_late : (s : Strand) (h : List Event) (e : Event) → IsOwn s h → answers (next s h) e ≡ true → moves e ≡ true → (form s).row.early ≡ None
+mover_late s h e own it move = by_early (form s).row.early refl
+  where
+    by_early : (m : Option ℤ) → (form s).row.early ≡ m → (form s).row.early ≡ None
+    by_early None is = is
+    by_early (Some code) is = absurd (by_history (early_history s code is h own))
+      where
+        by_history : (h ≡ []) ⊎ (h ≡ Ended code ∷ []) → ⊥
+        by_history (inl none) =
+            let first : next s h ≡ Some (Done code) = ap (next s) none ∙ ap (λ m. want_in (first_phase m)) is in
+            done_moves code e (subst (λ z. answers z e ≡ true) first it) move
+        by_history (inr over) = nothing_more s e h it (ap has_ended over)
+
+-- The levels of a net
+
+-- whoever reached a level had the answer of that level
+abbrev pub IsAgreed : Net → State → Type 0
+IsAgreed net st = (u : Who) (l c : ℤ) → has_up l c (past st u) ≡ true → level_of net st none_left u l ≡ Some c
+
+-- who reaches a level has its answer
+up_level : (net : Net) (st : State) (t : Who) (k : ℕ) (l c : ℤ) → licence net st none_left t k ≡ Some (Up l c) → level_of net st none_left t l ≡ Some c
+up_level net st t k l c may =
+    let want = commit_asked (want_at net st none_left t) l c (answers_it net st t k (Up l c) may) in
+    let does : answer (sight_of net st none_left t) k (Some (Commit l)) ≡ Some (Up l c) = ap (answer (sight_of net st none_left t) k) (sym want) ∙ may in
+    let u = up_is l (Up l c) (level_of net st none_left t l) (cond_some (k == 0) (up_answer l (level_of net st none_left t l)) does).1 in
+    (let one : u.0 ≡ c = (let z : Up l u.0 ≡ Up l c = u.1 in cc) in u.2 ∙ ap Some one)
+
+up_before : (l c : ℤ) (f : Event) (h : List Event) → has_up l c (f ∷ h) ≡ true → (has_up l c h ≡ true) ⊎ (f ≡ Up l c)
+up_before l c (Up m d) h p = (elim (int_eq m l && int_eq d c) as (λ b. (int_eq m l && int_eq d c) ≡ b → (b || has_up l c h) ≡ true → (has_up l c h ≡ true) ⊎ (Up m d ≡ Up l c)) [
+  | true ↦ λ e q. let r = both (int_eq m l) (int_eq d c) e in inr (ap (λ z. Up z d) ((Decides-int_eq m l).0 r.0) ∙ ap (Up l) ((Decides-int_eq d c).0 r.1))
+  | false ↦ λ e q. inl q
+]) refl p
+up_before l c _ h p = inl p
+
+agreed_after : (net : Net) → IsWellFormed net → (st : State) (t : Who) (f : Event) (k : ℕ) → licence net st none_left t k ≡ Some f → IsAgreed net st → IsAgreed net (with_event st t f)
+agreed_after net formed st t f k licensed agreed u l c p = level_stays net formed st t f k licensed u l c (elim (equal_or_not u t) [
+  | inr other ↦ agreed u l c (subst (λ x. has_up l c x ≡ true) (at_other st t f u other) p)
+  | inl it ↦ subst (λ z. level_of net st none_left z l ≡ Some c) (sym it) (by_event (up_before l c f (past st t) (subst (λ x. has_up l c x ≡ true) (ap (past (with_event st t f)) it ∙ at_same st t f) p)))
+])
+  where
+    by_event : (has_up l c (past st t) ≡ true) ⊎ (f ≡ Up l c) → level_of net st none_left t l ≡ Some c
+    by_event (inl before) = agreed t l c before
+    by_event (inr now) = up_level net st t k l c (licensed ∙ ap Some now)
+
+play_agreed : (net : Net) → IsWellFormed net → (st : State) (es : List Entry) → IsAgreed net st → IsLegalFrom net st es → IsAgreed net (play_from net st es)
+play_agreed net formed st [] agreed legal = agreed
+play_agreed net formed st (e ∷ es) agreed legal =
+    let x = the_event (licence net st none_left e.strand e.stream) legal.0 in
+    play_agreed net formed (step net st e) es (subst (λ (z : Option Event). IsAgreed net (with_some_event st e.strand z)) (sym x.1) (agreed_after net formed st e.strand x.0 e.stream x.1 agreed)) legal.1
+
+-- where a level answers 0, no strand ended before it with another code
+early_below : (st : State) (l : ℤ) (n : ℕ) (u : Who) → worst_early st l (below n) ≡ pos 0 → u < n → early_code l (past st u) ≡ pos 0
+early_below st l zero u zero_worst lt = absurd (omega arith)
+early_below st l (suc n) u zero_worst lt =
+    let r = worst_parts (early_code l (past st n)) (worst_early st l (below n)) zero_worst in
+    elim (equal_or_not u n) [ inl it ↦ ap (λ z. early_code l (past st z)) it ∙ r.0 | inr other ↦ early_below st l n u r.1 (omega arith) ]
+
+at_some : {A : Type 0} (xs : List A) (i : ℕ) → i < length xs → (x : A) × (slice_get xs i ≡ Some x)
+at_some [] i lt = absurd (omega arith)
+at_some (x ∷ xs) zero lt = (x, refl)
+at_some (x ∷ xs) (suc i) lt = at_some xs i (omega arith)
+
+-- Where a record moves
+
+module _ (net : Net) (st : State) (reached : IsReached net st) (agreed : IsAgreed net st) (s : Who) (k : ℕ) (e : Event) (may : licence net st none_left s k ≡ Some e) (move : moves e ≡ true) where
+  went_s : Went (past st s)
+  went_s = by_strand (strand_at net st s) refl (answers_it net st s k e may)
+    where
+      by_strand : (m : Option Strand) → strand_at net st s ≡ m → answers (want_after m (past st s)) e ≡ true → Went (past st s)
+      by_strand None is it = cc
+      by_strand (Some p) is it = mover_went p (mover_late p (past st s) e (reached.own s p is) it move) (past st s) e (reached.own s p is) it move
+
+  -- a level that the mover reached has answered 0, and each strand stood there
+  module _ (l : ℤ) (up : has_up l (pos 0) (past st s) ≡ true) (u : Who) (lt : u < length net.strands) where
+    answered : (list_all (stands_at net st none_left l) (members net st s) ≡ true) × (Some (worst_early st l (members net st s)) ≡ Some (pos 0))
+    answered = cond_some (list_all (stands_at net st none_left l) (members net st s)) (Some (worst_early st l (members net st s))) (agreed s l (pos 0) up)
+
+    stands : stands_at net st none_left l u ≡ true
+    stands = in_below (stands_at net st none_left l) (length net.strands) u answered.0 lt
+
+    no_code : early_code l (past st u) ≡ pos 0
+    no_code = early_below st l (length net.strands) u (let same_one = answered.1 in cc) lt
+
+  -- no strand ends before its first commit
+  module _ (u : Who) (lt : u < length net.strands) (q : Strand) (is : strand_at net st u ≡ Some q) where
+    own_u : IsOwn q (past st u)
+    own_u = reached.own u q is
+
+    never_early : (code : ℤ) → (form q).row.early ≡ Some code → ⊥
+    never_early code early = by_history (early_history q code early (past st u) own_u)
+      where
+        by_history : (past st u ≡ []) ⊎ (past st u ≡ Ended code ∷ []) → ⊥
+        by_history (inl none) =
+            let first : next q (past st u) ≡ Some (Done code) = ap (next q) none ∙ ap (λ m. want_in (first_phase m)) early in
+            let want : want_at net st none_left u ≡ Some (Done code) = ap (λ z. want_after z (past st u)) is ∙ first in
+            let at : (has_ended (past st u) || (has_reached (negsuc 0) (past st u) || commits_to (negsuc 0) (want_at net st none_left u))) ≡ true = stands (negsuc 0) went_s.1 u lt in
+            let none_there : (has_ended (past st u) || (has_reached (negsuc 0) (past st u) || commits_to (negsuc 0) (want_at net st none_left u))) ≡ false =
+            ap (λ h. has_ended h || (has_reached (negsuc 0) h || commits_to (negsuc 0) (want_at net st none_left u))) none ∙ ap (commits_to (negsuc 0)) want in
+            (let z : true ≡ false = sym at ∙ none_there in cc)
+        by_history (inr over) = (sound_line q).early (early ∙ ap Some (sym (ap (early_code (negsuc 0)) over) ∙ no_code (negsuc 0) went_s.1 u lt))
+
+    late_u : (form q).row.early ≡ None
+    late_u = by_early (form q).row.early refl
+      where
+        by_early : (m : Option ℤ) → (form q).row.early ≡ m → (form q).row.early ≡ None
+        by_early None early = early
+        by_early (Some code) early = absurd (never_early code early)
+
+    -- so each has reached level 0, or is about to
+    committed_at : IsCommitted net st u
+    committed_at = by_stand (has_ended (past st u)) (has_reached (pos 0) (past st u)) refl refl (stands (pos 0) went_s.0 u lt)
+      where
+        code_there : (l c : ℤ) → has_up l (pos 0) (past st s) ≡ true → has_up l c (past st u) ≡ true → c ≡ pos 0
+        code_there l c up there = let same_one : Some c ≡ Some (pos 0) = sym (agreed u l c there) ∙ agreed s l (pos 0) up in cc
+
+        of_reached : has_reached (pos 0) (past st u) ≡ true → IsCommitted net st u
+        of_reached r =
+            let c = with_code (pos 0) (past st u) r in
+            inl (subst (λ z. has_up (pos 0) z (past st u) ≡ true) (code_there (pos 0) c.0 went_s.0 c.1) c.1)
+
+        of_stopped : Stopped (past st u) → IsCommitted net st u
+        of_stopped (inl r) = of_reached r
+        of_stopped (inr r) = absurd (r.1 (code_there (negsuc 0) r.0 went_s.1 r.2))
+
+        of_want : (w : Option Want) → want_at net st none_left u ≡ w → commits_to (pos 0) w ≡ true → IsCommitted net st u
+        of_want (Some (Commit m)) w_is p =
+            let want : want_at net st none_left u ≡ Some (Commit (pos 0)) = w_is ∙ ap (λ z. Some (Commit z)) ((Decides-int_eq m (pos 0)).0 p) in
+            inr (wants_zero q late_u (past st u) own_u (ap (λ z. want_after z (past st u)) (sym is) ∙ want), want, agreed s (pos 0) (pos 0) went_s.0)
+        of_want None w_is p = cc
+        of_want (Some _) w_is p = cc
+
+        by_stand : (a b : Bool) → has_ended (past st u) ≡ a → has_reached (pos 0) (past st u) ≡ b → stands_at net st none_left (pos 0) u ≡ true → IsCommitted net st u
+        by_stand true b x y p = of_stopped (ended_stopped q late_u (past st u) own_u x)
+        by_stand false true x y p = of_reached y
+        by_stand false false x y p =
+            of_want (want_at net st none_left u) refl (ap (λ z. z || commits_to (pos 0) (want_at net st none_left u)) (sym y) ∙ ap (λ z. z || (has_reached (pos 0) (past st u) || commits_to (pos 0) (want_at net st none_left u))) (sym x) ∙ p)
+
+-- the first entries of a legal dispatch are legal
+legal_first : (net : Net) (st : State) (es : List Entry) (k : ℕ) → IsLegalFrom net st es → IsLegalFrom net st (take k es)
+legal_first net st es zero legal = tt
+legal_first net st [] (suc k) legal = tt
+legal_first net st (e ∷ es) (suc k) legal = (legal.0, legal_first net (step net st e) es k legal.1)
+
+-- where the entry at k moves a record, every strand has committed
+pub committed_before : (net : Net) → IsWellFormed net → (es : List Entry) (k : ℕ) → IsLegal net es → IsMove (event_at net es k) → (u : Who) → u < length net.strands → IsCommitted net (play net (take k es)) u
+committed_before net formed es k legal move u lt = by_entry (slice_get es k) move
+  where
+    first : IsLegal net (take k es)
+    first = legal_first net nothing_yet es k legal
+
+    by_event : (s : Who) (j : ℕ) (x : Option Event) → licence net (play net (take k es)) none_left s j ≡ x → IsMove x → IsCommitted net (play net (take k es)) u
+    by_event s j None is m = absurd m
+    by_event s j (Some e) is m =
+        let q = at_some net.strands u lt in
+        committed_at net (play net (take k es)) (play_reached net formed (take k es) first) (play_agreed net formed nothing_yet (take k es) (λ u l c p. cc) first) s j e is m u lt q.0 q.1
+
+    by_entry : (x : Option Entry) → IsMove (event_of net (play net (take k es)) x) → IsCommitted net (play net (take k es)) u
+    by_entry None m = absurd m
+    by_entry (Some e) m = by_event e.strand e.stream (licence net (play net (take k es)) none_left e.strand e.stream) refl m

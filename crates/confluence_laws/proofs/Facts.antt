@@ -1,5 +1,5 @@
 -- What the laws need of a row, and of a line of the stage table.
-use Rattle.std.proofs.Common.{◌≡◌, ◌≢◌, ℕ, suc, ◌<◌, ◌≤◌, ◌*◌, Bool, true, false, ◌==◌, List, [], ◌∷◌, length, pos, Some}
+use Rattle.std.proofs.Common.{◌≡◌, ◌≢◌, ℕ, suc, ◌<◌, ◌≤◌, ◌*◌, Bool, true, false, ◌==◌, List, [], ◌∷◌, length, pos, Some, refl}
 use Rattle.std.specs.List.{list_any}
 use Rattle.pipe_model.specs.declared.net.Strand.{Strand}
 use Rattle.pipe_model.specs.declared.kind.Kind.{Kind}
@@ -9,7 +9,7 @@ use Rattle.pipe_model.specs.Event.Want.{Commit, Read, Any, Gate, Take, Write, Pr
 use Rattle.pipe_model.specs.Row.{Pair, Act, Goal, Plan, Known, Row}
 use Rattle.pipe_model.specs.Row.Act.{Writes, Repeats, Takes}
 use Rattle.pipe_model.specs.Row.Goal.{Asks, Ends}
-use Rattle.pipe_model.specs.Table.{Line, Meeting, form}
+use Rattle.pipe_model.specs.Table.{Line, Meeting, form, line_of}
 use Rattle.pipe_model.specs.Table.Meeting.{Ordered, Braided, Loose}
 use Rattle.pipe_model.specs.Table.Parting.{Queued}
 use Rattle.pipe_model.specs.Next.{has, without, learned, nothing_known}
@@ -156,3 +156,8 @@ reach_of s FanIn = length s.ports.has_input
 reach_of s FanInAny = length s.ports.has_input
 reach_of s Elastic = 1
 reach_of s Copy = 1
+
+-- strands of one kind are parted alike
+pub same_parting : (p q : Strand) (k : Kind) → (line_of q k).parting ≡ (line_of p k).parting
+same_parting p q (ConsoleIn bytes) = refl
+same_parting p q _ = refl

@@ -3,7 +3,7 @@ use Rattle.std.proofs.Common.{◌≡◌, List}
 use Rattle.pipe_model.specs.declared.net.Net.{Net}
 use Rattle.pipe_model.specs.declared.step.Entry.{Entry}
 use Rattle.pipe_model.specs.State.{State}
-use Rattle.pipe_model.specs.Play.{step, IsLicensed, play, IsLegal}
+use Rattle.pipe_model.specs.Play.{IsLicensed, play, IsLegal}
 use Rattle.pipe_model.specs.WellFormed.{IsWellFormed}
 use Rattle.pipe_model.specs.Settled.{IsSettled}
 

@@ -82,7 +82,7 @@ begin_alike outputs refused plan finite = inr (
 )
 
 -- nothing is left to do but the goal
-goal_alike : (outputs : List Bool) (refused : List ℕ) (goal : Goal) → Matches outputs refused (Doing [] goal) (Doing [] goal)
+pub goal_alike : (outputs : List Bool) (refused : List ℕ) (goal : Goal) → Matches outputs refused (Doing [] goal) (Doing [] goal)
 goal_alike outputs refused goal = inr ([], goal, tt, refl, refl)
 
 -- one test chooses for both

@@ -1,5 +1,5 @@
 -- One reading, whatever the dispatch.
-use Rattle.std.proofs.Common.{◌≡◌, ◌≢◌, ◌⊎◌, inl, inr, ℕ, ◌+◌, ◌≤◌, List, [], ◌∷◌, ◌++◌, length, refl, sym, ◌∙◌, ap, subst, arith, Option, Some, None, is_some, append_assoc}
+use Rattle.std.proofs.Common.{◌≡◌, ◌≢◌, ◌⊎◌, inl, inr, ◌+◌, ◌≤◌, List, [], ◌∷◌, ◌++◌, length, refl, sym, ◌∙◌, ap, subst, arith, Option, Some, None, is_some, append_assoc}
 use Rattle.pipe_model.specs.declared.net.Net.{Net}
 use Rattle.pipe_model.specs.declared.step.Entry.{Entry}
 use Rattle.pipe_model.specs.Event.{Event}
@@ -52,9 +52,9 @@ IsPlayed net st = (es : List Entry) × IsLegal net es × (play net es ≡ st)
 -- so it does with one entry more
 step_played : (net : Net) (st : State) (e : Entry) → IsPlayed net st → IsLicensed net st e → IsPlayed net (step net st e)
 step_played net st e (es, legal, is) may = (
-    es ++ e ∷ [],
-    can_one_more (step net) (IsLicensed net) nothing_yet es e legal (subst (λ (x : State). IsLicensed net x e) (sym is) may),
-    run_one_more (step net) nothing_yet es e ∙ ap (λ (x : State). step net x e) is,
+  es ++ e ∷ [],
+  can_one_more (step net) (IsLicensed net) nothing_yet es e legal (subst (λ (x : State). IsLicensed net x e) (sym is) may),
+  run_one_more (step net) nothing_yet es e ∙ ap (λ (x : State). step net x e) is,
 )
 
 module _ (net : Net) (formed : IsWellFormed net) (settled : IsSettled net) where

@@ -16,7 +16,8 @@ use Rattle.pipe_model.specs.State.{State, past, nothing_yet, with_event}
 use Rattle.pipe_model.specs.Licence.{Sight, answer, sight_of, licence, none_left, primed_by, joined_by}
 use Rattle.pipe_model.specs.Play.{play}
 use Rattle.pipe_model.specs.Reply.{reply, Reply}
-use Rattle.confluence_laws.proofs.Rows.{strand, link, queue, locate, lf, entry, filtering, joining, stalling, fanning, buffered, one_by_one}
+use Rattle.confluence_laws.specs.Examples.{strand, link, queue, locate, lf, entry, filtering, joining, stalling, fanning, buffered}
+use Rattle.confluence_laws.proofs.Rows.{one_by_one}
 
 -- The nine rules
 
