@@ -1,6 +1,7 @@
 pub mod Acyclic
 pub mod Basics
 pub mod Braids
+pub mod Commits
 pub mod Confluence
 pub mod Credit
 pub mod Ends
