@@ -23,6 +23,7 @@ pub mod Second
 pub mod Sights
 pub mod Sound
 pub mod Sums
+pub mod Total
 pub mod Walks
 pub mod Ways
 pub mod Within
