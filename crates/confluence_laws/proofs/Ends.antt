@@ -20,6 +20,7 @@ use Rattle.confluence_laws.proofs.Facts.{Fits, IsLook, IsFiniteLook, Allows, NoR
 use Rattle.confluence_laws.proofs.Sound.{sound_line}
 use Rattle.confluence_laws.proofs.Sums.{over, over_same, over_more, over_within}
 
+-- a past of these parts
 abbrev pub mk : Known → List ℕ → Phase → Past
 mk k refused f = record { known = k; refused = refused; phase = f }
 
@@ -30,6 +31,7 @@ abbrev pub count_on : ℕ → List Pair → ℕ
 count_on i [] = 0
 count_on i (p ∷ ps) = one_more (p.0 == i) (count_on i ps)
 
+-- none is counted where none is seen
 pub count_none : (i : ℕ) (ps : List Pair) → sees i ps ≡ false → count_on i ps ≡ 0
 count_none i [] e = refl
 count_none i (p ∷ ps) e = go (p.0 == i) e (λ q. count_none i ps q)
@@ -94,6 +96,7 @@ finite_live outputs refused (Writes o rec ∷ acts) none = go (is_live outputs r
 finite_live outputs refused (Repeats o rec ∷ acts) none = absurd none
 finite_live outputs refused (Takes i ∷ acts) none = finite_live outputs refused acts none
 
+-- a filter leaves no more
 fewer : {A : Type 0} (p : A → Bool) (xs : List A) → length (filter p xs) ≤ length xs
 fewer p [] = omega arith
 fewer p (x ∷ xs) = go (p x) (fewer p xs)
@@ -102,6 +105,7 @@ fewer p (x ∷ xs) = go (p x) (fewer p xs)
     go true le = omega (arith, le)
     go false le = omega (arith, le)
 
+-- a list that holds something at a place reaches so far
 pub at_place : {A : Type 0} {x : A} (xs : List A) (n : ℕ) → slice_get xs n ≡ Some x → n < length xs
 at_place [] n e = cc
 at_place (x ∷ xs) zero e = omega arith

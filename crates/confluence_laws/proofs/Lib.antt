@@ -1,7 +1,10 @@
 pub mod Acyclic
 pub mod Barred
 pub mod Basics
+pub mod Braids
+pub mod Commits
 pub mod Confluence
+pub mod Credit
 pub mod Ends
 pub mod Facts
 pub mod Fitting
@@ -9,8 +12,8 @@ pub mod Follow
 pub mod Formed
 pub mod Later
 pub mod LeftOut
+pub mod Legal
 pub mod Orders
-pub mod Owed
 pub mod Owns
 pub mod Passes
 pub mod Pending
@@ -21,5 +24,7 @@ pub mod Second
 pub mod Sights
 pub mod Sound
 pub mod Sums
+pub mod Total
+pub mod Walks
 pub mod Ways
 pub mod Within
