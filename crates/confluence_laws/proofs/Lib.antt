@@ -19,6 +19,7 @@ pub mod Owns
 pub mod Passes
 pub mod Pending
 pub mod Prefixes
+pub mod Primers
 pub mod Rows
 pub mod Rules
 pub mod Second
