@@ -1,5 +1,5 @@
 -- What the laws need of a row, and of a line of the stage table.
-use Rattle.std.proofs.Common.{◌≡◌, ◌≢◌, ℕ, suc, ◌<◌, ◌≤◌, ◌*◌, Bool, true, false, ◌==◌, List, [], ◌∷◌, length, Some, refl}
+use Rattle.std.proofs.Common.{◌≡◌, ◌≢◌, ℕ, suc, ◌<◌, ◌≤◌, ◌*◌, Bool, true, false, ◌==◌, List, [], ◌∷◌, length, pos, Some, refl}
 use Rattle.std.specs.List.{list_any}
 use Rattle.pipe_model.specs.declared.net.Strand.{Strand}
 use Rattle.pipe_model.specs.declared.kind.Kind.{Kind}
@@ -111,6 +111,8 @@ pub record IsSoundLine (A : Known → Want → Type 0) (line : Line) (reach : �
   -- a queue joins no strands that are thin or take what comes first
   pub queued : line.parting ≡ Queued → (line.thin ≡ false) × (line.meeting ≡ Ordered)
   pub finite : line.finite ≡ true → IsFiniteRow A line.row
+  -- no strand ends with code 0 before its first commit: the others would go on without it
+  pub early : line.row.early ≢ Some (pos 0)
 
 -- The kinds
 

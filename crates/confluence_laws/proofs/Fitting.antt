@@ -88,7 +88,7 @@ sees_without i j (p ∷ ps) once = (elim (p.0 == j) as (λ b. (p.0 == j) ≡ b �
       let same : p.0 ≡ j = same_number p.0 j is in
       let gone : sees j ps ≡ false = subst (λ z. sees z ps ≡ false) same once.0 in
       taken_one gone (ap (λ z. z == i) same)
-    )
+      )
   | false ↦ λ is. kept (sees_without i j ps once.1) is
 ]) refl
   where
@@ -100,7 +100,7 @@ sees_without i j (p ∷ ps) once = (elim (p.0 == j) as (λ b. (p.0 == j) ≡ b �
 
     kept : sees i (without j ps) ≡ (not (j == i) && sees i ps) → (p.0 == j) ≡ false → ((p.0 == i) || sees i (without j ps)) ≡ (not (j == i) && ((p.0 == i) || sees i ps))
     kept rest apart = (elim (p.0 == i) as (λ b. (p.0 == i) ≡ b → (b || sees i (without j ps)) ≡ (not (j == i) && (b || sees i ps))) [
-      | true ↦ λ is. ap (λ b. not b && true) (sym (unlike is)) 
+      | true ↦ λ is. ap (λ b. not b && true) (sym (unlike is))
       | false ↦ λ is. rest
     ]) refl
       where

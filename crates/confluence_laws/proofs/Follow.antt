@@ -237,7 +237,7 @@ module _ (s : Strand) (plain : IsPlainStrand s) (g : Given) (unlimited : (o : �
         let fits = fits_at y (Starting level) a in
         let is : Commit level ≡ w = (let z = wants_at y (Starting level) a in cc) in
         same_event y (Starting level) (Starting level) a b refl (subst IsSimple is fits.1)
-            (bare_after (form s).row s.ports.has_output y.known y.refused (subst (λ z. NoRepeats ((form s).row.plan z).acts) (sym fits.0) finite.starts) (Starting level) e bare)
+        (bare_after (form s).row s.ports.has_output y.known y.refused (subst (λ z. NoRepeats ((form s).row.plan z).acts) (sym fits.0) finite.starts) (Starting level) e bare)
     bare_event y (Doing acts goal) bare a b = absurd bare
     bare_event y Lost bare a b = (let z = wants_at y Lost a in cc)
 
@@ -251,8 +251,8 @@ module _ (s : Strand) (plain : IsPlainStrand s) (g : Given) (unlimited : (o : �
         let is : asked ≡ w = (let z = wants_at y (Doing [] (Asks asked)) a in cc) in
         let line = sound_line s in
         same_event y (Doing [] (Asks asked)) (Doing [] (Asks asked)) a b refl
-            (subst IsSimple is (asked_simple asked (finite.looks y.known asked fits) (subst (λ m. Allows m asked) plain.ordered (line.allows y.known asked fits))))
-            (goal_after (form s).row s.ports.has_output y.known y.refused (Asks asked) e (λ z same. finite.goes y.known asked e fits (subst (λ q. answers (Some q) e ≡ true) (sym is) told)))
+        (subst IsSimple is (asked_simple asked (finite.looks y.known asked fits) (subst (λ m. Allows m asked) plain.ordered (line.allows y.known asked fits))))
+        (goal_after (form s).row s.ports.has_output y.known y.refused (Asks asked) e (λ z same. finite.goes y.known asked e fits (subst (λ q. answers (Some q) e ≡ true) (sym is) told)))
 
     -- it takes a record
     take_event : (y : Follows h) (i : ℕ) (acts : List Act) (goal : Goal) → NoRepeats acts → y.now ≡ Doing (Takes i ∷ filter (is_live s.ports.has_output y.refused) acts) goal → y.now_other ≡ Doing (Takes i ∷ acts) goal → Follows (e ∷ h)

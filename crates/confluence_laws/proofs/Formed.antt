@@ -10,6 +10,7 @@ use Rattle.pipe_model.specs.State.{nothing_yet, strand_at, link_in, link_out}
 use Rattle.pipe_model.specs.Table.{form, Parting}
 use Rattle.pipe_model.specs.Table.Parting.{Whole, Queued, Streamed}
 use Rattle.pipe_model.specs.WellFormed.{IsWellFormed, IsJoined, TellsPorts, IsOfStage, IsQueue, strands_of, places_of}
+use Rattle.confluence_laws.proofs.Basics.{both, all_at}
 use Rattle.confluence_laws.specs.Examples.{filtering, joining}
 
 -- a fact of each member of a list, by its place
@@ -29,15 +30,6 @@ abbrev pub no_two : {X : Type 0} → (X → X → Bool) → List X → Bool
 no_two test [] = true
 no_two test (x ∷ xs) = list_all (λ y. not (test x y) && not (test y x)) xs && no_two test xs
 
-both : (a b : Bool) → (a && b) ≡ true → (a ≡ true) × (b ≡ true)
-both true b h = (refl, h)
-both false b h = cc
-
-all_at : {X : Type 0} (test : X → Bool) (xs : List X) (j : ℕ) (x : X) → list_all test xs ≡ true → slice_get xs j ≡ Some x → test x ≡ true
-all_at test [] j x all at = cc
-all_at test (y ∷ ys) zero x all at = let here : y ≡ x = cc in ap test (sym here) ∙ (both _ _ all).0
-all_at test (y ∷ ys) (suc j) x all at = all_at test ys j x (both _ _ all).1 at
-
 not_passing : (b : Bool) → not b ≡ true → b ≡ true → ⊥
 not_passing true h p = cc
 not_passing false h p = cc
@@ -47,11 +39,11 @@ one_place test [] apart j k a b at at' same = absurd cc
 one_place test (x ∷ xs) apart zero zero a b at at' same = refl
 one_place test (x ∷ xs) apart zero (suc k) a b at at' same =
     let here : x ≡ a = cc in
-    let p = both _ _ (all_at (λ y. not (test x y) && not (test y x)) xs k b (both _ _ apart).0 at') in
+    let p = both _ _ (all_at (λ y. not (test x y) && not (test y x)) xs k (both _ _ apart).0 at') in
     absurd (not_passing (test x b) p.0 (ap (λ z. test z b) here ∙ same))
 one_place test (x ∷ xs) apart (suc j) zero a b at at' same =
     let here : x ≡ b = cc in
-    let p = both _ _ (all_at (λ y. not (test x y) && not (test y x)) xs j a (both _ _ apart).0 at) in
+    let p = both _ _ (all_at (λ y. not (test x y) && not (test y x)) xs j (both _ _ apart).0 at) in
     absurd (not_passing (test a x) p.1 (ap (λ z. test a z) here ∙ same))
 one_place test (x ∷ xs) apart (suc j) (suc k) a b at at' same = ap suc (one_place test xs (both _ _ apart).1 j k a b at at' same)
 
@@ -100,24 +92,26 @@ module _ (net : Net) (lone : AllAt (λ s p. IsLone net s p) net.strands) (linked
   staged s p at =
       let l = lone_at s p at in
       let down : s - p.part ≡ s = omega (arith, l.part) in
-      let one : (m : ℕ) → strands_of (form p).parting m ≡ 1 = λ m. ap (λ w. strands_of w m) l.whole in
-      (l.streams, record {
-        some = l.some;
-        few = l.few;
-        part = omega (arith, one l.streams, l.part);
-        first = omega (arith, l.part);
-        inputs = l.inputs ∙ ap (λ w. places_of w (form p).inputs l.streams) (sym l.whole);
-        outputs = l.outputs ∙ ap (λ w. places_of w (form p).outputs l.streams) (sym l.whole);
-        others = λ k below.
-          let here : s - p.part + k ≡ s = omega (arith, one l.streams, l.part) in
-          let first : p.part ≡ k = omega (arith, one l.streams, l.part) in
-          (p, ap (λ t. strand_at net nothing_yet t) here ∙ at, first, refl, refl);
-        alone = λ t q at' named.
-          let other = lone_at t q at' in
-          let heads : t ∷ [] ≡ s ∷ [] = sym other.name ∙ named ∙ l.name in
-          let same : t ≡ s = cc in
-          (omega (arith, l.part, same), omega (arith, one l.streams, l.part, same))
-      })
+      let one : (m : ℕ) → strands_of (form p).parting m ≡ 1 = λ m. ap (λ w. strands_of w m) l.whole in (
+        l.streams,
+        record {
+          some = l.some;
+          few = l.few;
+          part = omega (arith, one l.streams, l.part);
+          first = omega (arith, l.part);
+          inputs = l.inputs ∙ ap (λ w. places_of w (form p).inputs l.streams) (sym l.whole);
+          outputs = l.outputs ∙ ap (λ w. places_of w (form p).outputs l.streams) (sym l.whole);
+          others = λ k below.
+              let here : s - p.part + k ≡ s = omega (arith, one l.streams, l.part) in
+              let first : p.part ≡ k = omega (arith, one l.streams, l.part) in
+              (p, ap (λ t. strand_at net nothing_yet t) here ∙ at, first, refl, refl);
+          alone = λ t q at' named.
+              let other = lone_at t q at' in
+              let heads : t ∷ [] ≡ s ∷ [] = sym other.name ∙ named ∙ l.name in
+              let same : t ≡ s = cc in
+              (omega (arith, l.part, same), omega (arith, one l.streams, l.part, same));
+        },
+      )
 
   queued_none : (s : ℕ) (p : Strand) → strand_at net nothing_yet s ≡ Some p → (form p).parting ≡ Queued → ⊥
   queued_none s p at queued = let l = lone_at s p at in let whole = l.whole in cc
@@ -132,7 +126,7 @@ module _ (net : Net) (lone : AllAt (λ s p. IsLone net s p) net.strands) (linked
     staged = staged;
     main = λ s p at. (lone_at s p at).main;
     queues = λ j link at. (λ yes. let no = (link_at j link at).no_queue in absurd cc, λ q. absurd (queued_none link.from q.producer q.from_strand q.queued));
-    queued = λ s p at queued first. absurd (queued_none s p at queued)
+    queued = λ s p at queued first. absurd (queued_none s p at queued);
   }
 
 -- The ports of a strand with two places of each kind at most
@@ -152,36 +146,44 @@ none_behind place strand s k (link ∷ links) all =
 
 module _ (net : Net) (s : ℕ) where
   told_inputs : (flags : List Bool) → AllAt (λ j link. link.input < 2) net.links → length flags ≤ 2
-    → flag_at flags 0 ≡ is_some (link_in net nothing_yet s 0) → flag_at flags 1 ≡ is_some (link_in net nothing_yet s 1)
-    → (i : ℕ) → flag_at flags i ≡ is_some (link_in net nothing_yet s i)
+      → flag_at flags 0 ≡ is_some (link_in net nothing_yet s 0) → flag_at flags 1 ≡ is_some (link_in net nothing_yet s 1)
+      → (i : ℕ) → flag_at flags i ≡ is_some (link_in net nothing_yet s i)
   told_inputs flags near few first second zero = first
   told_inputs flags near few first second (suc zero) = second
   told_inputs flags near few first second (suc (suc k)) = no_flag flags k few ∙ sym (none_behind (λ link. link.input) (λ link. link.to) s k net.links near)
 
   told_outputs : (flags : List Bool) → AllAt (λ j link. link.output < 2) net.links → length flags ≤ 2
-    → flag_at flags 0 ≡ is_some (link_out net nothing_yet s 0) → flag_at flags 1 ≡ is_some (link_out net nothing_yet s 1)
-    → (o : ℕ) → flag_at flags o ≡ is_some (link_out net nothing_yet s o)
+      → flag_at flags 0 ≡ is_some (link_out net nothing_yet s 0) → flag_at flags 1 ≡ is_some (link_out net nothing_yet s 1)
+      → (o : ℕ) → flag_at flags o ≡ is_some (link_out net nothing_yet s o)
   told_outputs flags near few first second zero = first
   told_outputs flags near few first second (suc zero) = second
   told_outputs flags near few first second (suc (suc k)) = no_flag flags k few ∙ sym (none_behind (λ link. link.output) (λ link. link.from) s k net.links near)
 
 -- a strand with two places of each kind at most, whose stage has m streams, in a net of such strands
 abbrev lone : (net : Net) (s : ℕ) (p : Strand) (m : ℕ) → AllAt (λ j link. link.input < 2) net.links → AllAt (λ j link. link.output < 2) net.links
-  → 1 ≤ m → m ≤ 64 → (form p).parting ≡ Whole → p.part ≡ 0 → p.unit ≡ 0 → p.name ≡ s ∷ []
-  → p.ports.inputs ≡ places_of Whole (form p).inputs m → p.ports.outputs ≡ places_of Whole (form p).outputs m
-  → length p.ports.has_input ≡ p.ports.inputs → length p.ports.has_output ≡ p.ports.outputs
-  → length p.ports.has_input ≤ 2 → length p.ports.has_output ≤ 2
-  → flag_at p.ports.has_input 0 ≡ is_some (link_in net nothing_yet s 0) → flag_at p.ports.has_input 1 ≡ is_some (link_in net nothing_yet s 1)
-  → flag_at p.ports.has_output 0 ≡ is_some (link_out net nothing_yet s 0) → flag_at p.ports.has_output 1 ≡ is_some (link_out net nothing_yet s 1)
-  → IsLone net s p
+    → 1 ≤ m → m ≤ 64 → (form p).parting ≡ Whole → p.part ≡ 0 → p.unit ≡ 0 → p.name ≡ s ∷ []
+    → p.ports.inputs ≡ places_of Whole (form p).inputs m → p.ports.outputs ≡ places_of Whole (form p).outputs m
+    → length p.ports.has_input ≡ p.ports.inputs → length p.ports.has_output ≡ p.ports.outputs
+    → length p.ports.has_input ≤ 2 → length p.ports.has_output ≤ 2
+    → flag_at p.ports.has_input 0 ≡ is_some (link_in net nothing_yet s 0) → flag_at p.ports.has_input 1 ≡ is_some (link_in net nothing_yet s 1)
+    → flag_at p.ports.has_output 0 ≡ is_some (link_out net nothing_yet s 0) → flag_at p.ports.has_output 1 ≡ is_some (link_out net nothing_yet s 1)
+    → IsLone net s p
 lone net s p m near_inputs near_outputs some few whole part main name inputs outputs ins outs few_ins few_outs i0 i1 o0 o1 = record {
-  streams = m; some = some; few = few; whole = whole; part = part; main = main; name = name; inputs = inputs; outputs = outputs;
+  streams = m;
+  some = some;
+  few = few;
+  whole = whole;
+  part = part;
+  main = main;
+  name = name;
+  inputs = inputs;
+  outputs = outputs;
   told = record {
     inputs = ins;
     outputs = outs;
     has_input = told_inputs net s p.ports.has_input near_inputs few_ins i0 i1;
-    has_output = told_outputs net s p.ports.has_output near_outputs few_outs o0 o1
-  }
+    has_output = told_outputs net s p.ports.has_output near_outputs few_outs o0 o1;
+  };
 }
 
 abbrev joined_link : (net : Net) (link : Link) (p q : Strand) → strand_at net nothing_yet link.from ≡ Some p → strand_at net nothing_yet link.to ≡ Some q → link.output < p.ports.outputs → link.input < q.ports.inputs → link.queue ≡ false → IsLink net link
@@ -196,15 +198,19 @@ filtering_outputs : AllAt (λ j link. link.output < 2) filtering.links
 filtering_outputs = (omega arith, (omega arith, tt))
 
 filtering_lone : AllAt (λ s p. IsLone filtering s p) filtering.strands
-filtering_lone =
-    (lone filtering 0 _ 1 filtering_inputs filtering_outputs (omega arith) (omega arith) refl refl refl refl refl refl refl refl (omega arith) (omega arith) refl refl refl refl,
-    (lone filtering 1 _ 1 filtering_inputs filtering_outputs (omega arith) (omega arith) refl refl refl refl refl refl refl refl (omega arith) (omega arith) refl refl refl refl,
-    (lone filtering 2 _ 1 filtering_inputs filtering_outputs (omega arith) (omega arith) refl refl refl refl refl refl refl refl (omega arith) (omega arith) refl refl refl refl, tt)))
+filtering_lone = (
+  lone filtering 0 _ 1 filtering_inputs filtering_outputs (omega arith) (omega arith) refl refl refl refl refl refl refl refl (omega arith) (omega arith) refl refl refl refl,
+  (
+    lone filtering 1 _ 1 filtering_inputs filtering_outputs (omega arith) (omega arith) refl refl refl refl refl refl refl refl (omega arith) (omega arith) refl refl refl refl,
+    (lone filtering 2 _ 1 filtering_inputs filtering_outputs (omega arith) (omega arith) refl refl refl refl refl refl refl refl (omega arith) (omega arith) refl refl refl refl, tt),
+  ),
+)
 
 filtering_linked : AllAt (λ j link. IsLink filtering link) filtering.links
-filtering_linked =
-    (joined_link filtering _ _ _ refl refl (omega arith) (omega arith) refl,
-    (joined_link filtering _ _ _ refl refl (omega arith) (omega arith) refl, tt))
+filtering_linked = (
+  joined_link filtering _ _ _ refl refl (omega arith) (omega arith) refl,
+  (joined_link filtering _ _ _ refl refl (omega arith) (omega arith) refl, tt),
+)
 
 pub filtering_formed : IsWellFormed filtering
 filtering_formed = lone_formed filtering filtering_lone filtering_linked (omega arith) refl refl
@@ -216,20 +222,34 @@ joining_outputs : AllAt (λ j link. link.output < 2) joining.links
 joining_outputs = (omega arith, (omega arith, (omega arith, (omega arith, (omega arith, tt)))))
 
 joining_lone : AllAt (λ s p. IsLone joining s p) joining.strands
-joining_lone =
-    (lone joining 0 _ 1 joining_inputs joining_outputs (omega arith) (omega arith) refl refl refl refl refl refl refl refl (omega arith) (omega arith) refl refl refl refl,
-    (lone joining 1 _ 2 joining_inputs joining_outputs (omega arith) (omega arith) refl refl refl refl refl refl refl refl (omega arith) (omega arith) refl refl refl refl,
-    (lone joining 2 _ 1 joining_inputs joining_outputs (omega arith) (omega arith) refl refl refl refl refl refl refl refl (omega arith) (omega arith) refl refl refl refl,
-    (lone joining 3 _ 2 joining_inputs joining_outputs (omega arith) (omega arith) refl refl refl refl refl refl refl refl (omega arith) (omega arith) refl refl refl refl,
-    (lone joining 4 _ 1 joining_inputs joining_outputs (omega arith) (omega arith) refl refl refl refl refl refl refl refl (omega arith) (omega arith) refl refl refl refl, tt)))))
+joining_lone = (
+  lone joining 0 _ 1 joining_inputs joining_outputs (omega arith) (omega arith) refl refl refl refl refl refl refl refl (omega arith) (omega arith) refl refl refl refl,
+  (
+    lone joining 1 _ 2 joining_inputs joining_outputs (omega arith) (omega arith) refl refl refl refl refl refl refl refl (omega arith) (omega arith) refl refl refl refl,
+    (
+      lone joining 2 _ 1 joining_inputs joining_outputs (omega arith) (omega arith) refl refl refl refl refl refl refl refl (omega arith) (omega arith) refl refl refl refl,
+      (
+        lone joining 3 _ 2 joining_inputs joining_outputs (omega arith) (omega arith) refl refl refl refl refl refl refl refl (omega arith) (omega arith) refl refl refl refl,
+        (lone joining 4 _ 1 joining_inputs joining_outputs (omega arith) (omega arith) refl refl refl refl refl refl refl refl (omega arith) (omega arith) refl refl refl refl, tt),
+      ),
+    ),
+  ),
+)
 
 joining_linked : AllAt (λ j link. IsLink joining link) joining.links
-joining_linked =
-    (joined_link joining _ _ _ refl refl (omega arith) (omega arith) refl,
-    (joined_link joining _ _ _ refl refl (omega arith) (omega arith) refl,
-    (joined_link joining _ _ _ refl refl (omega arith) (omega arith) refl,
-    (joined_link joining _ _ _ refl refl (omega arith) (omega arith) refl,
-    (joined_link joining _ _ _ refl refl (omega arith) (omega arith) refl, tt)))))
+joining_linked = (
+  joined_link joining _ _ _ refl refl (omega arith) (omega arith) refl,
+  (
+    joined_link joining _ _ _ refl refl (omega arith) (omega arith) refl,
+    (
+      joined_link joining _ _ _ refl refl (omega arith) (omega arith) refl,
+      (
+        joined_link joining _ _ _ refl refl (omega arith) (omega arith) refl,
+        (joined_link joining _ _ _ refl refl (omega arith) (omega arith) refl, tt),
+      ),
+    ),
+  ),
+)
 
 pub joining_formed : IsWellFormed joining
 joining_formed = lone_formed joining joining_lone joining_linked (omega arith) refl refl

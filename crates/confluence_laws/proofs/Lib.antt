@@ -2,6 +2,7 @@ pub mod Acyclic
 pub mod Barred
 pub mod Basics
 pub mod Braids
+pub mod Commits
 pub mod Confluence
 pub mod Credit
 pub mod Ends
@@ -11,6 +12,7 @@ pub mod Follow
 pub mod Formed
 pub mod Later
 pub mod LeftOut
+pub mod Legal
 pub mod Orders
 pub mod Owed
 pub mod Owns

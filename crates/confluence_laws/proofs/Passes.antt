@@ -216,8 +216,8 @@ module _ (net : Net) (formed : IsWellFormed net) (plain : IsPlain net) where
       second_pass ordered = (
         back (suc rounds),
         λ s p here. subst (IsAllAlone p (cut net orders lists (back (suc rounds)) s))
-          (ap (λ m. ran m (cut net orders lists (back (suc rounds)) s)) (sym here) ∙ settles_back (suc rounds) s p here (omega arith))
-          ((alone_to_end p (cut net orders lists (back (suc rounds)) s)).1 (plain.finite s p here) (ordered s p here)),
+            (ap (λ m. ran m (cut net orders lists (back (suc rounds)) s)) (sym here) ∙ settles_back (suc rounds) s p here (omega arith))
+            ((alone_to_end p (cut net orders lists (back (suc rounds)) s)).1 (plain.finite s p here) (ordered s p here)),
       )
 
     -- The plain reading

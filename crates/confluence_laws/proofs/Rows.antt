@@ -10,7 +10,7 @@ use Rattle.pipe_model.specs.Play.{play, step}
 use Rattle.pipe_model.specs.Settled.{is_settled}
 use Rattle.pipe_model.specs.Plain.{is_plain}
 use Rattle.pipe_model.specs.Reply.{reply, Reply}
-use Rattle.confluence_laws.specs.Examples.{lf, entry, filtering, joining, delayed, fanning, stalling, buffered}
+use Rattle.confluence_laws.specs.Examples.{lf, entry, entries, filtering_steps, joining_steps, stalling_steps, filtering, joining, delayed, fanning, stalling, buffered}
 
 -- the least stream below n on which the strand may go on
 abbrev pub on_stream : Net → State → ℕ → ℕ → Option ℕ
@@ -30,14 +30,20 @@ least_first (suc n) net st = elim (turn net st (length net.strands)) [ None ↦ 
 abbrev pub one_by_one : ℕ → Net → List Entry
 one_by_one n net = least_first n net nothing_yet
 
-filtering_steps : length (one_by_one 40 filtering) ≡ 26
-filtering_steps = refl
+filtering_dispatch : one_by_one 40 filtering ≡ entries filtering_steps
+filtering_dispatch = refl
+
+filtering_length : length filtering_steps ≡ 26
+filtering_length = refl
 
 filtering_reply : reply filtering (play filtering (one_by_one 40 filtering)) ≡ record { console = codes "ab" ++ lf ++ codes "b" ++ lf; files = []; code = pos 0; waits = [] }
 filtering_reply = refl
 
-joining_steps : length (one_by_one 60 joining) ≡ 52
-joining_steps = refl
+joining_dispatch : one_by_one 60 joining ≡ entries joining_steps
+joining_dispatch = refl
+
+joining_length : length joining_steps ≡ 52
+joining_length = refl
 
 joining_reply : reply joining (play joining (one_by_one 60 joining)) ≡ record { console = codes "x1" ++ lf ++ codes "2" ++ lf ++ codes "x3" ++ lf; files = []; code = pos 0; waits = [] }
 joining_reply = refl
@@ -48,8 +54,11 @@ joining_settled = refl
 delayed_loose : is_settled delayed ≡ false
 delayed_loose = refl
 
-stalling_steps : length (one_by_one 60 stalling) ≡ 15
-stalling_steps = refl
+stalling_dispatch : one_by_one 60 stalling ≡ entries stalling_steps
+stalling_dispatch = refl
+
+stalling_length : length stalling_steps ≡ 15
+stalling_length = refl
 
 stalling_reply : reply stalling (play stalling (one_by_one 60 stalling)) ≡ record { console = codes "x" ++ lf; files = []; code = negsuc 4094; waits = (0, Some (Write 0 (codes "x"))) ∷ (1, Some (Write 1 (codes "x"))) ∷ (2, Some (Read 0)) ∷ (3, Some (Read 0)) ∷ [] }
 stalling_reply = refl

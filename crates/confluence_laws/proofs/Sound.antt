@@ -245,6 +245,7 @@ sound_line s = by_kind s.kind
       allows = λ k want a. subst (λ m. Allows m want) (sym meeting) (reads k want a);
       thin = λ e. subst (IsThin ReadsOne) (sym row_is) (through_thin ReadsOne (Read 0) 1 one_looking t none_before none_last refl yields);
       queued = λ e. (thick e, meeting);
+      early = λ e. let none : None ≡ Some (pos 0) = sym (ap (λ (w : Row). w.early) row_is) ∙ e in cc;
       finite = λ e. subst (IsFiniteRow ReadsOne) (sym row_is) (through_finite ReadsOne (Read 0) 1 one_looking t tt yields);
     }
 
@@ -254,13 +255,14 @@ sound_line s = by_kind s.kind
       allows = λ k want a. subst (λ m. Allows m want) (sym meeting) (reads k want a);
       thin = λ e. (let z : true ≡ false = sym e ∙ thick in cc);
       queued = λ e. (thick, meeting);
+      early = λ e. let none : None ≡ Some (pos 0) = sym (ap (λ (w : Row). w.early) row_is) ∙ e in cc;
       finite = λ e. subst (IsFiniteRow ReadsOne) (sym row_is) (hold_finite ReadsOne 1 one_looking t);
     }
 
     by_kind : (kind : Kind) → IsSoundLine (asking s kind) (line_of s kind) (reach_of s kind)
     by_kind (ConsoleIn bytes) =
         let pairs : List Pair = map (λ rec. (0, rec)) (lines bytes) in
-        record { sound = source_sound pairs 0; allows = λ k want a. absurd a; thin = λ e. cc; queued = λ e. (refl, refl); finite = λ e. source_finite pairs }
+        record { sound = source_sound pairs 0; allows = λ k want a. absurd a; thin = λ e. cc; queued = λ e. (refl, refl); finite = λ e. source_finite pairs; early = λ e. cc }
     by_kind ConsoleOut = through_line (each_record copied) refl (λ seen. refl) (line_of s ConsoleOut) false refl refl (λ e. cc)
     by_kind (Locate range text) = through_line (each_record (selects (locates range text))) refl (λ seen. refl) (line_of s (Locate range text)) true refl refl (λ e. cc)
     by_kind FanOut = through_line (each_record (λ seen. on_each 0 s.ports.has_output (at_hand_of seen))) refl (λ seen. refl) (line_of s FanOut) true refl refl (λ e. cc)
@@ -269,6 +271,7 @@ sound_line s = by_kind s.kind
       allows = λ k want a. subst (Allows Ordered) (sym a.want_is) tt;
       thin = λ e. cc;
       queued = λ e. (refl, refl);
+      early = λ e. cc;
       finite = λ e. turn_finite (length s.ports.has_input);
     }
     by_kind FanInAny = record {
@@ -276,6 +279,7 @@ sound_line s = by_kind s.kind
       allows = λ k want a. subst (Allows Braided) (sym a.want_is) tt;
       thin = λ e. cc;
       queued = λ e. cc;
+      early = λ e. cc;
       finite = λ e. through_finite LooksAtAny Any (length s.ports.has_input) (any_looking (length s.ports.has_input)) (each_record copied) tt true;
     }
     by_kind Elastic = hold_line (each_record copied) (line_of s Elastic) refl refl refl
