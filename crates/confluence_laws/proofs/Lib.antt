@@ -14,7 +14,6 @@ pub mod Later
 pub mod LeftOut
 pub mod Legal
 pub mod Orders
-pub mod Owed
 pub mod Owns
 pub mod Passes
 pub mod Pending

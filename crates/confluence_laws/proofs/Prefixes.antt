@@ -10,8 +10,8 @@ use Rattle.pipe_model.specs.WellFormed.{IsWellFormed}
 use Rattle.pipe_model.specs.Settled.{IsSettled}
 use Rattle.confluence_laws.proofs.Basics.{equal_or_not, at_same, at_other}
 use Rattle.confluence_laws.proofs.Orders.{same_licence, steps_in_either_order}
-use Rattle.confluence_laws.proofs.Confluence.{run_one_more, can_one_more, goes_on, ends_alike}
-use Rattle.confluence_laws.proofs.Owed.{IsReached, play_reached, same_entry}
+use Rattle.confluence_laws.proofs.Confluence.{goes_on, ends_alike}
+use Rattle.confluence_laws.proofs.Braids.{IsReached, at_first, step_reached, same_entry}
 
 -- an event makes its strand's history longer, and leaves the others
 event_more : (st : State) (t : Who) (f : Event) (s : Who) → IsBeginningOf (past st s) (past (with_event st t f) s)
@@ -45,24 +45,12 @@ entry_or_not a b = by_parts (equal_or_not a.strand b.strand) (equal_or_not a.str
     by_parts (inr p) q = inr (λ e. p (ap (λ z. z.strand) e))
     by_parts (inl p) (inr q) = inr (λ e. q (ap (λ z. z.stream) e))
 
--- a legal dispatch leads to the state
-abbrev IsPlayed : Net → State → Type 0
-IsPlayed net st = (es : List Entry) × IsLegal net es × (play net es ≡ st)
-
--- so it does with one entry more
-step_played : (net : Net) (st : State) (e : Entry) → IsPlayed net st → IsLicensed net st e → IsPlayed net (step net st e)
-step_played net st e (es, legal, is) may = (
-  es ++ e ∷ [],
-  can_one_more (step net) (IsLicensed net) nothing_yet es e legal (subst (λ (x : State). IsLicensed net x e) (sym is) may),
-  run_one_more (step net) nothing_yet es e ∙ ap (λ (x : State). step net x e) is,
-)
-
 module _ (net : Net) (formed : IsWellFormed net) (settled : IsSettled net) where
   -- two entries that may be made can be made in either order
-  either_order : (st : State) (a b : Entry) → IsPlayed net st → IsLicensed net st a → IsLicensed net st b → a ≢ b →
+  either_order : (st : State) (a b : Entry) → IsReached net st → IsLicensed net st a → IsLicensed net st b → a ≢ b →
       IsLicensed net (step net st b) a × IsLicensed net (step net st a) b × (step net (step net st b) a ≡ step net (step net st a) b)
-  either_order st a b (es, legal, is) may_a may_b differ = elim (equal_or_not a.strand b.strand) [
-    | inl it ↦ absurd (differ (same_entry net formed settled st a b (subst (λ (x : State). IsReached net x) is (play_reached net formed es legal)) may_a may_b it))
+  either_order st a b reached may_a may_b differ = elim (equal_or_not a.strand b.strand) [
+    | inl it ↦ absurd (differ (same_entry net formed settled st a b reached may_a may_b it))
     | inr apart ↦ (
       ap is_some (same_licence net formed st a b apart may_a may_b) ∙ may_a,
       ap is_some (same_licence net formed st b a (λ e. apart (sym e)) may_b may_a) ∙ may_b,
@@ -73,9 +61,9 @@ module _ (net : Net) (formed : IsWellFormed net) (settled : IsSettled net) where
   -- a legal dispatch is no longer than a complete one, and its histories are the beginnings of that one's
   pub beginning_of : (v w : List Entry) → IsLegal net v → IsLegal net w → IsComplete net w → (length v ≤ length w) × ((s : Who) → IsBeginningOf (past (play net v) s) (past (play net w) s))
   beginning_of v w legal whole done =
-      let r = goes_on (step net) (IsLicensed net) (IsPlayed net) entry_or_not (step_played net) either_order nothing_yet v w ([], tt, refl) legal whole done in
+      let r = goes_on (step net) (IsLicensed net) (IsReached net) entry_or_not (step_reached net formed) either_order nothing_yet v w (at_first net) legal whole done in
       (omega (arith, r.3), λ s. subst (λ (z : State). IsBeginningOf (past (play net v) s) (past z s)) r.2 (play_more net (play net v) r.0 s))
 
   -- two complete dispatches lead to one state, and are of one length
   pub alike : (v w : List Entry) → IsLegal net v → IsLegal net w → IsComplete net v → IsComplete net w → (play net v ≡ play net w) × (length v ≡ length w)
-  alike v w legal whole over done = ends_alike (step net) (IsLicensed net) (IsPlayed net) entry_or_not (step_played net) either_order nothing_yet v w ([], tt, refl) legal whole over done
+  alike v w legal whole over done = ends_alike (step net) (IsLicensed net) (IsReached net) entry_or_not (step_reached net formed) either_order nothing_yet v w (at_first net) legal whole over done
