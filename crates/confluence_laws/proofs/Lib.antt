@@ -12,6 +12,7 @@ pub mod Follow
 pub mod Formed
 pub mod Later
 pub mod LeftOut
+pub mod Lengths
 pub mod Legal
 pub mod Orders
 pub mod Owns

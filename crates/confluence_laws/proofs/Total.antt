@@ -28,7 +28,8 @@ use Rattle.confluence_laws.proofs.Credit.{cost, spent, is_saw, saws_on, saws_are
 abbrev worth : State → Link → ℕ
 worth st l = tooks st l + tooks st l + puts st l
 
-put_asked : (want : Option Want) (o : ℕ) (rec : List ℕ) → answers want (Put o rec) ≡ true → (x : List ℕ) × (want ≡ Some (Write o x))
+-- a put answers a write on its output
+pub put_asked : (want : Option Want) (o : ℕ) (rec : List ℕ) → answers want (Put o rec) ≡ true → (x : List ℕ) × (want ≡ Some (Write o x))
 put_asked (Some (Write p x)) o rec e = (x, ap (λ z. Some (Write z x)) (sym (same_number o p e)))
 put_asked None o rec e = cc
 put_asked (Some _) o rec e = cc
