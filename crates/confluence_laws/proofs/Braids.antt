@@ -1,5 +1,5 @@
 -- In a settled net a strand has one licensed entry at most.
-use Rattle.std.proofs.Common.{◌≡◌, ◌≢◌, ◌⊎◌, inl, inr, ℕ, suc, ◌<◌, ◌+◌, ◌-◌, Bool, true, false, cond, ◌&&◌, ◌||◌, not, ◌==◌, List, [], ◌∷◌, refl, sym, ◌∙◌, ap, subst, arith, Option, Some, None, slice_get, ℤ}
+use Rattle.std.proofs.Common.{◌≡◌, ◌≢◌, ◌⊎◌, inl, inr, ℕ, ◌<◌, ◌+◌, ◌-◌, Bool, true, false, cond, ◌&&◌, not, ◌==◌, List, [], ◌∷◌, refl, sym, ◌∙◌, ap, subst, arith, Option, Some, None, slice_get}
 use Rattle.pipe_model.specs.declared.net.Net.{Net}
 use Rattle.pipe_model.specs.declared.net.Link.{Link}
 use Rattle.pipe_model.specs.declared.net.Strand.{Strand}
@@ -7,7 +7,7 @@ use Rattle.pipe_model.specs.declared.step.Entry.{Entry}
 use Rattle.pipe_model.specs.Event.{Event, Want, puts_on, tooks_on, records_on, is_took, one_more, has_ended, in_sight, answers}
 use Rattle.pipe_model.specs.Event.Event.{Saw, SawAllEnd, Took, Severed, Ended}
 use Rattle.pipe_model.specs.Event.Want.{Commit, Read, Any, Gate, Take, Write, Prime, Issue, Join, Sever, Done}
-use Rattle.pipe_model.specs.Table.{Meeting, form}
+use Rattle.pipe_model.specs.Table.{Meeting, form, line_of}
 use Rattle.pipe_model.specs.Table.Meeting.{Ordered, Braided, Loose}
 use Rattle.pipe_model.specs.Table.Parting.{Queued}
 use Rattle.pipe_model.specs.Next.{next, IsOwn}
@@ -18,8 +18,8 @@ use Rattle.pipe_model.specs.WellFormed.{IsWellFormed, strands_of}
 use Rattle.pipe_model.specs.Settled.{is_thin, OnWalk, IsBraided, IsSettled, Meets}
 use Rattle.pipe_model.specs.Settled.OnWalk.{comes_from, passes}
 use Rattle.confluence_laws.proofs.Basics.{cond_some, both, the_event, same_number, equal_or_not, at_same, at_other, found_at, not_ended, from_in}
-use Rattle.confluence_laws.proofs.Facts.{Allows, asking}
-use Rattle.confluence_laws.proofs.Sound.{sound_line, one_parting}
+use Rattle.confluence_laws.proofs.Facts.{Allows, same_parting}
+use Rattle.confluence_laws.proofs.Sound.{sound_line}
 use Rattle.confluence_laws.proofs.Fitting.{past_of, stands_for}
 use Rattle.confluence_laws.proofs.Later.{over_there, not_writer, same_want, actor_goes_on}
 use Rattle.confluence_laws.proofs.Owns.{answers_it, saw_asked, sight_before, thin_never_any, thin_writes}
@@ -205,7 +205,7 @@ queue_to net formed j l p at queue is =
     let place : l.from - q.producer.part + 1 ≡ l.to = (let first = q.first in let next_is = q.second in omega arith) in
     let it : Some second.0 ≡ Some p = sym second.1 ∙ ap (strand_at net nothing_yet) place ∙ is in
     let one : second.0 ≡ p = cc in
-    one_parting p q.producer (ap (λ z. z.kind) (sym one) ∙ second.4) ∙ q.queued
+    ap (λ kind. (line_of p kind).parting) (ap (λ z. z.kind) (sym one) ∙ second.4) ∙ same_parting q.producer p q.producer.kind ∙ q.queued
 
 module _ (net : Net) (formed : IsWellFormed net) (st : State) (reached : IsReached net st) where
   -- no queue leads to a strand that isn't one of two

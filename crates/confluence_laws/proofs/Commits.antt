@@ -10,7 +10,7 @@ use Rattle.pipe_model.specs.declared.net.Net.{Net}
 use Rattle.pipe_model.specs.declared.net.Strand.{Strand}
 use Rattle.pipe_model.specs.declared.step.Entry.{Entry}
 use Rattle.pipe_model.specs.Code.{worst_of}
-use Rattle.pipe_model.specs.Event.{Event, Want, answers, has_ended, has_reached, has_up, code_of, moves}
+use Rattle.pipe_model.specs.Event.{Event, Want, answers, has_ended, has_reached, has_up, moves}
 use Rattle.pipe_model.specs.Event.Event.{Up, Saw, Took, Put, Refused, Ended}
 use Rattle.pipe_model.specs.Event.Want.{Commit, Done}
 use Rattle.pipe_model.specs.Row.{Act, Goal, Row}

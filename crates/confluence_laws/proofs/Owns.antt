@@ -12,12 +12,12 @@ use Rattle.pipe_model.specs.Row.{Act, Goal, Known, Row}
 use Rattle.pipe_model.specs.Row.Act.{Writes, Repeats, Takes}
 use Rattle.pipe_model.specs.Row.Goal.{Asks, Ends}
 use Rattle.pipe_model.specs.Table.{form}
-use Rattle.pipe_model.specs.Next.{Phase, Past, after, want_in, next, learned, nothing_known, first_phase, is_live, is_open, is_refused, begins_plan, doing, IsOwn}
+use Rattle.pipe_model.specs.Next.{Phase, Past, after, want_in, next, learned, first_phase, is_live, is_open, is_refused, begins_plan, doing, IsOwn}
 use Rattle.pipe_model.specs.Next.Phase.{Starting, Doing, Lost}
 use Rattle.pipe_model.specs.State.{State, Who}
 use Rattle.pipe_model.specs.Licence.{Sight, none_left, want_at, up_answer, read_answer, any_answer, write_answer, primed_answer, joined_answer, answer, licence, sight_of}
 use Rattle.confluence_laws.proofs.Basics.{cond_some, both, same_number, test_same}
-use Rattle.confluence_laws.proofs.Facts.{Fits, IsThin, NoWrites, ThinActs, has_take, asking, reach_of, sees}
+use Rattle.confluence_laws.proofs.Facts.{Fits, IsThin, NoWrites, ThinActs, has_take, asking, sees}
 use Rattle.confluence_laws.proofs.Sound.{sound_line}
 use Rattle.confluence_laws.proofs.Fitting.{past_of, PhaseFits, own_fits, sees_is, still_wants, IsWriter, wants_write, stands_for}
 

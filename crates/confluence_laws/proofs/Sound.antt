@@ -1,5 +1,5 @@
 -- Each kind's line of the stage table is sound: what a kind that comes later owes.
-use Rattle.std.proofs.Common.{◌≡◌, ◌≢◌, ℕ, zero, suc, ◌≤◌, ◌<◌, ◌+◌, ◌*◌, Bool, true, false, cond, ◌==◌, ◌||◌, List, [], ◌∷◌, ◌++◌, length, refl, sym, ◌∙◌, ap, subst, arith, Option, Some, None, ℤ, pos, min}
+use Rattle.std.proofs.Common.{◌≡◌, ℕ, suc, ◌≤◌, ◌<◌, ◌*◌, Bool, true, false, cond, ◌==◌, ◌||◌, List, [], ◌∷◌, ◌++◌, length, refl, sym, ◌∙◌, ap, subst, arith, Some, None, ℤ, pos}
 use Rattle.std.specs.Prelude.{nat_lt, map}
 use Rattle.std.proofs.lemmas.Bool.Decides.{nat_tests}
 use Rattle.pipe_model.specs.declared.net.Net.{Net}
@@ -10,11 +10,11 @@ use Rattle.pipe_model.specs.Event.{Event, Want, answers}
 use Rattle.pipe_model.specs.Event.Event.{Saw, SawEnd, SawAllEnd}
 use Rattle.pipe_model.specs.Event.Want.{Read, Any}
 use Rattle.pipe_model.specs.Row.{Pair, Act, Goal, Plan, Known, Row, Stream, row, writes, source, hold, each_record, copied, selects, at_hand_of, through_plan, hold_plan, next_record}
-use Rattle.pipe_model.specs.Row.Act.{Takes, Writes}
+use Rattle.pipe_model.specs.Row.Act.{Takes}
 use Rattle.pipe_model.specs.Row.Goal.{Asks, Ends}
 use Rattle.pipe_model.specs.Records.{lines}
 use Rattle.pipe_model.specs.Ranges.{locates}
-use Rattle.pipe_model.specs.Table.{Line, Meeting, form, line_of, fanin_plan, from_input, on_each}
+use Rattle.pipe_model.specs.Table.{Line, form, line_of, fanin_plan, from_input, on_each}
 use Rattle.pipe_model.specs.Table.Meeting.{Ordered, Braided}
 use Rattle.pipe_model.specs.Table.Parting.{Queued}
 use Rattle.pipe_model.specs.Next.{has, without, learned, nothing_known}
@@ -284,20 +284,6 @@ sound_line s = by_kind s.kind
     }
     by_kind Elastic = hold_line (each_record copied) (line_of s Elastic) refl refl refl
     by_kind Copy = hold_line (each_record copied) (line_of s Copy) refl refl refl
-
--- strands of one kind are parted alike
-pub one_parting : (s t : Strand) → s.kind ≡ t.kind → (form s).parting ≡ (form t).parting
-one_parting s t one = by_kind s.kind ∙ ap (λ kind. (line_of t kind).parting) one
-  where
-    by_kind : (kind : Kind) → (line_of s kind).parting ≡ (line_of t kind).parting
-    by_kind (ConsoleIn bytes) = refl
-    by_kind ConsoleOut = refl
-    by_kind (Locate range text) = refl
-    by_kind FanOut = refl
-    by_kind FanIn = refl
-    by_kind FanInAny = refl
-    by_kind Elastic = refl
-    by_kind Copy = refl
 
 -- a strand reads no more inputs than twice its input places
 pub reach_near : (net : Net) → IsWellFormed net → (s : ℕ) (p : Strand) → strand_at net nothing_yet s ≡ Some p → reach_of p p.kind ≤ 2 * p.ports.inputs
