@@ -36,6 +36,7 @@ pub record IsReached (net : Net) (st : State) : Type 0 where
   -- as long as a record is in sight, its writer waits
   pub waits : (s : Who) (i : ℕ) (l : Link) → link_in net st s i ≡ Some l → l.queue ≡ false → has_ended (past st s) ≡ false → in_sight i (past st s) ≡ true → IsWriting net st l
 
+-- it holds before the first entry
 pub at_first : (net : Net) → IsReached net nothing_yet
 at_first net = record { own = λ s p e. tt; waits = λ s i l e q g x. cc }
 
@@ -84,6 +85,7 @@ not_took i _ h p = refl
 -- One event more
 
 module _ (net : Net) (formed : IsWellFormed net) (st : State) (reached : IsReached net st) (t : Who) (k : ℕ) (f : Event) (licensed : licence net st none_left t k ≡ Some f) where
+  -- its strand's history answers its own wants, and the others are as they were
   own_after : (s : Who) (p : Strand) → strand_at net st s ≡ Some p → IsOwn p (past (with_event st t f) s)
   own_after s p e = elim (equal_or_not s t) [
     | inl it ↦ subst (IsOwn p) (sym (ap (past (with_event st t f)) it ∙ at_same st t f))
@@ -91,6 +93,7 @@ module _ (net : Net) (formed : IsWellFormed net) (st : State) (reached : IsReach
     | inr other ↦ subst (IsOwn p) (sym (at_other st t f s other)) (reached.own s p e)
   ]
 
+  -- as long as a record is in sight, its writer waits still
   waits_after : (s : Who) (i : ℕ) (l : Link) → link_in net st s i ≡ Some l → l.queue ≡ false → has_ended (past (with_event st t f) s) ≡ false → in_sight i (past (with_event st t f) s) ≡ true → IsWriting net (with_event st t f) l
   waits_after s i l e plain going sight = still (elim (equal_or_not s t) [
     | inl it ↦
@@ -135,10 +138,12 @@ module _ (net : Net) (formed : IsWellFormed net) (st : State) (reached : IsReach
                 ∙ w.level;
           }
 
+  -- so all that holds of reached states holds after it
   pub reached_after : IsReached net (with_event st t f)
   reached_after = record { own = own_after; waits = waits_after }
 
 module _ (net : Net) (formed : IsWellFormed net) where
+  -- and after any licensed entry
   pub step_reached : (st : State) (e : Entry) → IsReached net st → IsLicensed net st e → IsReached net (step net st e)
   step_reached st e reached may =
       let x = the_event (licence net st none_left e.strand e.stream) may in
