@@ -10,22 +10,11 @@ use Rattle.pipe_model.specs.Table.{Meeting, form}
 use Rattle.pipe_model.specs.Table.Meeting.{Ordered, Braided, Loose}
 use Rattle.pipe_model.specs.State.{Who, below, nothing_yet, strand_at}
 use Rattle.pipe_model.specs.Licence.{first_part}
-use Rattle.pipe_model.specs.Settled.{IsSettled, is_settled}
+use Rattle.pipe_model.specs.Settled.{is_settled}
 use Rattle.pipe_model.specs.Plain.{waits_for_first, IsAcyclic, IsPlain, IsOrdered, height, rises, is_acyclic, is_plain, is_ordered, is_ordered_meeting}
 use Rattle.confluence_laws.proofs.Basics.{both, all_at, equal_or_not}
 use Rattle.confluence_laws.proofs.Ends.{at_place}
-
--- owed by B
-settled_if : (net : Net) → is_settled net ≡ true → IsSettled net
-settled_if net test = ?
-
--- what passes for all below n passes for each
-in_below : (p : ℕ → Bool) (n u : ℕ) → list_all p (below n) ≡ true → u < n → p u ≡ true
-in_below p zero u all lt = absurd (omega (arith, lt))
-in_below p (suc n) u all lt = elim (equal_or_not u n) [
-  | inl e ↦ subst (λ z. p z ≡ true) (sym e) (both (p n) (list_all p (below n)) all).0
-  | inr apart ↦ in_below p n u (both (p n) (list_all p (below n)) all).1 (omega (arith, lt, apart))
-]
+use Rattle.confluence_laws.proofs.Walks.{settled_if, in_below}
 
 less : (a b : ℕ) → nat_lt a b ≡ true → a < b
 less a b e = grind (arith, nat_tests)

@@ -13,7 +13,6 @@ pub mod Later
 pub mod LeftOut
 pub mod Legal
 pub mod Orders
-pub mod Owed
 pub mod Owns
 pub mod Passes
 pub mod Pending
@@ -24,6 +23,7 @@ pub mod Second
 pub mod Sights
 pub mod Sound
 pub mod Sums
+pub mod Total
 pub mod Walks
 pub mod Ways
 pub mod Within
