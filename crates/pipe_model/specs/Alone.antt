@@ -2,6 +2,7 @@
 use Rattle.std.specs.Prelude.{◌≡◌, ℕ, suc, Bool, true, false, not, nat_lt, if◌then◌else◌, List, [], ◌∷◌, ℤ, pos, negsuc, is_some, is_none, slice_get}
 use Rattle.std.specs.Bool.{MatchBool}
 use Rattle.std.specs.List.{list_any}
+use Rattle.std.specs.Ordering.{int_eq}
 use Rattle.std.specs.declared.option.Option.{Option}
 use Rattle.std.specs.declared.option.Option.TheVariants.{Some, None}
 use Rattle.pipe_model.specs.declared.net.Net.{Net}
@@ -121,10 +122,14 @@ cut net orders lists st s = record { inputs = inputs_of net lists s; order = ord
 abbrev pub IsSecondPass : Net → Orders → Lists → State → Type 0
 IsSecondPass net orders lists st = (s : Who) (p : Strand) → strand_at net nothing_yet s ≡ Some p → IsAllAlone p (cut net orders lists st s) (past st s)
 
--- A net in which a strand ends before its first commit
+-- A net in which a strand ends before its first commit, with a code other than 0
+
+abbrev pub is_bad : Option ℤ → Bool
+is_bad None = false
+is_bad (Some code) = not (int_eq code (pos 0))
 
 abbrev pub is_early : Strand → Bool
-is_early p = is_some (form p).row.early
+is_early p = is_bad (form p).row.early
 
 abbrev pub early_or_zero : Option ℤ → ℤ
 early_or_zero None = pos 0
