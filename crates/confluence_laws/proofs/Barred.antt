@@ -22,7 +22,7 @@ use Rattle.confluence_laws.proofs.Basics.{cond_some, both, equal_or_not, at_same
 use Rattle.confluence_laws.proofs.Later.{up_is}
 use Rattle.confluence_laws.proofs.Fitting.{past_of}
 use Rattle.confluence_laws.proofs.Pending.{mk}
-use Rattle.confluence_laws.proofs.Follow.{wants_in}
+use Rattle.confluence_laws.proofs.Asked.{wants_in}
 
 -- The worst of many codes
 

@@ -21,48 +21,7 @@ use Rattle.confluence_laws.proofs.Fitting.{PhaseFits, own_fits, past_of}
 use Rattle.confluence_laws.proofs.Pending.{IsBare, Matches, mk, filter_twice, live_before, IsAlike, bare_after, goal_after, take_after, goal_alike}
 use Rattle.confluence_laws.proofs.Within.{Within, from_start, grows, IsShown, IsSimple, IsLevel, IsPrimed, same_answer, write_told, alone_put}
 use Rattle.confluence_laws.proofs.Within.Within.{all}
-
--- a strand of a plain net in which no strand takes what comes first
-pub record IsPlainStrand (s : Strand) : Type 0 where
-  pub finite : (form s).finite ≡ true
-  pub ordered : (form s).meeting ≡ Ordered
-
--- what the strand wants where its past is known
-pub wants_in : (s : Strand) (h : List Event) (p : Past) → has_ended h ≡ false → past_of s h ≡ p → next s h ≡ want_in p.phase
-wants_in s h p going e = ap (λ b. cond b None (wanted_by (form s).row s.ports.has_output h)) going ∙ ap (λ q. want_in q.phase) e
-
--- who wants something wants it in its phase
-wants_so : (s : Strand) (h : List Event) (w : Want) → next s h ≡ Some w → want_in (past_of s h).phase ≡ Some w
-wants_so s h w want = (elim (has_ended h) as (λ b. cond b None (wanted_by (form s).row s.ports.has_output h) ≡ Some w → wanted_by (form s).row s.ports.has_output h ≡ Some w) [ true ↦ λ p. cc | false ↦ λ p. p ]) want
-
--- what such a strand asks for
-asked_simple : (want : Want) → IsFiniteLook want → Allows Ordered want → IsSimple want
-asked_simple (Read i) looks allowed = tt
-asked_simple Prime looks allowed = tt
-asked_simple Any looks allowed = absurd allowed
-asked_simple (Commit level) looks allowed = absurd looks
-asked_simple Gate looks allowed = absurd looks
-asked_simple (Take i) looks allowed = absurd looks
-asked_simple (Write o rec) looks allowed = absurd looks
-asked_simple (Issue text) looks allowed = absurd looks
-asked_simple (Join u) looks allowed = absurd looks
-asked_simple (Sever u) looks allowed = absurd looks
-asked_simple (Done code) looks allowed = absurd looks
-
--- what such a strand wants
-pub plain_want : (s : Strand) → IsPlainStrand s → (h : List Event) → IsOwn s h → (w : Want) → next s h ≡ Some w → IsSimple w ⊎ ((o : ℕ) × (rec : List ℕ) × (w ≡ Write o rec))
-plain_want s plain h own w want = by_phase (past_of s h).phase (own_fits s h own) (wants_so s h w want)
-  where
-    by_phase : (f : Phase) → PhaseFits (asking s s.kind) (past_of s h).known f → want_in f ≡ Some w → IsSimple w ⊎ ((o : ℕ) × (rec : List ℕ) × (w ≡ Write o rec))
-    by_phase (Starting level) fits p = inl (subst IsSimple (let z : Commit level ≡ w = cc in z) fits.1)
-    by_phase (Doing [] (Asks asked)) fits p =
-        let line = sound_line s in
-        inl (subst IsSimple (let z : asked ≡ w = cc in z) (asked_simple asked ((line.finite plain.finite).looks (past_of s h).known asked fits) (subst (λ m. Allows m asked) plain.ordered (line.allows (past_of s h).known asked fits))))
-    by_phase (Doing [] (Ends code)) fits p = inl (subst IsSimple (let z : Done code ≡ w = cc in z) tt)
-    by_phase (Doing (Writes o rec ∷ acts) goal) fits p = inr (o, rec, cc)
-    by_phase (Doing (Repeats o rec ∷ acts) goal) fits p = inr (o, rec, cc)
-    by_phase (Doing (Takes i ∷ acts) goal) fits p = inl (subst IsSimple (let z : Take i ≡ w = cc in z) tt)
-    by_phase Lost fits p = cc
+use Rattle.confluence_laws.proofs.Asked.{IsPlainStrand, wants_in, asked_simple}
 
 -- what can be done stands first
 abbrev FirstLive : List Bool → List ℕ → List Act → Type 0

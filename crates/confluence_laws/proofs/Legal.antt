@@ -10,6 +10,10 @@ use Rattle.pipe_model.specs.Table.{form}
 use Rattle.pipe_model.specs.State.{State, past, below, nothing_yet, strand_at}
 use Rattle.pipe_model.specs.Licence.{licence, none_left, want_after, want_at, answer, sight_of}
 use Rattle.pipe_model.specs.Play.{play, step, HasEnded, IsLegal, IsLegalFrom, IsComplete, IsLicensed}
+use Rattle.pipe_model.specs.Settled.{IsSettled}
+use Rattle.pipe_model.specs.Plain.{IsPlain, IsOrdered}
+use Rattle.confluence_laws.proofs.Walks.{settled_if}
+use Rattle.confluence_laws.proofs.Acyclic.{plain_if, ordered_if}
 use Rattle.confluence_laws.proofs.Basics.{both, equal_or_not}
 use Rattle.confluence_laws.specs.Examples.{entries, filtering, filtering_steps, joining, joining_steps}
 
@@ -74,3 +78,20 @@ filtering_complete = complete_if filtering (entries filtering_steps) refl
 
 pub filtering_ended : HasEnded filtering (play filtering (entries filtering_steps))
 filtering_ended = ended_if filtering (play filtering (entries filtering_steps)) refl
+
+-- The same under another name
+
+pub of_joining : (P : Net → List Entry → Type 0) (net : Net) (es : List Entry) → net ≡ joining → es ≡ entries joining_steps → P joining (entries joining_steps) → P net es
+of_joining P net es is_net is_dispatch holds = subst (λ (n : Net). P n es) (sym is_net) (subst (λ (d : List Entry). P joining d) (sym is_dispatch) holds)
+
+pub of_filtering : (P : Net → List Entry → Type 0) (net : Net) (es : List Entry) → net ≡ filtering → es ≡ entries filtering_steps → P filtering (entries filtering_steps) → P net es
+of_filtering P net es is_net is_dispatch holds = subst (λ (n : Net). P n es) (sym is_net) (subst (λ (d : List Entry). P filtering d) (sym is_dispatch) holds)
+
+pub joining_settled : IsSettled joining
+joining_settled = settled_if joining refl
+
+pub filtering_plain : IsPlain filtering
+filtering_plain = plain_if filtering refl
+
+pub filtering_ordered : IsOrdered filtering
+filtering_ordered = ordered_if filtering refl

@@ -1,4 +1,5 @@
 pub mod Acyclic
+pub mod Asked
 pub mod Barred
 pub mod Basics
 pub mod Braids

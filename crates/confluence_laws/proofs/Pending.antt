@@ -10,6 +10,7 @@ use Rattle.pipe_model.specs.Row.Goal.{Asks, Ends}
 use Rattle.pipe_model.specs.Next.{Phase, Past, has, flag_at, is_live, learned, begins_plan, after}
 use Rattle.pipe_model.specs.Next.Phase.{Starting, Doing, Lost}
 use Rattle.confluence_laws.proofs.Facts.{NoRepeats, taken}
+use Rattle.confluence_laws.proofs.Ends.{finite_live}
 
 -- nothing is left to do in it: it stands before one of the two commit levels, or is lost
 abbrev pub IsBare : Phase → Type 0
@@ -64,19 +65,12 @@ live_first outputs refused (Writes o rec) e = open_first (flag_at outputs o) ref
 live_first outputs refused (Repeats o rec) e = open_first (flag_at outputs o) refused o e
 live_first outputs refused (Takes i) e = refl
 
--- dropping acts makes none endless
-pub finite_filter : (test : Act → Bool) (acts : List Act) → NoRepeats acts → NoRepeats (filter test acts)
-finite_filter test [] finite = tt
-finite_filter test (Writes o rec ∷ acts) finite = elim (test (Writes o rec)) as (λ b. NoRepeats (cond b (Writes o rec ∷ filter test acts) (filter test acts))) [ true ↦ finite_filter test acts finite | false ↦ finite_filter test acts finite ]
-finite_filter test (Repeats o rec ∷ acts) finite = absurd finite
-finite_filter test (Takes i ∷ acts) finite = elim (test (Takes i)) as (λ b. NoRepeats (cond b (Takes i ∷ filter test acts) (filter test acts))) [ true ↦ finite_filter test acts finite | false ↦ finite_filter test acts finite ]
-
 -- both begin a plan
 begin_alike : (outputs : List Bool) (refused : List ℕ) (plan : Plan) → NoRepeats plan.acts → Matches outputs refused (begins_plan outputs refused plan) (begins_plan outputs [] plan)
 begin_alike outputs refused plan finite = inr (
   filter (is_live outputs []) plan.acts,
   plan.goal,
-  finite_filter (is_live outputs []) plan.acts finite,
+  finite_live outputs [] plan.acts finite,
   ap (λ z. Doing z plan.goal) (sym (filter_twice (is_live outputs []) (is_live outputs refused) plan.acts (live_first outputs refused))),
   refl,
 )

@@ -22,7 +22,8 @@ use Rattle.confluence_laws.proofs.Later.{actor_goes_on, ended_stays}
 use Rattle.confluence_laws.proofs.Owns.{answers_it}
 use Rattle.confluence_laws.proofs.Fitting.{past_of, still_wants}
 use Rattle.confluence_laws.proofs.Within.{same_answer, write_told, alone_put, alone_refused, IsPrimed}
-use Rattle.confluence_laws.proofs.Follow.{plain_want, follows_on, stays_cut}
+use Rattle.confluence_laws.proofs.Asked.{plain_want}
+use Rattle.confluence_laws.proofs.Follow.{follows_on, stays_cut}
 use Rattle.confluence_laws.proofs.Ways.{HasNoEarly, refused_before, plain_strand, IsFollowing, IsStopped, IsOnTheWay, way_begins, shown_whole}
 
 not_less_self : (n : ℕ) → nat_lt n n ≡ false

@@ -22,9 +22,10 @@ use Rattle.pipe_model.specs.WellFormed.{IsWellFormed}
 use Rattle.pipe_model.specs.Plain.{IsPlain, IsOrdered}
 use Rattle.pipe_model.specs.Alone.{Orders, Lists, list_on, whole, IsFirstPass, early_or_zero}
 use Rattle.confluence_laws.proofs.Basics.{cond_some, both, either, or_second, same_number, test_same, not_ended, from_in}
-use Rattle.confluence_laws.proofs.Fitting.{past_of}
+use Rattle.confluence_laws.proofs.Fitting.{past_of, still_wants}
 use Rattle.confluence_laws.proofs.Within.{is_all, longer, at_end, past_end, count_is, records_within, IsShown, IsLevel}
-use Rattle.confluence_laws.proofs.Follow.{IsPlainStrand, Follows, IsCutOff, follows_first, next_put}
+use Rattle.confluence_laws.proofs.Asked.{IsPlainStrand}
+use Rattle.confluence_laws.proofs.Follow.{Follows, IsCutOff, follows_first, next_put}
 
 -- where all connected outputs have refused, each of them has
 refused_there : (refused : List ℕ) (k : ℕ) (flags : List Bool) (o n : ℕ) → all_refused_from k flags refused ≡ true → flag_at flags o ≡ true → n ≡ k + o → has refused n ≡ true
@@ -34,10 +35,6 @@ refused_there refused k (f ∷ flags) zero n every flag e =
     let flagged : f ≡ true = flag in
     subst (λ z. has refused z ≡ true) (let z : k ≡ n = omega (arith, e) in z) (ap (λ z. not z || has refused k) (sym flagged) ∙ r)
 refused_there refused k (f ∷ flags) (suc o) n every flag e = refused_there refused (suc k) flags o n (both (not f || has refused k) (all_refused_from (suc k) flags refused) every).1 flag (omega (arith, e))
-
--- who goes on by an event wants, in its phase, what the event answers
-pub wants_still : (s : Strand) (h : List Event) (e : Event) → answers (next s h) e ≡ true → answers (want_in (past_of s h).phase) e ≡ true
-wants_still s h e fits = (elim (has_ended h) as (λ b. answers (cond b None (wanted_by (form s).row s.ports.has_output h)) e ≡ true → answers (wanted_by (form s).row s.ports.has_output h) e ≡ true) [ true ↦ λ p. cc | false ↦ λ p. p ]) fits
 
 -- a refusal adds its output to those that have refused
 refusal_adds : (refused : List ℕ) (i o : ℕ) → has (i ∷ refused) o ≡ true → (has refused o ≡ true) ⊎ (Refused i ≡ Refused o)
@@ -108,7 +105,7 @@ calm_always s calm [] own = inl (by_early (form s).row.early calm, refl)
     by_early : (early : Option ℤ) → early_or_zero early ≡ pos 0 → IsUnbegun (first_phase early) []
     by_early None e = tt
     by_early (Some code) e = e
-calm_always s calm (e ∷ h) own = calm_step (form s).row s.ports.has_output (past_of s h) (past_of s h).phase h e (wants_still s h e own.0) (calm_always s calm h own.1)
+calm_always s calm (e ∷ h) own = calm_step (form s).row s.ports.has_output (past_of s h) (past_of s h).phase h e (still_wants s h e own.0) (calm_always s calm h own.1)
 
 calm_code : (f : Phase) (h : List Event) (level : ℤ) → IsLevel level → IsCalm f h → early_code level h ≡ pos 0
 calm_code f h level is (inl x) = elim (has_reached level h) as (λ b. cond b (pos 0) (code_of h) ≡ pos 0) [ true ↦ refl | false ↦ x.1 ]
