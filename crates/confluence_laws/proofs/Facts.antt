@@ -1,10 +1,11 @@
 -- What the laws need of a row, and of a line of the stage table.
-use Rattle.std.proofs.Common.{◌≡◌, ◌≢◌, ℕ, suc, ◌<◌, ◌≤◌, ◌*◌, Bool, true, false, ◌==◌, List, [], ◌∷◌, length, pos, Some, refl}
+use Rattle.std.proofs.Common.{◌≡◌, ◌≢◌, ℕ, suc, ◌<◌, ◌≤◌, ◌*◌, Bool, true, false, ◌==◌, List, [], ◌∷◌, length, pos, Some, None, ℤ, refl}
 use Rattle.std.specs.List.{list_any}
 use Rattle.pipe_model.specs.declared.net.Strand.{Strand}
 use Rattle.pipe_model.specs.declared.kind.Kind.{Kind}
 use Rattle.pipe_model.specs.declared.kind.Kind.TheVariants.{ConsoleIn, ConsoleOut, Locate, FanOut, FanIn, FanInAny, Elastic, Copy}
 use Rattle.pipe_model.specs.Event.{Event, Want, answers}
+use Rattle.pipe_model.specs.Event.Event.{SawEnd}
 use Rattle.pipe_model.specs.Event.Want.{Commit, Read, Any, Gate, Take, Write, Prime, Issue, Join, Sever, Done}
 use Rattle.pipe_model.specs.Row.{Pair, Act, Goal, Plan, Known, Row}
 use Rattle.pipe_model.specs.Row.Act.{Writes, Repeats, Takes}
@@ -103,6 +104,13 @@ Allows Ordered _ = Unit {0}
 Allows Braided Gate = ⊥
 Allows Braided _ = Unit {0}
 Allows Loose want = Unit {0}
+
+-- the row begins by reading input 0, and ends where that has no record
+pub record IsPrimer (w : Row) : Type 0 where
+  pub late : w.early ≡ None
+  pub starts : w.plan nothing_known ≡ record { acts = []; goal = Asks (Read 0) }
+  pub code : ℤ
+  pub ends : (w.plan (learned nothing_known (SawEnd 0))).goal ≡ Ends code
 
 pub record IsSoundLine (A : Known → Want → Type 0) (line : Line) (reach : ℕ) : Type 0 where
   pub sound : IsSound A line.row reach

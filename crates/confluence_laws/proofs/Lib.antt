@@ -13,13 +13,14 @@ pub mod Follow
 pub mod Formed
 pub mod Later
 pub mod LeftOut
-pub mod Lengths
 pub mod Legal
+pub mod Lengths
 pub mod Orders
 pub mod Owns
 pub mod Passes
 pub mod Pending
 pub mod Prefixes
+pub mod Primers
 pub mod Rows
 pub mod Rules
 pub mod Second

@@ -8,7 +8,7 @@ use Rattle.pipe_model.specs.declared.kind.Kind.{Kind}
 use Rattle.pipe_model.specs.declared.kind.Kind.TheVariants.{ConsoleIn, ConsoleOut, Locate, FanOut, FanIn, FanInAny, Elastic, Copy}
 use Rattle.pipe_model.specs.Event.{Event, Want, answers}
 use Rattle.pipe_model.specs.Event.Event.{Saw, SawEnd, SawAllEnd}
-use Rattle.pipe_model.specs.Event.Want.{Read, Any}
+use Rattle.pipe_model.specs.Event.Want.{Read, Any, Prime}
 use Rattle.pipe_model.specs.Row.{Pair, Act, Goal, Plan, Known, Row, Stream, row, writes, source, hold, each_record, copied, selects, at_hand_of, through_plan, hold_plan, next_record}
 use Rattle.pipe_model.specs.Row.Act.{Takes}
 use Rattle.pipe_model.specs.Row.Goal.{Asks, Ends}
@@ -21,7 +21,7 @@ use Rattle.pipe_model.specs.Next.{has, without, learned, nothing_known}
 use Rattle.pipe_model.specs.State.{nothing_yet, strand_at}
 use Rattle.pipe_model.specs.WellFormed.{IsWellFormed, places_of}
 use Rattle.confluence_laws.proofs.Basics.{same_number, test_same}
-use Rattle.confluence_laws.proofs.Facts.{Fits, IsLook, IsSound, IsThin, IsFiniteRow, IsFiniteLook, IsSoundLine, ReadsOne, ReadsInTurn, LooksAtAny, NoWrites, ThinActs, NoRepeats, has_take, Allows, asking, reach_of, taken, sees}
+use Rattle.confluence_laws.proofs.Facts.{Fits, IsLook, IsSound, IsThin, IsFiniteRow, IsFiniteLook, IsSoundLine, IsPrimer, ReadsOne, ReadsInTurn, LooksAtAny, NoWrites, ThinActs, NoRepeats, has_take, Allows, asking, reach_of, taken, sees}
 
 -- Acts
 
@@ -304,6 +304,34 @@ sound_line s = by_kind s.kind
     by_kind Elastic = hold_line (each_record copied) (line_of s Elastic) refl refl refl
     by_kind Copy = hold_line (each_record copied) (line_of s Copy) refl refl refl
 
+<<<<<<< HEAD
+=======
+-- strands of one kind are parted alike
+pub one_parting : (s t : Strand) → s.kind ≡ t.kind → (form s).parting ≡ (form t).parting
+one_parting s t one = by_kind s.kind ∙ ap (λ kind. (line_of t kind).parting) one
+  where
+    by_kind : (kind : Kind) → (line_of s kind).parting ≡ (line_of t kind).parting
+    by_kind (ConsoleIn bytes) = refl
+    by_kind ConsoleOut = refl
+    by_kind (Locate range text) = refl
+    by_kind FanOut = refl
+    by_kind FanIn = refl
+    by_kind FanInAny = refl
+    by_kind Elastic = refl
+    by_kind Copy = refl
+
+-- where a strand asks whether the first strand of its stage sees a record, that one is a primer
+pub first_primes : (s first : Strand) (kind : Kind) (k : Known) → asking s kind k Prime → first.part ≡ 0 → IsPrimer (line_of first kind).row
+first_primes s first (ConsoleIn bytes) k asked part = absurd asked
+first_primes s first ConsoleOut k asked part = (let z = asked.want_is in cc)
+first_primes s first (Locate range text) k asked part = (let z = asked.want_is in cc)
+first_primes s first FanOut k asked part = (let z = asked.want_is in cc)
+first_primes s first FanIn k asked part = (let z = asked.want_is in cc)
+first_primes s first FanInAny k asked part = (let z = asked.want_is in cc)
+first_primes s first Elastic k asked part = (let z = asked.want_is in cc)
+first_primes s first Copy k asked part = (let z = asked.want_is in cc)
+
+>>>>>>> 1e1531ddb54fb650391cac55c35d94df7c3c72b3
 -- a strand reads no more inputs than twice its input places
 pub reach_near : (net : Net) → IsWellFormed net → (s : ℕ) (p : Strand) → strand_at net nothing_yet s ≡ Some p → reach_of p p.kind ≤ 2 * p.ports.inputs
 reach_near net formed s p at =
