@@ -1,5 +1,5 @@
 -- In a settled net a strand has one licensed entry at most.
-use Rattle.std.proofs.Common.{◌≡◌, ◌≢◌, ◌⊎◌, inl, inr, ℕ, suc, ◌<◌, ◌+◌, ◌-◌, Bool, true, false, cond, ◌&&◌, ◌||◌, not, ◌==◌, List, [], ◌∷◌, refl, sym, ◌∙◌, ap, subst, arith, Option, Some, None, slice_get, ℤ}
+use Rattle.std.proofs.Common.{◌≡◌, ◌≢◌, ◌⊎◌, inl, inr, ℕ, ◌<◌, ◌+◌, ◌-◌, Bool, true, false, cond, ◌&&◌, not, ◌==◌, List, [], ◌∷◌, refl, sym, ◌∙◌, ap, subst, arith, Option, Some, None, slice_get}
 use Rattle.pipe_model.specs.declared.net.Net.{Net}
 use Rattle.pipe_model.specs.declared.net.Link.{Link}
 use Rattle.pipe_model.specs.declared.net.Strand.{Strand}
@@ -7,7 +7,7 @@ use Rattle.pipe_model.specs.declared.step.Entry.{Entry}
 use Rattle.pipe_model.specs.Event.{Event, Want, puts_on, tooks_on, records_on, is_took, one_more, has_ended, in_sight, answers}
 use Rattle.pipe_model.specs.Event.Event.{Saw, SawAllEnd, Took, Severed, Ended}
 use Rattle.pipe_model.specs.Event.Want.{Commit, Read, Any, Gate, Take, Write, Prime, Issue, Join, Sever, Done}
-use Rattle.pipe_model.specs.Table.{Meeting, form}
+use Rattle.pipe_model.specs.Table.{Meeting, form, line_of}
 use Rattle.pipe_model.specs.Table.Meeting.{Ordered, Braided, Loose}
 use Rattle.pipe_model.specs.Table.Parting.{Queued}
 use Rattle.pipe_model.specs.Next.{next, IsOwn}
@@ -18,8 +18,8 @@ use Rattle.pipe_model.specs.WellFormed.{IsWellFormed, strands_of}
 use Rattle.pipe_model.specs.Settled.{is_thin, OnWalk, IsBraided, IsSettled, Meets}
 use Rattle.pipe_model.specs.Settled.OnWalk.{comes_from, passes}
 use Rattle.confluence_laws.proofs.Basics.{cond_some, both, the_event, same_number, equal_or_not, at_same, at_other, found_at, not_ended, from_in}
-use Rattle.confluence_laws.proofs.Facts.{Allows, asking}
-use Rattle.confluence_laws.proofs.Sound.{sound_line, one_parting}
+use Rattle.confluence_laws.proofs.Facts.{Allows, same_parting}
+use Rattle.confluence_laws.proofs.Sound.{sound_line}
 use Rattle.confluence_laws.proofs.Fitting.{past_of, stands_for}
 use Rattle.confluence_laws.proofs.Later.{over_there, not_writer, same_want, actor_goes_on}
 use Rattle.confluence_laws.proofs.Owns.{answers_it, saw_asked, sight_before, thin_never_any, thin_writes}
@@ -36,6 +36,7 @@ pub record IsReached (net : Net) (st : State) : Type 0 where
   -- as long as a record is in sight, its writer waits
   pub waits : (s : Who) (i : ℕ) (l : Link) → link_in net st s i ≡ Some l → l.queue ≡ false → has_ended (past st s) ≡ false → in_sight i (past st s) ≡ true → IsWriting net st l
 
+-- it holds before the first entry
 pub at_first : (net : Net) → IsReached net nothing_yet
 at_first net = record { own = λ s p e. tt; waits = λ s i l e q g x. cc }
 
@@ -84,6 +85,7 @@ not_took i _ h p = refl
 -- One event more
 
 module _ (net : Net) (formed : IsWellFormed net) (st : State) (reached : IsReached net st) (t : Who) (k : ℕ) (f : Event) (licensed : licence net st none_left t k ≡ Some f) where
+  -- its strand's history answers its own wants, and the others are as they were
   own_after : (s : Who) (p : Strand) → strand_at net st s ≡ Some p → IsOwn p (past (with_event st t f) s)
   own_after s p e = elim (equal_or_not s t) [
     | inl it ↦ subst (IsOwn p) (sym (ap (past (with_event st t f)) it ∙ at_same st t f))
@@ -91,6 +93,7 @@ module _ (net : Net) (formed : IsWellFormed net) (st : State) (reached : IsReach
     | inr other ↦ subst (IsOwn p) (sym (at_other st t f s other)) (reached.own s p e)
   ]
 
+  -- as long as a record is in sight, its writer waits still
   waits_after : (s : Who) (i : ℕ) (l : Link) → link_in net st s i ≡ Some l → l.queue ≡ false → has_ended (past (with_event st t f) s) ≡ false → in_sight i (past (with_event st t f) s) ≡ true → IsWriting net (with_event st t f) l
   waits_after s i l e plain going sight = still (elim (equal_or_not s t) [
     | inl it ↦
@@ -135,10 +138,12 @@ module _ (net : Net) (formed : IsWellFormed net) (st : State) (reached : IsReach
                 ∙ w.level;
           }
 
+  -- so all that holds of reached states holds after it
   pub reached_after : IsReached net (with_event st t f)
   reached_after = record { own = own_after; waits = waits_after }
 
 module _ (net : Net) (formed : IsWellFormed net) where
+  -- and after any licensed entry
   pub step_reached : (st : State) (e : Entry) → IsReached net st → IsLicensed net st e → IsReached net (step net st e)
   step_reached st e reached may =
       let x = the_event (licence net st none_left e.strand e.stream) may in
@@ -205,7 +210,7 @@ queue_to net formed j l p at queue is =
     let place : l.from - q.producer.part + 1 ≡ l.to = (let first = q.first in let next_is = q.second in omega arith) in
     let it : Some second.0 ≡ Some p = sym second.1 ∙ ap (strand_at net nothing_yet) place ∙ is in
     let one : second.0 ≡ p = cc in
-    one_parting p q.producer (ap (λ z. z.kind) (sym one) ∙ second.4) ∙ q.queued
+    ap (λ kind. (line_of p kind).parting) (ap (λ z. z.kind) (sym one) ∙ second.4) ∙ same_parting q.producer p q.producer.kind ∙ q.queued
 
 module _ (net : Net) (formed : IsWellFormed net) (st : State) (reached : IsReached net st) where
   -- no queue leads to a strand that isn't one of two

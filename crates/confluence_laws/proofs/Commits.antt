@@ -10,7 +10,7 @@ use Rattle.pipe_model.specs.declared.net.Net.{Net}
 use Rattle.pipe_model.specs.declared.net.Strand.{Strand}
 use Rattle.pipe_model.specs.declared.step.Entry.{Entry}
 use Rattle.pipe_model.specs.Code.{worst_of}
-use Rattle.pipe_model.specs.Event.{Event, Want, answers, has_ended, has_reached, has_up, code_of, moves}
+use Rattle.pipe_model.specs.Event.{Event, Want, answers, has_ended, has_reached, has_up, moves}
 use Rattle.pipe_model.specs.Event.Event.{Up, Saw, Took, Put, Refused, Ended}
 use Rattle.pipe_model.specs.Event.Want.{Commit, Done}
 use Rattle.pipe_model.specs.Row.{Act, Goal, Row}
@@ -68,6 +68,7 @@ UpTo (Doing [] (Asks want)) h = Went h
 UpTo (Doing (act ∷ acts) goal) h = Went h
 UpTo Lost h = Stopped h
 
+-- a number passes the test with itself
 int_refl : (c : ℤ) → int_eq c c ≡ true
 int_refl c = (Decides-int_eq c c).1 refl
 
@@ -76,6 +77,7 @@ up_on : (l c : ℤ) (e : Event) (h : List Event) → has_up l c h ≡ true → h
 up_on l c (Up l' c') h p = or_second (int_eq l' l && int_eq c' c) (has_up l c h) p
 up_on l c _ h p = p
 
+-- a level is reached by its event
 up_here : (l c : ℤ) (h : List Event) → has_up l c (Up l c ∷ h) ≡ true
 up_here l c h = ap (λ b. (b && int_eq c c) || has_up l c h) (int_refl l) ∙ ap (λ b. b || has_up l c h) (int_refl c)
 
@@ -89,6 +91,7 @@ with_code l (Up m c ∷ h) p = (elim (int_eq m l) as (λ b. int_eq m l ≡ b →
 with_code l (Saw i rec ∷ h) p = with_code l h p
 with_code l (_ ∷ h) p = with_code l h p
 
+-- what was reached with a code was reached
 reached_up : (l c : ℤ) (h : List Event) → has_up l c h ≡ true → has_reached l h ≡ true
 reached_up l c [] p = cc
 reached_up l c (Up m d ∷ h) p = (elim (int_eq m l) as (λ b. ((b && int_eq d c) || has_up l c h) ≡ true → (b || has_reached l h) ≡ true) [
@@ -97,17 +100,21 @@ reached_up l c (Up m d ∷ h) p = (elim (int_eq m l) as (λ b. ((b && int_eq d c
 ]) p
 reached_up l c (_ ∷ h) p = reached_up l c h p
 
+-- a level that was reached stays reached
 reach_on : (l : ℤ) (e : Event) (h : List Event) → has_reached l h ≡ true → has_reached l (e ∷ h) ≡ true
 reach_on l (Up m c) h p = or_second (int_eq m l) (has_reached l h) p
 reach_on l _ h p = p
 
+-- whoever went on has gone on after one event more
 went_on : (e : Event) (h : List Event) → Went h → Went (e ∷ h)
 went_on e h w = (up_on (pos 0) (pos 0) e h w.0, up_on (negsuc 0) (pos 0) e h w.1)
 
+-- and whoever stopped has stopped
 stopped_on : (e : Event) (h : List Event) → Stopped h → Stopped (e ∷ h)
 stopped_on e h (inl p) = inl (reach_on (pos 0) e h p)
 stopped_on e h (inr p) = inr (p.0, p.1, up_on (negsuc 0) p.0 e h p.2)
 
+-- whoever went on may stop
 stops : (h : List Event) → Went h → Stopped h
 stops h w = inl (reached_up (pos 0) (pos 0) h w.0)
 
@@ -118,6 +125,7 @@ went_doing [] (Asks want) h went = went
 went_doing (act ∷ acts) goal h went = went
 
 module _ (w : Row) (outputs : List Bool) where
+  -- an event leaves the strand as far as its phase says
   up_step : (p : Past) (f : Phase) (h : List Event) (e : Event) → p.phase ≡ f → answers (want_in f) e ≡ true → UpTo f h → UpTo (after w outputs p f e).phase (e ∷ h)
   up_step p (Starting (negsuc zero)) h (Up l c) at it is =
       (elim (int_eq c (pos 0)) as (λ b. int_eq c (pos 0) ≡ b → UpTo (cond b (Starting (pos 0)) (Doing [] (Ends (pos 0)))) (Up l c ∷ h)) [
@@ -157,14 +165,17 @@ module _ (w : Row) (outputs : List Bool) where
   up_step p (Doing (Takes i ∷ acts) goal) h _ at it is = cc
   up_step p Lost h e at it is = cc
 
+-- no record moves by a commit
 commit_moves : (l : ℤ) (e : Event) → answers (Some (Commit l)) e ≡ true → moves e ≡ true → ⊥
 commit_moves l (Up m c) it move = cc
 commit_moves l _ it move = cc
 
+-- nor by an end
 done_moves : (c : ℤ) (e : Event) → answers (Some (Done c)) e ≡ true → moves e ≡ true → ⊥
 done_moves c (Ended d) it move = cc
 done_moves c _ it move = cc
 
+-- whoever ends wanted to
 done_asked : (want : Option Want) (code : ℤ) → answers want (Ended code) ≡ true → want ≡ Some (Done code)
 done_asked (Some (Done c)) code it = ap (λ z. Some (Done z)) (sym ((Decides-int_eq code c).0 it))
 done_asked None code it = cc
@@ -177,6 +188,7 @@ nothing_more s e h it ended = (let q : answers (next s h) e ≡ false = ap (λ b
 -- A strand that doesn't end before its first commit
 
 module _ (s : Strand) (late : (form s).row.early ≡ None) where
+  -- wherever the strand stands, it went as far as that says
   up_to : (h : List Event) → IsOwn s h → UpTo (past_of s h).phase h
   up_to [] own = subst (λ m. UpTo (first_phase m) []) (sym late) tt
   up_to (e ∷ h) own =
@@ -253,6 +265,7 @@ up_level net st t k l c may =
     let u = up_is l (Up l c) (level_of net st none_left t l) (cond_some (k == 0) (up_answer l (level_of net st none_left t l)) does).1 in
     (let one : u.0 ≡ c = (let z : Up l u.0 ≡ Up l c = u.1 in cc) in u.2 ∙ ap Some one)
 
+-- what was reached was reached before, or now
 up_before : (l c : ℤ) (f : Event) (h : List Event) → has_up l c (f ∷ h) ≡ true → (has_up l c h ≡ true) ⊎ (f ≡ Up l c)
 up_before l c (Up m d) h p = (elim (int_eq m l && int_eq d c) as (λ b. (int_eq m l && int_eq d c) ≡ b → (b || has_up l c h) ≡ true → (has_up l c h ≡ true) ⊎ (Up m d ≡ Up l c)) [
   | true ↦ λ e q. let r = both (int_eq m l) (int_eq d c) e in inr (ap (λ z. Up z d) ((Decides-int_eq m l).0 r.0) ∙ ap (Up l) ((Decides-int_eq d c).0 r.1))
@@ -260,6 +273,7 @@ up_before l c (Up m d) h p = (elim (int_eq m l && int_eq d c) as (λ b. (int_eq 
 ]) refl p
 up_before l c _ h p = inl p
 
+-- an event leaves all levels agreed
 agreed_after : (net : Net) → IsWellFormed net → (st : State) (t : Who) (f : Event) (k : ℕ) → licence net st none_left t k ≡ Some f → IsAgreed net st → IsAgreed net (with_event st t f)
 agreed_after net formed st t f k licensed agreed u l c p = level_stays net formed st t f k licensed u l c (elim (equal_or_not u t) [
   | inr other ↦ agreed u l c (subst (λ x. has_up l c x ≡ true) (at_other st t f u other) p)
@@ -270,6 +284,7 @@ agreed_after net formed st t f k licensed agreed u l c p = level_stays net forme
     by_event (inl before) = agreed t l c before
     by_event (inr now) = up_level net st t k l c (licensed ∙ ap Some now)
 
+-- and so does a legal dispatch
 play_agreed : (net : Net) → IsWellFormed net → (st : State) (es : List Entry) → IsAgreed net st → IsLegalFrom net st es → IsAgreed net (play_from net st es)
 play_agreed net formed st [] agreed legal = agreed
 play_agreed net formed st (e ∷ es) agreed legal =
@@ -283,6 +298,7 @@ early_below st l (suc n) u zero_worst lt =
     let r = worst_parts (early_code l (past st n)) (worst_early st l (below n)) zero_worst in
     elim (equal_or_not u n) [ inl it ↦ ap (λ z. early_code l (past st z)) it ∙ r.0 | inr other ↦ early_below st l n u r.1 (omega arith) ]
 
+-- below the length something stands
 at_some : {A : Type 0} (xs : List A) (i : ℕ) → i < length xs → (x : A) × (slice_get xs i ≡ Some x)
 at_some [] i lt = absurd (omega arith)
 at_some (x ∷ xs) zero lt = (x, refl)
@@ -291,6 +307,7 @@ at_some (x ∷ xs) (suc i) lt = at_some xs i (omega arith)
 -- Where a record moves
 
 module _ (net : Net) (st : State) (reached : IsReached net st) (agreed : IsAgreed net st) (s : Who) (k : ℕ) (e : Event) (may : licence net st none_left s k ≡ Some e) (move : moves e ≡ true) where
+  -- the mover went on past level 0
   went_s : Went (past st s)
   went_s = by_strand (strand_at net st s) refl (answers_it net st s k e may)
     where

@@ -1,18 +1,18 @@
 -- The machine over a sound row: wherever a strand stands, what it is to do can be done.
-use Rattle.std.proofs.Common.{◌≡◌, ◌⊎◌, inl, inr, ℕ, zero, suc, ◌<◌, Bool, true, false, cond, ◌&&◌, ◌||◌, not, ◌==◌, List, [], ◌∷◌, ◌++◌, refl, sym, ◌∙◌, ap, subst, arith, Option, Some, None, ℤ, pos, negsuc}
+use Rattle.std.proofs.Common.{◌≡◌, ◌⊎◌, inl, inr, ℕ, zero, suc, ◌<◌, Bool, true, false, cond, ◌&&◌, ◌||◌, not, ◌==◌, List, [], ◌∷◌, ◌++◌, refl, sym, ◌∙◌, ap, subst, arith, Some, None, pos, negsuc}
 use Rattle.std.specs.Prelude.{filter}
 use Rattle.std.specs.List.{list_all}
 use Rattle.std.specs.Ordering.{int_eq}
 use Rattle.std.proofs.lemmas.Bool.Decides.{nat_tests}
 use Rattle.pipe_model.specs.declared.net.Strand.{Strand}
 use Rattle.pipe_model.specs.Event.{Event, Want, answers, in_sight, has_ended, has_seen_end}
-use Rattle.pipe_model.specs.Event.Event.{Up, Saw, SawEnd, SawAllEnd, Took, Put, Refused, Primed, Opened, Joined, Severed, Ended}
-use Rattle.pipe_model.specs.Event.Want.{Commit, Read, Any, Gate, Take, Write, Prime, Issue, Join, Sever, Done}
-use Rattle.pipe_model.specs.Row.{Pair, Act, Goal, Plan, Known, Row}
+use Rattle.pipe_model.specs.Event.Event.{Up, Saw, SawEnd, Took, Put, Refused, Ended}
+use Rattle.pipe_model.specs.Event.Want.{Commit, Read, Any, Gate, Take, Write, Done}
+use Rattle.pipe_model.specs.Row.{Pair, Act, Goal, Known, Row}
 use Rattle.pipe_model.specs.Row.Act.{Writes, Repeats, Takes}
 use Rattle.pipe_model.specs.Row.Goal.{Asks, Ends}
 use Rattle.pipe_model.specs.Table.{form}
-use Rattle.pipe_model.specs.Next.{Phase, Past, begins_plan, doing, past_by, after, want_in, wanted_by, next, learned, without, has, nothing_known, first_phase, is_live, is_open, is_refused, IsOwn}
+use Rattle.pipe_model.specs.Next.{Phase, Past, begins_plan, doing, past_by, after, want_in, next, learned, without, has, nothing_known, first_phase, is_live, is_open, is_refused, IsOwn}
 use Rattle.pipe_model.specs.Next.Phase.{Starting, Doing, Lost}
 use Rattle.confluence_laws.proofs.Basics.{both, same_number}
 use Rattle.confluence_laws.proofs.Facts.{Fits, IsLook, IsSound, asking, reach_of, sees, taken}
@@ -43,6 +43,7 @@ fits_filter A outputs refused k (Takes i ∷ acts) goal fits = (fits.0, fits_fil
 pub still_wants : (s : Strand) (h : List Event) (e : Event) → answers (next s h) e ≡ true → answers (want_in (past_of s h).phase) e ≡ true
 still_wants s h e it = (elim (has_ended h) as (λ b. answers (cond b None (want_in (past_of s h).phase)) e ≡ true → answers (want_in (past_of s h).phase) e ≡ true) [ true ↦ λ x. cc | false ↦ λ x. x ]) it
 
+-- what it wants is what its phase wants, and it hasn't ended
 pub wants_now : (s : Strand) (h : List Event) (want : Want) → next s h ≡ Some want → (want_in (past_of s h).phase ≡ Some want) × (has_ended h ≡ false)
 wants_now s h want it = (elim (has_ended h) as (λ b. cond b None (want_in (past_of s h).phase) ≡ Some want → (want_in (past_of s h).phase ≡ Some want) × (b ≡ false)) [ true ↦ λ x. cc | false ↦ λ x. (x, refl) ]) it
 
@@ -57,6 +58,7 @@ pub record Knows (k : Known) (h : List Event) : Type 0 where
   pub sight : (i : ℕ) → sees i k.sight ≡ in_sight i h
   pub ends : (i : ℕ) → has k.ends i ≡ has_seen_end i h
 
+-- a record more in sight
 sees_more : (i : ℕ) (sight : List Pair) (j : ℕ) (rec : List ℕ) → sees i (sight ++ (j, rec) ∷ []) ≡ ((j == i) || sees i sight)
 sees_more i [] j rec = refl
 sees_more i (p ∷ ps) j rec = ap (λ b. (p.0 == i) || b) (sees_more i ps j rec) ∙ swap (p.0 == i) (j == i) (sees i ps)
@@ -67,6 +69,7 @@ sees_more i (p ∷ ps) j rec = ap (λ b. (p.0 == i) || b) (sees_more i ps j rec)
     swap false true c = refl
     swap false false c = refl
 
+-- a record on an input that had none in sight leaves each input one at most
 once_more : (sight : List Pair) (j : ℕ) (rec : List ℕ) → IsOnce sight → sees j sight ≡ false → IsOnce (sight ++ (j, rec) ∷ [])
 once_more [] j rec once unseen = (refl, tt)
 once_more (p ∷ ps) j rec once unseen =
@@ -107,6 +110,7 @@ sees_without i j (p ∷ ps) once = (elim (p.0 == j) as (λ b. (p.0 == j) ≡ b �
         unlike : (p.0 == i) ≡ true → (j == i) ≡ false
         unlike is = grind (arith, nat_tests)
 
+-- and so does taking one
 once_without : (j : ℕ) (sight : List Pair) → IsOnce sight → IsOnce (without j sight)
 once_without j [] once = tt
 once_without j (p ∷ ps) once = elim (p.0 == j) as (λ b. IsOnce (cond b ps (p ∷ without j ps))) [
@@ -121,6 +125,7 @@ once_without j (p ∷ ps) once = elim (p.0 == j) as (λ b. IsOnce (cond b ps (p 
 -- One event more
 
 module _ (A : Known → Want → Type 0) (w : Row) (reach : ℕ) (sound : IsSound A w reach) (outputs : List Bool) where
+  -- an event leaves the strand where its acts can be done
   fits_step : (p : Past) (f : Phase) (e : Event) → p.phase ≡ f → answers (want_in f) e ≡ true → PhaseFits A p.known f → PhaseFits A (after w outputs p f e).known (after w outputs p f e).phase
   fits_step p (Starting (negsuc zero)) (Up level code) at it fits = elim (int_eq code (pos 0)) as (λ b. PhaseFits A p.known (cond b (Starting (pos 0)) (Doing [] (Ends (pos 0))))) [ true ↦ (fits.0, inr refl) | false ↦ tt ]
   fits_step p (Starting (negsuc (suc n))) (Up level code) at it fits = elim fits.1 [ inl is ↦ cc | inr is ↦ cc ]
@@ -168,6 +173,7 @@ module _ (A : Known → Want → Type 0) (w : Row) (reach : ℕ) (sound : IsSoun
   knows_told k _ h (Took j) it look knows = cc
   knows_told k want h _ it look knows = record { once = knows.once; sight = knows.sight; ends = knows.ends }
 
+  -- an event leaves the strand with what its history tells
   knows_step : (p : Past) (f : Phase) (h : List Event) (e : Event) → answers (want_in f) e ≡ true → PhaseFits A p.known f → Knows p.known h → Knows (after w outputs p f e).known (e ∷ h)
   knows_step p (Starting (negsuc zero)) h (Up level code) it fits knows = record { once = knows.once; sight = knows.sight; ends = knows.ends }
   knows_step p (Starting _) h (Up level code) it fits knows = record { once = knows.once; sight = knows.sight; ends = knows.ends }
@@ -192,6 +198,7 @@ module _ (A : Known → Want → Type 0) (w : Row) (reach : ℕ) (sound : IsSoun
   knows_step p (Doing (Takes i ∷ acts) goal) h _ it fits knows = cc
   knows_step p Lost h e it fits knows = cc
 
+-- wherever a strand stands, its acts can be done
 pub own_fits : (s : Strand) (h : List Event) → IsOwn s h → PhaseFits (asking s s.kind) (past_of s h).known (past_of s h).phase
 own_fits s [] own = elim (form s).row.early as (λ m. PhaseFits (asking s s.kind) nothing_known (first_phase m)) [ None ↦ (refl, inl refl) | Some code ↦ tt ]
 own_fits s (e ∷ h) own =
@@ -233,6 +240,7 @@ all_filter p (a ∷ acts) = (elim (p a) as (λ b. p a ≡ b → list_all p (cond
 ]) refl
 
 module _ (A : Known → Want → Type 0) (w : Row) (outputs : List Bool) where
+  -- an event leaves only what can be done
   lives_step : (p : Past) (f : Phase) (e : Event) → p.phase ≡ f → PhaseFits A p.known f → answers (want_in f) e ≡ true → PhaseLives outputs p.refused f → PhaseLives outputs (after w outputs p f e).refused (after w outputs p f e).phase
   lives_step p (Starting (negsuc zero)) (Up level code) at fits it lives = elim (int_eq code (pos 0)) as (λ b. PhaseLives outputs p.refused (cond b (Starting (pos 0)) (Doing [] (Ends (pos 0))))) [ true ↦ tt | false ↦ refl ]
   lives_step p (Starting (negsuc (suc n))) (Up level code) at fits it lives = elim fits.1 [ inl is ↦ cc | inr is ↦ cc ]
@@ -265,6 +273,7 @@ module _ (A : Known → Want → Type 0) (w : Row) (outputs : List Bool) where
   lives_step p (Doing (Takes i ∷ acts) goal) _ at fits it lives = tt
   lives_step p Lost e at fits it lives = tt
 
+-- wherever a strand stands, nothing is to be written on an output that isn't open
 pub own_lives : (s : Strand) (h : List Event) → IsOwn s h → PhaseLives s.ports.has_output (past_of s h).refused (past_of s h).phase
 own_lives s [] own = elim (form s).row.early as (λ m. PhaseLives s.ports.has_output [] (first_phase m)) [ None ↦ tt | Some code ↦ refl ]
 own_lives s (e ∷ h) own =
@@ -285,6 +294,7 @@ StandsFor s h (Write o rec) = IsWriter s h o rec
 StandsFor s h (Done code) = (past_of s h).phase ≡ Doing [] (Ends code)
 StandsFor s h want = IsAsker s h want
 
+-- a strand stands where what it wants is done
 pub stands_for : (s : Strand) (h : List Event) → IsOwn s h → (want : Want) → next s h ≡ Some want → StandsFor s h want
 stands_for s h own want next_is = by_phase (past_of s h).phase refl (own_fits s h own) (own_lives s h own) (wants_now s h want next_is).0
   where

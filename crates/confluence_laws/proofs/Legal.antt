@@ -11,7 +11,9 @@ use Rattle.pipe_model.specs.State.{State, past, below, nothing_yet, strand_at}
 use Rattle.pipe_model.specs.Licence.{licence, none_left, want_after, want_at, answer, sight_of}
 use Rattle.pipe_model.specs.Play.{play, step, HasEnded, IsLegal, IsLegalFrom, IsComplete, IsLicensed}
 use Rattle.pipe_model.specs.Settled.{IsSettled}
+use Rattle.pipe_model.specs.Plain.{IsPlain, IsOrdered}
 use Rattle.confluence_laws.proofs.Walks.{settled_if}
+use Rattle.confluence_laws.proofs.Acyclic.{plain_if, ordered_if}
 use Rattle.confluence_laws.proofs.Basics.{both, equal_or_not}
 use Rattle.confluence_laws.specs.Examples.{entries, filtering, filtering_steps, joining, joining_steps}
 
@@ -87,3 +89,9 @@ of_filtering P net es is_net is_dispatch holds = subst (λ (n : Net). P n es) (s
 
 pub joining_settled : IsSettled joining
 joining_settled = settled_if joining refl
+
+pub filtering_plain : IsPlain filtering
+filtering_plain = plain_if filtering refl
+
+pub filtering_ordered : IsOrdered filtering
+filtering_ordered = ordered_if filtering refl

@@ -14,6 +14,7 @@ pub mod Formed
 pub mod Later
 pub mod LeftOut
 pub mod Legal
+pub mod Lengths
 pub mod Orders
 pub mod Owns
 pub mod Passes

@@ -1,5 +1,5 @@
 -- Each kind's line of the stage table is sound: what a kind that comes later owes.
-use Rattle.std.proofs.Common.{◌≡◌, ◌≢◌, ℕ, zero, suc, ◌≤◌, ◌<◌, ◌+◌, ◌*◌, Bool, true, false, cond, ◌==◌, ◌||◌, List, [], ◌∷◌, ◌++◌, length, refl, sym, ◌∙◌, ap, subst, arith, Option, Some, None, ℤ, pos, min}
+use Rattle.std.proofs.Common.{◌≡◌, ℕ, suc, ◌≤◌, ◌<◌, ◌*◌, Bool, true, false, cond, ◌==◌, ◌||◌, List, [], ◌∷◌, ◌++◌, length, refl, sym, ◌∙◌, ap, subst, arith, Some, None, ℤ, pos}
 use Rattle.std.specs.Prelude.{nat_lt, map}
 use Rattle.std.proofs.lemmas.Bool.Decides.{nat_tests}
 use Rattle.pipe_model.specs.declared.net.Net.{Net}
@@ -10,11 +10,11 @@ use Rattle.pipe_model.specs.Event.{Event, Want, answers}
 use Rattle.pipe_model.specs.Event.Event.{Saw, SawEnd, SawAllEnd}
 use Rattle.pipe_model.specs.Event.Want.{Read, Any, Prime}
 use Rattle.pipe_model.specs.Row.{Pair, Act, Goal, Plan, Known, Row, Stream, row, writes, source, hold, each_record, copied, selects, at_hand_of, through_plan, hold_plan, next_record}
-use Rattle.pipe_model.specs.Row.Act.{Takes, Writes}
+use Rattle.pipe_model.specs.Row.Act.{Takes}
 use Rattle.pipe_model.specs.Row.Goal.{Asks, Ends}
 use Rattle.pipe_model.specs.Records.{lines}
 use Rattle.pipe_model.specs.Ranges.{locates}
-use Rattle.pipe_model.specs.Table.{Line, Meeting, form, line_of, fanin_plan, from_input, on_each}
+use Rattle.pipe_model.specs.Table.{Line, form, line_of, fanin_plan, from_input, on_each}
 use Rattle.pipe_model.specs.Table.Meeting.{Ordered, Braided}
 use Rattle.pipe_model.specs.Table.Parting.{Queued}
 use Rattle.pipe_model.specs.Next.{has, without, learned, nothing_known}
@@ -40,14 +40,17 @@ fits_next : (A : Known → Want → Type 0) (k : Known) (stops : Bool) (code : �
 fits_next A k true code look a = tt
 fits_next A k false code look a = a
 
+-- writes and then a taking are what a thin row does
 thin_writes : (ps : List Pair) (i : ℕ) → (has_take (writes ps ++ Takes i ∷ []) ≡ true) × ThinActs (writes ps ++ Takes i ∷ [])
 thin_writes [] i = (refl, tt)
 thin_writes (p ∷ ps) i = let rest = thin_writes ps i in (rest.0, rest)
 
+-- writes add no endless pairs
 no_repeats : (ps : List Pair) (acts : List Act) → NoRepeats acts → NoRepeats (writes ps ++ acts)
 no_repeats [] acts none = none
 no_repeats (p ∷ ps) acts none = no_repeats ps acts none
 
+-- and are none
 only_writes : (ps : List Pair) → NoRepeats (writes ps)
 only_writes [] = tt
 only_writes (p ∷ ps) = only_writes ps
@@ -56,6 +59,7 @@ only_writes (p ∷ ps) = only_writes ps
 sees_new : (sight : List Pair) (i : ℕ) (rec : List ℕ) → sight ≡ [] → sees i (sight ++ (i, rec) ∷ []) ≡ true
 sees_new sight i rec none = subst (λ z. sees i (z ++ (i, rec) ∷ []) ≡ true) (sym none) (ap (λ b. b || false) (test_same i))
 
+-- and once it is taken none is in sight
 without_new : (sight : List Pair) (i : ℕ) (rec : List ℕ) → sight ≡ [] → without i (sight ++ (i, rec) ∷ []) ≡ []
 without_new sight i rec none = subst (λ z. without i (z ++ (i, rec) ∷ []) ≡ []) (sym none) (ap (λ b. cond b [] ((i, rec) ∷ [])) (test_same i))
 
@@ -78,6 +82,7 @@ abbrev at_sight : Stream → Want → Known → ℕ → Bool → Plan
 at_sight t look k i b = cond b (record { acts = []; goal = Ends (t.code k.seen) }) (record { acts = writes (t.outs k.seen) ++ Takes i ∷ []; goal = next_record t k.seen look })
 
 module _ (A : Known → Want → Type 0) (look : Want) (reach : ℕ) (looking : IsLooking A look reach) (t : Stream) where
+  -- what it does by an answer fits
   through_goes : (k : Known) (want : Want) (e : Event) → A k want → Fits A (learned k e) (through_plan t look (learned k e) (learned k e).told).acts (through_plan t look (learned k e) (learned k e).told).goal
   through_goes k want (Saw i rec) a =
       let now = learned k (Saw i rec) in
@@ -89,6 +94,7 @@ module _ (A : Known → Want → Type 0) (look : Want) (reach : ℕ) (looking : 
   through_goes k want SawAllEnd a = fits_only A (learned k SawAllEnd) (t.last k.seen) (Ends (t.code k.seen)) tt
   through_goes k want _ a = tt
 
+  -- so the row is sound
   through_sound : (yields : Bool) → IsSound A (through_row t look yields) reach
   through_sound yields = record {
     looks = looking.looks;
@@ -96,6 +102,7 @@ module _ (A : Known → Want → Type 0) (look : Want) (reach : ℕ) (looking : 
     goes = λ k want e a it. through_goes k want e a;
   }
 
+  -- it is thin where it writes nothing at its start and its end, and reads input 0
   through_thin : t.before ≡ [] → ((seen : List Pair) → t.last seen ≡ []) → look ≡ Read 0 → (yields : Bool) → IsThin A (through_row t look yields)
   through_thin none_before none_last reads yields = record {
     reads = λ k want a. (looking.want_is k want a ∙ reads, looking.sight k want a);
@@ -114,6 +121,7 @@ module _ (A : Known → Want → Type 0) (look : Want) (reach : ℕ) (looking : 
       goes k SawAllEnd = subst (λ ps. ThinActs (writes ps)) (sym (none_last k.seen)) tt
       goes k _ = tt
 
+  -- it has no endless pairs
   through_finite : IsFiniteLook look → (yields : Bool) → IsFiniteRow A (through_row t look yields)
   through_finite finite yields = record {
     looks = λ k want a. subst IsFiniteLook (sym (looking.want_is k want a)) finite;
@@ -133,6 +141,7 @@ module _ (A : Known → Want → Type 0) (look : Want) (reach : ℕ) (looking : 
       goes k _ = tt
 
 module _ (A : Known → Want → Type 0) (reach : ℕ) (looking : IsLooking A (Read 0) reach) (t : Stream) where
+  -- what Hold does by an answer fits
   hold_goes : (k : Known) (want : Want) (e : Event) → A k want → Fits A (learned k e) (hold_plan t (learned k e) (learned k e).told).acts (hold_plan t (learned k e) (learned k e).told).goal
   hold_goes k want (Saw i rec) a =
       let now = learned k (Saw i rec) in
@@ -140,6 +149,7 @@ module _ (A : Known → Want → Type 0) (reach : ℕ) (looking : IsLooking A (R
   hold_goes k want (SawEnd i) a = fits_only A (learned k (SawEnd i)) (t.last k.seen) (Ends (t.code k.seen)) tt
   hold_goes k want _ a = tt
 
+  -- so the row is sound
   hold_sound : IsSound A (hold t) reach
   hold_sound = record {
     looks = looking.looks;
@@ -147,6 +157,7 @@ module _ (A : Known → Want → Type 0) (reach : ℕ) (looking : IsLooking A (R
     goes = λ k want e a it. hold_goes k want e a;
   }
 
+  -- it has no endless pairs
   hold_finite : IsFiniteRow A (hold t)
   hold_finite = record {
     looks = λ k want a. subst IsFiniteLook (sym (looking.want_is k want a)) tt;
@@ -167,6 +178,7 @@ source_sound pairs reach = record {
   goes = λ k want e a it. absurd a;
 }
 
+-- and has no endless pairs
 source_finite : (pairs : List Pair) → IsFiniteRow (λ k want. ⊥) (source pairs)
 source_finite pairs = record { looks = λ k want a. absurd a; starts = only_writes pairs; goes = λ k want e a it. absurd a }
 
@@ -180,6 +192,7 @@ one_looking = record {
   again = λ k want i rec a. record { want_is = refl; sight = without_new k.sight i rec a.sight; ends = a.ends };
 }
 
+-- and so is looking at any input
 any_looking : (reach : ℕ) → IsLooking LooksAtAny Any reach
 any_looking reach = record {
   want_is = λ k want a. a.want_is;
@@ -196,12 +209,15 @@ fits_input inputs k i none later = (elim (nat_lt i inputs) as (λ b. nat_lt i in
   | false ↦ λ is. tt
 ]) refl
 
+-- a number isn't a greater one
 apart_above : (j l : ℕ) → suc j ≤ l → (j == l) ≡ false
 apart_above j l at = grind (arith, nat_tests)
 
+-- FANIN's row
 abbrev turn_row : ℕ → Row
 turn_row inputs = row (λ k. fanin_plan inputs k k.told)
 
+-- what it does by an answer fits
 turn_goes : (inputs : ℕ) (k : Known) (e : Event) (i : ℕ) → i < inputs → k.sight ≡ [] → ((j : ℕ) → i ≤ j → has k.ends j ≡ false) → answers (Some (Read i)) e ≡ true →
     Fits (ReadsInTurn inputs) (learned k e) ((turn_row inputs).plan (learned k e)).acts ((turn_row inputs).plan (learned k e)).goal
 turn_goes inputs k (Saw j rec) i within none later it =
@@ -212,6 +228,7 @@ turn_goes inputs k (SawEnd j) i within none later it =
     fits_input inputs (learned k (SawEnd j)) (suc j) none (λ l at. ap (λ b. b || has k.ends l) (apart_above j l at) ∙ later l (omega arith))
 turn_goes inputs k _ i within none later it = cc
 
+-- so the row is sound
 turn_sound : (inputs : ℕ) → IsSound (ReadsInTurn inputs) (turn_row inputs) inputs
 turn_sound inputs = record {
   looks = λ k want a. subst (IsLook inputs k) (sym a.want_is) (a.within, ap (sees a.input) a.sight, a.later a.input (omega arith));
@@ -219,6 +236,7 @@ turn_sound inputs = record {
   goes = λ k want e a it. turn_goes inputs k e a.input a.within a.sight a.later (subst (λ z. answers (Some z) e ≡ true) a.want_is it);
 }
 
+-- it has no endless pairs
 turn_finite : (inputs : ℕ) → IsFiniteRow (ReadsInTurn inputs) (turn_row inputs)
 turn_finite inputs = record {
   looks = λ k want a. subst IsFiniteLook (sym a.want_is) tt;
@@ -233,6 +251,7 @@ turn_finite inputs = record {
 
 -- The kinds
 
+-- the line of every strand is sound
 pub sound_line : (s : Strand) → IsSoundLine (asking s s.kind) (form s) (reach_of s s.kind)
 sound_line s = by_kind s.kind
   where
@@ -285,6 +304,8 @@ sound_line s = by_kind s.kind
     by_kind Elastic = hold_line (each_record copied) (line_of s Elastic) refl refl refl
     by_kind Copy = hold_line (each_record copied) (line_of s Copy) refl refl refl
 
+<<<<<<< HEAD
+=======
 -- strands of one kind are parted alike
 pub one_parting : (s t : Strand) → s.kind ≡ t.kind → (form s).parting ≡ (form t).parting
 one_parting s t one = by_kind s.kind ∙ ap (λ kind. (line_of t kind).parting) one
@@ -310,6 +331,7 @@ first_primes s first FanInAny k asked part = (let z = asked.want_is in cc)
 first_primes s first Elastic k asked part = (let z = asked.want_is in cc)
 first_primes s first Copy k asked part = (let z = asked.want_is in cc)
 
+>>>>>>> 1e1531ddb54fb650391cac55c35d94df7c3c72b3
 -- a strand reads no more inputs than twice its input places
 pub reach_near : (net : Net) → IsWellFormed net → (s : ℕ) (p : Strand) → strand_at net nothing_yet s ≡ Some p → reach_of p p.kind ≤ 2 * p.ports.inputs
 reach_near net formed s p at =
