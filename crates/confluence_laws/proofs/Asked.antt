@@ -1,15 +1,15 @@
 -- What a strand of a plain net wants.
-use Rattle.std.proofs.Common.{◌≡◌, ◌⊎◌, inl, inr, ℕ, Bool, true, false, cond, List, [], ◌∷◌, refl, ◌∙◌, ap, subst, Some, None}
+use Rattle.std.proofs.Common.{◌≡◌, ◌⊎◌, inl, inr, ℕ, true, false, cond, List, [], ◌∷◌, ◌∙◌, ap, subst, Some, None}
 use Rattle.pipe_model.specs.declared.net.Strand.{Strand}
 use Rattle.pipe_model.specs.Event.{Event, Want, has_ended}
 use Rattle.pipe_model.specs.Event.Want.{Commit, Read, Any, Gate, Take, Write, Prime, Issue, Join, Sever, Done}
 use Rattle.pipe_model.specs.Row.Act.{Writes, Repeats, Takes}
 use Rattle.pipe_model.specs.Row.Goal.{Asks, Ends}
-use Rattle.pipe_model.specs.Table.{Line, form}
+use Rattle.pipe_model.specs.Table.{form}
 use Rattle.pipe_model.specs.Table.Meeting.{Ordered}
 use Rattle.pipe_model.specs.Next.{Phase, Past, want_in, wanted_by, next, IsOwn}
 use Rattle.pipe_model.specs.Next.Phase.{Starting, Doing, Lost}
-use Rattle.confluence_laws.proofs.Facts.{Allows, IsFiniteLook, IsFiniteRow, asking}
+use Rattle.confluence_laws.proofs.Facts.{Allows, IsFiniteLook, asking}
 use Rattle.confluence_laws.proofs.Sound.{sound_line}
 use Rattle.confluence_laws.proofs.Fitting.{PhaseFits, own_fits, past_of, wants_now}
 use Rattle.confluence_laws.proofs.Within.{IsSimple}

@@ -1,25 +1,24 @@
 -- In a dispatch each strand follows its history by itself, but for what was refused.
-use Rattle.std.proofs.Common.{◌≡◌, ◌≢◌, ◌⊎◌, inl, inr, ℤ, ℕ, zero, suc, Bool, true, false, cond, ◌&&◌, ◌||◌, not, ◌==◌, List, [], ◌∷◌, ◌++◌, refl, sym, ◌∙◌, ap, subst, Option, Some, None, slice_get, pos, negsuc}
+use Rattle.std.proofs.Common.{◌≡◌, ◌⊎◌, inl, inr, ℤ, ℕ, Bool, true, false, cond, ◌&&◌, ◌||◌, not, ◌==◌, List, [], ◌∷◌, ◌++◌, refl, sym, ◌∙◌, ap, subst, Option, Some, None, slice_get, pos}
 use Rattle.std.specs.Prelude.{filter}
 use Rattle.pipe_model.specs.declared.net.Strand.{Strand}
 use Rattle.pipe_model.specs.Event.{Event, Want, one_more, puts_on, records_on, tooks_on, has_ended, has_seen, is_took, answers}
 use Rattle.pipe_model.specs.Event.Event.{Saw, Put, Refused, Ended}
-use Rattle.pipe_model.specs.Event.Want.{Commit, Read, Any, Gate, Take, Write, Prime, Issue, Join, Sever, Done}
-use Rattle.pipe_model.specs.Row.{Act, Goal, Plan, Known, Row}
+use Rattle.pipe_model.specs.Event.Want.{Commit, Take, Write, Done}
+use Rattle.pipe_model.specs.Row.{Act, Goal, Known}
 use Rattle.pipe_model.specs.Row.Act.{Writes, Repeats, Takes}
 use Rattle.pipe_model.specs.Row.Goal.{Asks, Ends}
-use Rattle.pipe_model.specs.Table.{Line, form}
-use Rattle.pipe_model.specs.Table.Meeting.{Ordered}
-use Rattle.pipe_model.specs.Next.{Phase, Past, has, flag_at, is_live, is_refused, doing, after, nothing_known, learned, first_phase, past_by, want_in, wanted_by, next, IsOwn}
+use Rattle.pipe_model.specs.Table.{form}
+use Rattle.pipe_model.specs.Next.{Phase, Past, has, flag_at, is_live, is_refused, doing, after, nothing_known, first_phase, past_by, want_in, next, IsOwn}
 use Rattle.pipe_model.specs.Next.Phase.{Starting, Doing, Lost}
 use Rattle.pipe_model.specs.Licence.{Sight, answer}
 use Rattle.pipe_model.specs.Alone.{Given, takes_more, IsAllAlone}
-use Rattle.confluence_laws.proofs.Basics.{both, test_same, test_apart, equal_or_not}
-use Rattle.confluence_laws.proofs.Facts.{Allows, IsFiniteLook, IsFiniteRow, NoRepeats, asking, reach_of}
+use Rattle.confluence_laws.proofs.Basics.{both, and_false, test_same, test_apart, equal_or_not}
+use Rattle.confluence_laws.proofs.Facts.{Allows, IsFiniteLook, IsFiniteRow, NoRepeats, asking}
 use Rattle.confluence_laws.proofs.Sound.{sound_line}
 use Rattle.confluence_laws.proofs.Fitting.{PhaseFits, own_fits, past_of, still_wants}
 use Rattle.confluence_laws.proofs.Pending.{IsBare, Matches, mk, filter_twice, live_before, IsAlike, bare_after, goal_after, take_after, goal_alike}
-use Rattle.confluence_laws.proofs.Within.{Within, from_start, grows, IsShown, IsSimple, IsLevel, IsPrimed, same_answer, write_told, alone_put}
+use Rattle.confluence_laws.proofs.Within.{Within, from_start, grows, IsShown, IsSimple, IsPrimed, same_answer, write_told, alone_put}
 use Rattle.confluence_laws.proofs.Within.Within.{all}
 use Rattle.confluence_laws.proofs.Asked.{IsPlainStrand, wants_in, asked_simple}
 
@@ -33,6 +32,7 @@ first_alike : (outputs : List Bool) (early : Option ℤ) → Matches outputs [] 
 first_alike outputs None = inl (tt, refl)
 first_alike outputs (Some code) = goal_alike outputs [] (Ends code)
 
+-- histories alike in something are alike in it after the same event
 same_ended : (e : Event) (a b : List Event) → has_ended a ≡ has_ended b → has_ended (e ∷ a) ≡ has_ended (e ∷ b)
 same_ended (Ended c) a b e = refl
 same_ended _ a b e = e
@@ -45,15 +45,13 @@ same_records : (o : ℕ) (e : Event) (a b : List Event) → records_on o a ≡ r
 same_records o (Put p rec) a b e = ap (λ z. cond (p == o) (z ++ rec ∷ []) z) e
 same_records o _ a b e = e
 
-and_no : (b : Bool) → (b && false) ≡ false
-and_no true = refl
-and_no false = refl
-
+-- neither of two tests holds, so the second doesn't
 second_no : (a b : Bool) → (a || b) ≡ false → b ≡ false
 second_no true b e = cc
 second_no false b e = e
 
-not_true : (b : Bool) → not b ≡ true → b ≡ false
+-- a test whose opposite holds doesn't hold
+pub not_true : (b : Bool) → not b ≡ true → b ≡ false
 not_true true e = cc
 not_true false e = refl
 
@@ -89,6 +87,7 @@ module _ (s : Strand) (plain : IsPlainStrand s) (g : Given) (unlimited : (o : �
     pub all_refused : is_refused s.ports.has_output refused ≡ true
     pub over : (now ≡ Doing [] (Ends (pos 0))) ⊎ (now ≡ Lost)
 
+  -- at first neither has done anything
   pub follows_first : Follows []
   follows_first = record {
     other = [];
@@ -198,9 +197,11 @@ module _ (s : Strand) (plain : IsPlainStrand s) (g : Given) (unlimited : (o : �
     fits_at : (y : Follows h) (f : Phase) → y.now ≡ f → PhaseFits (asking s s.kind) y.known f
     fits_at y f a = subst (λ p. PhaseFits (asking s s.kind) p.known p.phase) (y.past ∙ ap (mk y.known y.refused) a) (own_fits s h own)
 
+    -- and what it wants there
     wants_at : (y : Follows h) (f : Phase) → y.now ≡ f → want_in f ≡ Some w
     wants_at y f a = sym (wants_in s h (mk y.known y.refused f) going (y.past ∙ ap (mk y.known y.refused) a)) ∙ want
 
+    -- its row is finite
     finite : IsFiniteRow (asking s s.kind) (form s).row
     finite = (sound_line s).finite plain.finite
 
@@ -270,7 +271,7 @@ module _ (s : Strand) (plain : IsPlainStrand s) (g : Given) (unlimited : (o : �
         after_refusal = ap (λ p. after (form s).row s.ports.has_output p p.phase (Refused o)) at
 
         dead : is_live s.ports.has_output (o ∷ y.refused) (Writes o rec) ≡ false
-        dead = ap (λ b. flag_at s.ports.has_output o && not (b || has y.refused o)) (test_same o) ∙ and_no (flag_at s.ports.has_output o)
+        dead = ap (λ b. flag_at s.ports.has_output o && not (b || has y.refused o)) (test_same o) ∙ and_false (flag_at s.ports.has_output o)
 
         by_test : (b : Bool) → ((form s).row.yields && is_refused s.ports.has_output (o ∷ y.refused)) ≡ b → e ≡ Refused o → Follows (e ∷ h) ⊎ IsCutOff (e ∷ h)
         by_test true x it = inr (subst (λ z. IsCutOff (z ∷ h)) (sym it) (record {

@@ -1,17 +1,16 @@
 -- Whether DAM's first strand sees a record is whether its input's list has one.
-use Rattle.std.proofs.Common.{◌≡◌, ◌⊎◌, inl, inr, ℤ, ℕ, zero, suc, Bool, true, false, cond, ◌&&◌, ◌==◌, List, [], ◌∷◌, refl, sym, ◌∙◌, ap, subst, Option, Some, None, slice_get, is_some, is_none, pos, negsuc}
-use Rattle.std.specs.Prelude.{filter}
+use Rattle.std.proofs.Common.{◌≡◌, ℤ, ℕ, zero, suc, Bool, true, false, cond, ◌&&◌, List, [], ◌∷◌, refl, sym, ◌∙◌, ap, subst, Option, Some, None, slice_get, is_some, is_none, pos, negsuc}
 use Rattle.pipe_model.specs.declared.net.Strand.{Strand}
 use Rattle.pipe_model.specs.Event.{Event, Want, tooks_on, has_ended, has_seen, answers}
 use Rattle.pipe_model.specs.Event.Event.{Up, Saw, SawEnd, Took, Put, Refused, Ended}
 use Rattle.pipe_model.specs.Event.Want.{Read, Write}
-use Rattle.pipe_model.specs.Row.{Act, Goal, Known, Plan, Row}
+use Rattle.pipe_model.specs.Row.{Act, Known, Plan, Row}
 use Rattle.pipe_model.specs.Row.Act.{Writes, Repeats, Takes}
 use Rattle.pipe_model.specs.Row.Goal.{Asks, Ends}
-use Rattle.pipe_model.specs.Table.{Line, form}
-use Rattle.pipe_model.specs.Next.{Phase, Past, is_live, is_refused, doing, begins_plan, after, nothing_known, learned, first_phase, want_in, next}
+use Rattle.pipe_model.specs.Table.{form}
+use Rattle.pipe_model.specs.Next.{Phase, is_refused, doing, begins_plan, after, nothing_known, learned, first_phase, want_in, next}
 use Rattle.pipe_model.specs.Next.Phase.{Starting, Doing, Lost}
-use Rattle.pipe_model.specs.Licence.{Sight, read_answer, primed_by}
+use Rattle.pipe_model.specs.Licence.{read_answer, primed_by}
 use Rattle.pipe_model.specs.Alone.{Given, alone_event, alone_sight, stream_of, IsAlone}
 use Rattle.confluence_laws.proofs.Facts.{IsPrimer}
 use Rattle.confluence_laws.proofs.Fitting.{past_of, wants_now}
@@ -43,6 +42,7 @@ pub data Tells (g : Given) (known : Known) (f : Phase) (h : List Event) : Type 0
   tells_none : has_seen h ≡ false → is_some (slice_get (g.inputs 0) 0) ≡ false → IsEnding f → Tells g known f h
   tells_nothing : has_seen h ≡ false → has_ended h ≡ false → tooks_on 0 h ≡ 0 → known ≡ nothing_known → IsFresh f → Tells g known f h
 
+-- a record that was seen stays seen
 seen_on : (e : Event) (h : List Event) → has_seen h ≡ true → has_seen (e ∷ h) ≡ true
 seen_on (Saw i rec) h seen = refl
 seen_on _ h seen = seen
@@ -102,6 +102,7 @@ module _ (w : Row) (primer : IsPrimer w) (outputs : List Bool) (g : Given) (know
       subst (λ z. TellsAfter z e h) (sym is) (look_on e h nothing unseen none_taken (slice_get (g.inputs 0) 0) refl (subst (λ n. read_answer 0 (slice_get (g.inputs 0) n) (is_none (slice_get (g.inputs 0) n)) ≡ Some e) none_taken q))
   fresh_on Lost e h p fresh unseen going none_taken nothing = absurd fresh
 
+  -- one event more
   tells_on : (f : Phase) (e : Event) (h : List Event) → alone_event g h (want_in f) ≡ Some e → answers (want_in f) e ≡ true → Tells g known f h → TellsAfter f e h
   tells_on f e h p fits (tells_some seen some) = tells_some (seen_on e h seen) some
   tells_on f e h p fits (tells_none unseen none ending) = none_on f e h fits ending unseen none

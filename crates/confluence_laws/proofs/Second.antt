@@ -1,5 +1,5 @@
 -- A dispatch after which all strands have ended is the second pass of its plain reading.
-use Rattle.std.proofs.Common.{◌≡◌, ◌⊎◌, inl, inr, ℕ, ◌≤◌, Bool, true, false, cond, ◌&&◌, ◌||◌, not, List, [], ◌∷◌, refl, sym, ◌∙◌, ap, subst, arith, Option, Some, None, is_some}
+use Rattle.std.proofs.Common.{◌≡◌, ◌⊎◌, inl, inr, ℕ, ◌≤◌, true, false, cond, ◌&&◌, ◌||◌, not, List, [], ◌∷◌, refl, sym, ◌∙◌, ap, subst, arith, Option, Some, None, is_some}
 use Rattle.std.specs.Prelude.{nat_lt}
 use Rattle.std.proofs.lemmas.Bool.Decides.{nat_tests}
 use Rattle.pipe_model.specs.declared.net.Net.{Net}
@@ -9,7 +9,7 @@ use Rattle.pipe_model.specs.declared.net.Strand.{Strand}
 use Rattle.pipe_model.specs.Event.{Event, Want, puts_on, tooks_on, has_ended, answers}
 use Rattle.pipe_model.specs.Event.Event.{Put, Refused}
 use Rattle.pipe_model.specs.Event.Want.{Commit, Read, Any, Gate, Take, Write, Prime, Issue, Join, Sever, Done}
-use Rattle.pipe_model.specs.Table.{Line, form}
+use Rattle.pipe_model.specs.Table.{form}
 use Rattle.pipe_model.specs.Next.{has, next, wanted_by, IsOwn}
 use Rattle.pipe_model.specs.State.{State, Who, past, nothing_yet, with_event, with_some_event, strand_at, link_out}
 use Rattle.pipe_model.specs.Licence.{none_left, want_after, want_at, puts, tooks, is_level, may_put, may_refuse, answer, licence, sight_of}
@@ -20,21 +20,19 @@ use Rattle.pipe_model.specs.Alone.{Orders, Lists, whole, cut, limit_of, takes_mo
 use Rattle.confluence_laws.proofs.Basics.{both, same_number, equal_or_not, at_same, at_other, more_tooks, from_out, the_event}
 use Rattle.confluence_laws.proofs.Later.{actor_goes_on, ended_stays}
 use Rattle.confluence_laws.proofs.Owns.{answers_it}
-use Rattle.confluence_laws.proofs.Fitting.{past_of, still_wants}
+use Rattle.confluence_laws.proofs.Fitting.{past_of}
 use Rattle.confluence_laws.proofs.Within.{same_answer, write_told, alone_put, alone_refused, IsPrimed}
 use Rattle.confluence_laws.proofs.Asked.{plain_want}
-use Rattle.confluence_laws.proofs.Follow.{follows_on, stays_cut}
+use Rattle.confluence_laws.proofs.Follow.{not_true, follows_on, stays_cut}
 use Rattle.confluence_laws.proofs.Ways.{HasNoEarly, refused_before, plain_strand, IsFollowing, IsStopped, IsOnTheWay, way_begins, shown_whole, primed_whole}
 
+-- no number is less than itself
 not_less_self : (n : ℕ) → nat_lt n n ≡ false
 not_less_self n = grind (arith, nat_tests)
 
+-- what is less than a number is less than a greater one
 less_too : (a b c : ℕ) → nat_lt a b ≡ true → b ≤ c → nat_lt a c ≡ true
 less_too a b c e p = grind (arith, nat_tests)
-
-not_true : (b : Bool) → not b ≡ true → b ≡ false
-not_true true e = cc
-not_true false e = refl
 
 -- who is refused wanted to write there
 refused_asked : (w : Option Want) (o : ℕ) → answers w (Refused o) ≡ true → (rec : List ℕ) × (w ≡ Some (Write o rec))
@@ -48,6 +46,7 @@ pub record IsBefore (st later : State) : Type 0 where
   pub same_end : (u : Who) → has_ended (past st u) ≡ true → past later u ≡ past st u
 
 module _ (net : Net) (formed : IsWellFormed net) where
+  -- a state is before the one after one more entry
   step_before : (st : State) (e : Entry) → IsLicensed net st e → IsBefore st (step net st e)
   step_before st e may =
       let x = the_event (licence net st none_left e.strand e.stream) may in
@@ -59,6 +58,7 @@ module _ (net : Net) (formed : IsWellFormed net) where
         same_end = λ u ended. ended_stays net formed st e.strand x.0 e.stream x.1 u ended;
       })
 
+  -- and before the one after any entries
   play_before : (st : State) (es : List Entry) → IsLegalFrom net st es → IsBefore st (play_from net st es)
   play_before st [] legal = record { more_taken = λ u i. omega arith; same_end = λ u e. refl }
   play_before st (e ∷ es) legal =
@@ -71,9 +71,11 @@ module _ (net : Net) (formed : IsWellFormed net) where
 
 module _ (net : Net) (formed : IsWellFormed net) (plain : IsPlain net) (ordered : IsOrdered net) (calm : HasNoEarly net) (orders : Orders) (lists : Lists) (first : IsFirstPass net orders lists) where
   module _ (st : State) (way : IsOnTheWay net formed plain ordered calm orders lists first st) (t : Who) (k : ℕ) (f : Event) (licensed : licence net st none_left t k ≡ Some f) where
+    -- whoever has an event goes on
     going : has_ended (past st t) ≡ false
     going = actor_goes_on net formed st t f k licensed
 
+    -- and the event answers what it wants
     fits : answers (want_at net st none_left t) f ≡ true
     fits = answers_it net st t k f licensed
 
@@ -111,6 +113,8 @@ module _ (net : Net) (formed : IsWellFormed net) (plain : IsPlain net) (ordered 
         by_want (Join u) want = tt
         by_want (Sever u) want = tt
         by_want (Done code) want = tt
+
+    -- What holds after the event
 
     own_after : (s : Who) (p : Strand) → strand_at net nothing_yet s ≡ Some p → IsOwn p (past (with_event st t f) s)
     own_after s p e = elim (equal_or_not s t) [
@@ -232,6 +236,7 @@ module _ (net : Net) (formed : IsWellFormed net) (plain : IsPlain net) (ordered 
               let count : tooks later link ≡ puts_on o (past st t) = ap (tooks_on link.input) (before.same_end link.to d.0) ∙ sym (same_number (puts st link) (tooks st link) d.1) ∙ puts_are o link e in
               ap (λ b. takes_more (cond b None (Some (tooks later link))) (puts_on o (past st t))) (not_true link.queue c.0) ∙ ap (λ z. nat_lt (puts_on o (past st t)) z) count ∙ not_less_self (puts_on o (past st t))
 
+      -- so each history is one of a strand by itself after it, if each was before it
       alone_after : ((s : Who) (p : Strand) → strand_at net nothing_yet s ≡ Some p → IsAlone p (cut net orders lists later s) (past st s)) → (s : Who) (p : Strand) → strand_at net nothing_yet s ≡ Some p → IsAlone p (cut net orders lists later s) (past (with_event st t f) s)
       alone_after alone s p e = elim (equal_or_not s t) [
         | inr other ↦ subst (IsAlone p (cut net orders lists later s)) (sym (at_other st t f s other)) (alone s p e)
@@ -252,6 +257,7 @@ module _ (net : Net) (formed : IsWellFormed net) (plain : IsPlain net) (ordered 
       (subst (λ z. (s : Who) (p : Strand) → strand_at net nothing_yet s ≡ Some p → IsAlone p (cut net orders lists later s) (past z s)) (sym now)
       (alone_after st way e.strand e.stream x.0 x.1 later (subst (IsBefore st) (sym is) (play_before net formed st (e ∷ es) legal)) alone)) s p d
 
+  -- and it is on the way
   pub on_the_way : (st : State) (es : List Entry) → IsOnTheWay net formed plain ordered calm orders lists first st → IsLegalFrom net st es → IsOnTheWay net formed plain ordered calm orders lists first (play_from net st es)
   on_the_way st [] way legal = way
   on_the_way st (e ∷ es) way legal =

@@ -1,5 +1,5 @@
 -- Any legal dispatch of a plain net is on the way to its plain reading.
-use Rattle.std.proofs.Common.{◌≡◌, ◌⊎◌, inl, inr, ℤ, ℕ, zero, suc, ◌+◌, ◌-◌, ◌<◌, Bool, true, false, cond, ◌&&◌, ◌||◌, not, ◌==◌, List, [], ◌∷◌, ◌++◌, length, refl, sym, ◌∙◌, ap, subst, arith, Option, Some, None, slice_get, is_some, pos, negsuc}
+use Rattle.std.proofs.Common.{◌≡◌, ◌⊎◌, inl, inr, ℤ, ℕ, zero, suc, ◌+◌, ◌-◌, Bool, true, false, cond, ◌||◌, not, ◌==◌, List, [], ◌∷◌, ◌++◌, length, refl, sym, ◌∙◌, ap, subst, arith, Option, Some, None, slice_get, is_some, pos, negsuc}
 use Rattle.std.specs.List.{list_any, list_all}
 use Rattle.std.specs.Ordering.{int_eq}
 use Rattle.std.proofs.lemmas.Bool.Decides.{Decides-int_eq}
@@ -10,20 +10,20 @@ use Rattle.pipe_model.specs.Code.{worst_of}
 use Rattle.pipe_model.specs.Event.{Event, Want, records_on, tooks_on, has_ended, has_reached, code_of, answers}
 use Rattle.pipe_model.specs.Event.Event.{Up, Took, Put, Refused, Ended}
 use Rattle.pipe_model.specs.Event.Want.{Write, Prime}
-use Rattle.pipe_model.specs.Row.{Act, Goal, Plan, Known, Row}
+use Rattle.pipe_model.specs.Row.{Row}
 use Rattle.pipe_model.specs.Row.Act.{Writes, Repeats, Takes}
 use Rattle.pipe_model.specs.Row.Goal.{Asks, Ends}
-use Rattle.pipe_model.specs.Table.{Line, form, line_of}
-use Rattle.pipe_model.specs.Next.{Phase, Past, has, flag_at, all_refused_from, after, learned, begins_plan, first_phase, want_in, wanted_by, next, IsOwn}
+use Rattle.pipe_model.specs.Table.{form, line_of}
+use Rattle.pipe_model.specs.Next.{Phase, Past, has, flag_at, all_refused_from, after, learned, begins_plan, first_phase, want_in, next, IsOwn}
 use Rattle.pipe_model.specs.Next.Phase.{Starting, Doing, Lost}
-use Rattle.pipe_model.specs.State.{State, Who, past, same, nothing_yet, members, strand_at, link_in, link_out}
+use Rattle.pipe_model.specs.State.{State, Who, past, nothing_yet, members, strand_at, link_in, link_out}
 use Rattle.pipe_model.specs.Licence.{none_left, want_after, want_at, puts, tooks, is_level, offered, shown, at_hand, is_over, out_closed, stands_at, early_code, worst_early, level_of, part_down, first_part, primed_by, sight_of}
-use Rattle.pipe_model.specs.WellFormed.{IsWellFormed, IsOfStage, strands_of}
+use Rattle.pipe_model.specs.WellFormed.{IsWellFormed, IsOfStage}
 use Rattle.pipe_model.specs.Plain.{IsPlain, IsOrdered}
 use Rattle.pipe_model.specs.Alone.{Given, Orders, Lists, list_on, primes, whole, IsFirstPass, early_or_zero}
-use Rattle.confluence_laws.proofs.Basics.{cond_some, both, either, or_second, same_number, test_same, not_ended, from_in}
+use Rattle.confluence_laws.proofs.Basics.{cond_some, both, either, or_second, same_number, not_ended, from_in}
 use Rattle.confluence_laws.proofs.Fitting.{past_of, still_wants, IsAsker, stands_for}
-use Rattle.confluence_laws.proofs.Within.{alone_within, is_all, longer, at_end, past_end, count_is, records_within, IsShown, IsLevel}
+use Rattle.confluence_laws.proofs.Within.{alone_within, is_all, longer, past_end, put_next, count_is, records_within, IsShown, IsLevel}
 use Rattle.confluence_laws.proofs.Facts.{IsPrimer}
 use Rattle.confluence_laws.proofs.Sound.{first_primes}
 use Rattle.confluence_laws.proofs.Primers.{alone_tells, told_first, fresh_writes}
@@ -79,6 +79,7 @@ IsUnbegun Lost h = Unit {0}
 abbrev IsCalm : Phase → List Event → Type 0
 IsCalm f h = (IsUnbegun f h × (code_of h ≡ pos 0)) ⊎ ((has_reached (negsuc 0) h ≡ true) × (has_reached (pos 0) h ≡ true))
 
+-- a level that was reached stays reached
 reach_on : (level : ℤ) (e : Event) (h : List Event) → has_reached level h ≡ true → has_reached level (e ∷ h) ≡ true
 reach_on level (Up m code) h p = or_second (int_eq m level) (has_reached level h) p
 reach_on level _ h p = p
@@ -110,11 +111,13 @@ calm_always s calm [] own = inl (by_early (form s).row.early calm, refl)
     by_early (Some code) e = e
 calm_always s calm (e ∷ h) own = calm_step (form s).row s.ports.has_output (past_of s h) (past_of s h).phase h e (still_wants s h e own.0) (calm_always s calm h own.1)
 
+-- nor does a calm history
 calm_code : (f : Phase) (h : List Event) (level : ℤ) → IsLevel level → IsCalm f h → early_code level h ≡ pos 0
 calm_code f h level is (inl x) = elim (has_reached level h) as (λ b. cond b (pos 0) (code_of h) ≡ pos 0) [ true ↦ refl | false ↦ x.1 ]
 calm_code f h level (inl is) (inr r) = ap (λ b. cond b (pos 0) (code_of h)) (ap (λ z. has_reached z h) is ∙ r.0)
 calm_code f h level (inr is) (inr r) = ap (λ b. cond b (pos 0) (code_of h)) (ap (λ z. has_reached z h) is ∙ r.1)
 
+-- where no strand adds anything the answer is 0
 all_zero : (st : State) (level : ℤ) (us : List Who) → ((u : Who) → early_code level (past st u) ≡ pos 0) → worst_early st level us ≡ pos 0
 all_zero st level [] each = refl
 all_zero st level (u ∷ us) each = ap (λ z. worst_of z (worst_early st level us)) (each u) ∙ ap (worst_of (pos 0)) (all_zero st level us each)
@@ -138,12 +141,15 @@ abbrev pub HasNoEarly : Net → Type 0
 HasNoEarly net = (s : Who) (p : Strand) → strand_at net nothing_yet s ≡ Some p → early_or_zero (form p).row.early ≡ pos 0
 
 module _ (net : Net) (formed : IsWellFormed net) (plain : IsPlain net) (ordered : IsOrdered net) (calm : HasNoEarly net) (orders : Orders) (lists : Lists) (first : IsFirstPass net orders lists) where
+  -- each strand of the net is one of a plain net
   pub plain_strand : (s : Who) (p : Strand) → strand_at net nothing_yet s ≡ Some p → IsPlainStrand p
   plain_strand s p e = record { finite = plain.finite s p e; ordered = ordered s p e }
 
+  -- the strand follows its history by itself
   abbrev pub IsFollowing : State → (s : Who) (p : Strand) → strand_at net nothing_yet s ≡ Some p → Type 0
   IsFollowing st s p e = Follows p (plain_strand s p e) (whole net orders lists s) (λ o. refl) (first s p e).0 (first s p e).1 (past st s)
 
+  -- the strand was cut off
   abbrev pub IsStopped : State → (s : Who) (p : Strand) → strand_at net nothing_yet s ≡ Some p → Type 0
   IsStopped st s p e = IsCutOff p (plain_strand s p e) (whole net orders lists s) (λ o. refl) (first s p e).0 (first s p e).1 (past st s)
 
@@ -155,6 +161,7 @@ module _ (net : Net) (formed : IsWellFormed net) (plain : IsPlain net) (ordered 
     pub refusals : (s : Who) (p : Strand) (o : ℕ) → strand_at net nothing_yet s ≡ Some p → has (past_of p (past st s)).refused o ≡ true → (link : Link) × (link_out net nothing_yet s o ≡ Some link) × (link.queue ≡ false) × (has_ended (past st link.to) ≡ true)
     pub nobody : (s : Who) → strand_at net nothing_yet s ≡ None → past st s ≡ []
 
+  -- at first nothing has happened
   pub way_begins : IsOnTheWay nothing_yet
   way_begins = record {
     own = λ s p e. tt;
@@ -164,6 +171,7 @@ module _ (net : Net) (formed : IsWellFormed net) (plain : IsPlain net) (ordered 
   }
 
   module _ (st : State) (way : IsOnTheWay st) where
+    -- no strand adds anything to the answer of a level
     early_zero : (level : ℤ) → IsLevel level → (u : Who) → early_code level (past st u) ≡ pos 0
     early_zero level is u = by_strand (strand_at net st u) refl
       where
@@ -180,12 +188,15 @@ module _ (net : Net) (formed : IsWellFormed net) (plain : IsPlain net) (ordered 
 
     -- one link into a strand that goes on
     module _ (s : Who) (i : ℕ) (link : Link) (linked : link_in net st s i ≡ Some link) (going : has_ended (past st s) ≡ false) where
+      -- the link's two ends
       ends : (link.to ≡ s) × (link.input ≡ i) × (link_out net st link.from link.output ≡ Some link)
       ends = from_in net formed st s i link linked
 
+      -- the output is connected
       flagged : (q : Strand) → strand_at net st link.from ≡ Some q → flag_at q.ports.has_output link.output ≡ true
       flagged q e = (formed.told link.from q e).has_output link.output ∙ ap is_some ends.2
 
+      -- what was taken of it
       count : tooks st link ≡ tooks_on i (past st s)
       count = ap (λ z. tooks_on link.input (past st z)) ends.0 ∙ ap (λ z. tooks_on z (past st s)) ends.1
 
@@ -210,6 +221,7 @@ module _ (net : Net) (formed : IsWellFormed net) (plain : IsPlain net) (ordered 
           let z : true ≡ false = sym r ∙ ap (λ (p : Past). has p.refused link.output) (sym x.past) ∙ free q e in
           cc
 
+      -- and follows its history by itself
       following : (q : Strand) (e : strand_at net st link.from ≡ Some q) → IsFollowing st link.from q e
       following q e = elim (way.followed link.from q e) [ inl x ↦ x | inr x ↦ absurd (not_cut q e x) ]
 
@@ -217,6 +229,11 @@ module _ (net : Net) (formed : IsWellFormed net) (plain : IsPlain net) (ordered 
       so_far : (q : Strand) (e : strand_at net st link.from ≡ Some q) (y : IsFollowing st link.from q e) → records_on link.output y.other ≡ records_on link.output (past st link.from)
       so_far q e y = y.lists link.output (flagged q e) (ap (λ (p : Past). has p.refused link.output) (sym y.past) ∙ free q e)
 
+      -- and where the link is level, all of them were taken
+      at_end_of : (q : Strand) (e : strand_at net st link.from ≡ Some q) (y : IsFollowing st link.from q e) → is_level st link ≡ true → tooks st link ≡ length (records_on link.output y.other)
+      at_end_of q e y level = sym (same_number (puts st link) (tooks st link) level) ∙ sym (count_is link.output (past st link.from)) ∙ ap length (sym (so_far q e y))
+
+      -- a record at hand stands next on the list
       hand_whole : (m : Option Strand) → strand_at net st link.from ≡ m → (rec : List ℕ) → shown net st none_left link ≡ Some rec → slice_get (lists link.from link.output) (tooks st link) ≡ Some rec
       hand_whole None e rec got = by_queue link.queue refl got
         where
@@ -241,12 +258,11 @@ module _ (net : Net) (formed : IsWellFormed net) (plain : IsPlain net) (ordered 
               let w = offers net st link rec is p in
               let want : next q (past st link.from) ≡ Some (Write link.output rec) = ap (λ x. want_after x (past st link.from)) (sym e) ∙ w.0 in
               let u = next_put q (plain_strand link.from q e) (whole net orders lists link.from) (λ o. refl) (first link.from q e).0 (first link.from q e).1 (past st link.from) link.output rec (way.own link.from q e) (not_ended (Some q) (past st link.from) (Write link.output rec) want) y want in
-              let m = records_within (first link.from q e).0 (Put link.output rec ∷ u.0.other) link.output u.1 in
-              let at : tooks st link ≡ length (records_on link.output u.0.other) = sym (same_number (puts st link) (tooks st link) w.1) ∙ sym (count_is link.output (past st link.from)) ∙ ap length (sym (so_far q e u.0)) in
-              ap (slice_get (lists link.from link.output)) at
-              ∙ ap (λ x. slice_get x (length (records_on link.output u.0.other))) (sym ((first link.from q e).2 link.output) ∙ m.1 ∙ ap (λ b. cond b (records_on link.output u.0.other ++ rec ∷ []) (records_on link.output u.0.other) ++ m.0) (test_same link.output))
-              ∙ longer (records_on link.output u.0.other ++ rec ∷ []) m.0 (length (records_on link.output u.0.other)) (at_end (records_on link.output u.0.other) rec [])
+              ap (slice_get (lists link.from link.output)) (at_end_of q e u.0 w.1)
+              ∙ ap (λ x. slice_get x (length (records_on link.output u.0.other))) (sym ((first link.from q e).2 link.output))
+              ∙ put_next (first link.from q e).0 u.0.other link.output rec u.1
 
+      -- and where nothing comes any more the list has ended
       over_whole : (m : Option Strand) → strand_at net st link.from ≡ m → is_over st (Some link) ≡ true → slice_get (lists link.from link.output) (tooks st link) ≡ None
       over_whole None e over = (let z : false ≡ true = ap has_ended (sym (way.nobody link.from e)) ∙ (both (out_closed st link) (is_level st link) over).0 in cc)
       over_whole (Some q) e over =

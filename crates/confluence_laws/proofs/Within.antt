@@ -4,7 +4,7 @@ use Rattle.pipe_model.specs.declared.net.Strand.{Strand}
 use Rattle.pipe_model.specs.Event.{Event, Want, puts_on, records_on, tooks_on, has_ended, one_more}
 use Rattle.pipe_model.specs.Event.Event.{Up, Took, Put, Refused, Primed, Ended}
 use Rattle.pipe_model.specs.Event.Want.{Commit, Read, Any, Gate, Take, Write, Prime, Issue, Join, Sever, Done}
-use Rattle.pipe_model.specs.Table.{Line, form}
+use Rattle.pipe_model.specs.Table.{form}
 use Rattle.pipe_model.specs.Next.{next, wanted_by}
 use Rattle.pipe_model.specs.Licence.{Sight, up_answer, read_answer, write_answer, primed_answer, answer}
 use Rattle.pipe_model.specs.Alone.{Given, takes_more, alone_event, IsAlone, IsAllAlone}
@@ -73,6 +73,13 @@ records_within W h o (earlier {d} x) =
     let r = records_within W (d ∷ h) o x in
     let q = records_more o d h in
     (q.0 ++ r.0, r.1 ∙ ap (λ z. z ++ r.0) q.1 ∙ append_assoc (records_on o h) q.0 r.0)
+
+-- what is put next stands behind the records so far
+pub put_next : (W h : List Event) (o : ℕ) (rec : List ℕ) → Within W (Put o rec ∷ h) → slice_get (records_on o W) (length (records_on o h)) ≡ Some rec
+put_next W h o rec x =
+    let m = records_within W (Put o rec ∷ h) o x in
+    ap (λ z. slice_get z (length (records_on o h))) (m.1 ∙ ap (λ b. cond b (records_on o h ++ rec ∷ []) (records_on o h) ++ m.0) (test_same o))
+    ∙ longer (records_on o h ++ rec ∷ []) m.0 (length (records_on o h)) (at_end (records_on o h) rec [])
 
 -- the levels that strands go through
 abbrev pub IsLevel : ℤ → Type 0

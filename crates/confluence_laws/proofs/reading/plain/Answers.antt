@@ -1,9 +1,7 @@
 use Rattle.std.proofs.Common.{◌≡◌, Bool, true, false, refl}
 use Rattle.std.specs.Bool.{MatchBool}
 use Rattle.std.specs.List.{list_any}
-use Rattle.pipe_model.specs.declared.net.Net.{Net}
-use Rattle.pipe_model.specs.Alone.{Lists, Orders, is_early, IsBarred, IsFirstPass, IsSecondPass, IsPlainReading}
-use Rattle.pipe_model.specs.Plain.{IsPlain, IsOrdered}
+use Rattle.pipe_model.specs.Alone.{Lists, Orders, is_early, IsBarred, IsFirstPass, IsSecondPass}
 use Rattle.pipe_model.specs.Play.{play}
 use Rattle.confluence_laws.proofs.Passes.{first_pass}
 use Rattle.confluence_laws.proofs.Second.{second_pass}
