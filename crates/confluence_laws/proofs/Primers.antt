@@ -118,7 +118,7 @@ alone_tells s primer g (e ∷ h) alone = by_want (next s h) refl alone.0 (alone_
     by_want (Some want) is p told =
         let now = (wants_now s h want is).0 in
         tells_on (form s).row primer s.ports.has_output g (past_of s h).known (past_of s h).refused (past_of s h).phase e h (ap (alone_event g h) now ∙ p)
-            (ap (λ z. answers z e) now ∙ answer_fits (alone_sight g h) (λ text. refl) (stream_of g h want) e (Some want) p) told
+        (ap (λ z. answers z e) now ∙ answer_fits (alone_sight g h) (λ text. refl) (stream_of g h want) e (Some want) p) told
 
 -- so does a history that has seen and ended as much
 pub told_first : (g : Given) (known : Known) (f : Phase) (other h : List Event) (b : Bool) → has_seen other ≡ has_seen h → (IsFresh f → has_ended other ≡ false → has_ended h ≡ false) → Tells g known f other → primed_by h ≡ Some b → has_first g ≡ b
