@@ -16,6 +16,7 @@ use Rattle.confluence_laws.proofs.Basics.{both, all_at, equal_or_not}
 use Rattle.confluence_laws.proofs.Ends.{at_place}
 use Rattle.confluence_laws.proofs.Walks.{settled_if, in_below}
 
+-- what the test of less says
 less : (a b : ℕ) → nat_lt a b ≡ true → a < b
 less a b e = grind (arith, nat_tests)
 

@@ -304,8 +304,6 @@ sound_line s = by_kind s.kind
     by_kind Elastic = hold_line (each_record copied) (line_of s Elastic) refl refl refl
     by_kind Copy = hold_line (each_record copied) (line_of s Copy) refl refl refl
 
-<<<<<<< HEAD
-=======
 -- strands of one kind are parted alike
 pub one_parting : (s t : Strand) → s.kind ≡ t.kind → (form s).parting ≡ (form t).parting
 one_parting s t one = by_kind s.kind ∙ ap (λ kind. (line_of t kind).parting) one
@@ -331,7 +329,6 @@ first_primes s first FanInAny k asked part = (let z = asked.want_is in cc)
 first_primes s first Elastic k asked part = (let z = asked.want_is in cc)
 first_primes s first Copy k asked part = (let z = asked.want_is in cc)
 
->>>>>>> 1e1531ddb54fb650391cac55c35d94df7c3c72b3
 -- a strand reads no more inputs than twice its input places
 pub reach_near : (net : Net) → IsWellFormed net → (s : ℕ) (p : Strand) → strand_at net nothing_yet s ≡ Some p → reach_of p p.kind ≤ 2 * p.ports.inputs
 reach_near net formed s p at =

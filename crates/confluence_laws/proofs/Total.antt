@@ -44,10 +44,12 @@ link_there net formed j l e =
     let place : n.1.0 ≡ j = formed.one_in n.1.0 j m.0 l n.1.1 e (same_number _ _ u.0) (same_number _ _ u.1) in
     m.1 ∙ (sym n.1.1 ∙ ap (slice_get net.links) place ∙ e)
 
+-- the sum of what strands may have
 over_all : (f g : ℕ → ℕ) (n : ℕ) → over (λ i. 5 * f i + 4 + g i) n ≡ 5 * over f n + 4 * n + over g n
 over_all f g zero = omega arith
 over_all f g (suc n) = let a = over_all f g n in omega (arith, a)
 
+-- a sum of nothing
 nothing : (n : ℕ) → over (λ i. 0) n ≡ 0
 nothing zero = refl
 nothing (suc n) = let a = nothing n in omega (arith, a)
@@ -66,6 +68,7 @@ module _ (net : Net) (formed : IsWellFormed net) (finite : IsFinite net) (ordere
     saws_listed : (s : Who) (i : ℕ) → s < length net.strands → saws_on i (past st s) ≤ length (list_on lists (link_in net nothing_yet s i))
     pays : over (λ s. spent (past st s)) (length net.strands) ≤ sum_links (worth st) net.links
 
+  -- what was taken is on the lists
   taken_listed : (st : State) → IsCounted st → (s : Who) (p : Strand) → strand_at net nothing_yet s ≡ Some p → (i : ℕ) → tooks_on i (past st s) ≤ length (list_on lists (link_in net nothing_yet s i))
   taken_listed st c s p here i =
       let a = c.saws_listed s i (at_place net.strands s here) in
@@ -74,6 +77,7 @@ module _ (net : Net) (formed : IsWellFormed net) (finite : IsFinite net) (ordere
 
   -- one event more
   module _ (st : State) (c : IsCounted st) (t : Who) (k : ℕ) (f : Event) (licensed : licence net st none_left t k ≡ Some f) (way : Way (with_event st t f)) where
+    -- the event is one of a strand
     actor : (p : Strand) × (strand_at net nothing_yet t ≡ Some p)
     actor = by_strand (strand_at net nothing_yet t) refl licensed
       where
@@ -81,12 +85,15 @@ module _ (net : Net) (formed : IsWellFormed net) (finite : IsFinite net) (ordere
         by_strand None e m = cc
         by_strand (Some p) e m = (p, e)
 
+    -- of the net
     there : t < length net.strands
     there = at_place net.strands t actor.1
 
+    -- and its own
     own_now : IsOwn actor.0 (f ∷ past st t)
     own_now = subst (IsOwn actor.0) (at_same st t f) (own (with_event st t f) way t actor.0 actor.1)
 
+    -- what it has put then is on the lists
     puts_now : (e : Event) → licence net st none_left t k ≡ Some e → (o : ℕ) → puts_on o (e ∷ past st t) ≤ length (lists t o)
     puts_now (Put o' rec) may o = by_test (o' == o) refl
       where
@@ -95,6 +102,7 @@ module _ (net : Net) (formed : IsWellFormed net) (finite : IsFinite net) (ordere
         by_test false is = c.puts_listed t o there
     puts_now _ may o = c.puts_listed t o there
 
+    -- and what it has seen
     saws_now : (e : Event) → licence net st none_left t k ≡ Some e → IsOwn actor.0 (e ∷ past st t) → (i : ℕ) → saws_on i (e ∷ past st t) ≤ length (list_on lists (link_in net nothing_yet t i))
     saws_now (Saw i' rec) may own_e i = by_test (i' == i) refl
       where
@@ -106,18 +114,21 @@ module _ (net : Net) (formed : IsWellFormed net) (finite : IsFinite net) (ordere
         by_test false is = c.saws_listed t i there
     saws_now _ may own_e i = c.saws_listed t i there
 
+    -- no link has less taken than before
     tooks_grow : (l : Link) → tooks st l ≤ tooks (with_event st t f) l
     tooks_grow l = elim (equal_or_not l.to t) [
       | inl is ↦ subst (λ z. tooks_on l.input (past st l.to) ≤ tooks_on l.input z) (sym (ap (with_event st t f) is ∙ at_same st t f ∙ ap (λ z. f ∷ past st z) (sym is))) (more_tooks l.input (past st l.to) f)
       | inr other ↦ subst (λ z. tooks_on l.input (past st l.to) ≤ tooks_on l.input z) (sym (at_other st t f l.to other)) (omega arith)
     ]
 
+    -- or put
     puts_grow : (l : Link) → puts st l ≤ puts (with_event st t f) l
     puts_grow l = elim (equal_or_not l.from t) [
       | inl is ↦ subst (λ z. puts_on l.output (past st l.from) ≤ puts_on l.output z) (sym (ap (with_event st t f) is ∙ at_same st t f ∙ ap (λ z. f ∷ past st z) (sym is))) (more_puts l.output (past st l.from) f)
       | inr other ↦ subst (λ z. puts_on l.output (past st l.from) ≤ puts_on l.output z) (sym (at_other st t f l.from other)) (omega arith)
     ]
 
+    -- so none pays for less
     worth_grows : (l : Link) → worth st l ≤ worth (with_event st t f) l
     worth_grows l = let a = tooks_grow l in let b = puts_grow l in omega (arith, a, b)
 
@@ -163,6 +174,7 @@ module _ (net : Net) (formed : IsWellFormed net) (finite : IsFinite net) (ordere
             links_more (worth st) (worth (with_event st t f)) net.links 1 r.1.0 l r.1.1 (omega (arith, count, a)) worth_grows
     links_pay _ is = let a = links_within (worth st) (worth (with_event st t f)) net.links (λ j l e. worth_grows l) in omega (arith, a)
 
+    -- it stays so
     counted_after : IsCounted (with_event st t f)
     counted_after = record {
       way = way;
@@ -183,6 +195,7 @@ module _ (net : Net) (formed : IsWellFormed net) (finite : IsFinite net) (ordere
           omega (arith, before, a, b);
     }
 
+    -- there is one event more
     length_after : over (λ s. length (past (with_event st t f) s)) (length net.strands) ≡ over (λ s. length (past st s)) (length net.strands) + 1
     length_after =
         let here : length (past (with_event st t f) t) ≡ suc (length (past st t)) = ap length (at_same st t f) in
@@ -202,6 +215,7 @@ module _ (net : Net) (formed : IsWellFormed net) (finite : IsFinite net) (ordere
       let b = r.1 in
       (r.0, omega (arith, a, b))
 
+  -- no such dispatch is longer than enough
   pub few_entries : Way nothing_yet → (es : List Entry) → IsLegal net es → length es ≤ enough net lists
   few_entries begins es legal =
       let start = nothing (length net.strands) in
