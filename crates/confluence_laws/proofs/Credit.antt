@@ -1,24 +1,24 @@
 -- How many events a strand can have, by the records that it took and put.
-use Rattle.std.proofs.Common.{◌≡◌, ◌≢◌, ◌⊎◌, inl, inr, ℤ, ℕ, zero, suc, ◌+◌, ◌*◌, ◌≤◌, ◌<◌, Bool, true, false, cond, ◌&&◌, ◌||◌, not, ◌==◌, List, [], ◌∷◌, ◌++◌, length, refl, sym, ◌∙◌, ap, subst, arith, Some, None, pos, negsuc}
+use Rattle.std.proofs.Common.{◌≡◌, ◌≢◌, ◌⊎◌, inl, inr, ℕ, zero, suc, ◌+◌, ◌*◌, ◌≤◌, Bool, true, false, cond, ◌&&◌, ◌||◌, not, ◌==◌, List, [], ◌∷◌, ◌++◌, length, refl, sym, ◌∙◌, ap, subst, arith, Some, None, pos, negsuc}
 use Rattle.std.specs.Prelude.{filter}
 use Rattle.std.specs.List.{list_all}
 use Rattle.std.specs.Ordering.{int_eq}
 use Rattle.pipe_model.specs.declared.net.Strand.{Strand}
 use Rattle.pipe_model.specs.Event.{Event, Want, one_more, answers, is_took, tooks_on}
-use Rattle.pipe_model.specs.Event.Event.{Up, Saw, SawEnd, SawAllEnd, Took, Put, Refused, Primed, Opened, Joined, Severed, Ended}
+use Rattle.pipe_model.specs.Event.Event.{Up, Saw, SawEnd, Took, Put, Refused, Primed, Ended}
 use Rattle.pipe_model.specs.Event.Want.{Commit, Read, Any, Gate, Take, Write, Prime, Issue, Join, Sever, Done}
 use Rattle.pipe_model.specs.Row.{Pair, Act, Goal, Plan, Known, Row}
 use Rattle.pipe_model.specs.Row.Act.{Writes, Repeats, Takes}
 use Rattle.pipe_model.specs.Row.Goal.{Asks, Ends}
 use Rattle.pipe_model.specs.Table.{form}
 use Rattle.pipe_model.specs.Table.Meeting.{Ordered}
-use Rattle.pipe_model.specs.Next.{Phase, Past, IsOwn, has, flag_at, is_live, is_open, is_refused, doing, begins_plan, without, learned, nothing_known, first_phase, past_by, after, want_in}
+use Rattle.pipe_model.specs.Next.{Phase, Past, IsOwn, has, flag_at, is_live, is_open, is_refused, doing, begins_plan, without, learned, nothing_known, first_phase, after, want_in}
 use Rattle.pipe_model.specs.Next.Phase.{Starting, Doing, Lost}
 use Rattle.confluence_laws.proofs.Basics.{both, same_number, test_same, test_apart, equal_or_not}
-use Rattle.confluence_laws.proofs.Facts.{Fits, IsLook, IsFiniteLook, Allows, asking, reach_of, sees}
+use Rattle.confluence_laws.proofs.Facts.{IsLook, IsFiniteLook, Allows, asking, reach_of, sees}
 use Rattle.confluence_laws.proofs.Sound.{sound_line}
 use Rattle.confluence_laws.proofs.Fitting.{PhaseFits, past_of, still_wants, own_fits, own_knows, IsOnce}
-use Rattle.confluence_laws.proofs.Sums.{over, over_same, over_more, over_within}
+use Rattle.confluence_laws.proofs.Sums.{over, over_same, over_more}
 use Rattle.confluence_laws.proofs.Ends.{count_on, count_none, count_saw, count_took, count_other}
 
 -- what an event that moves a record pays for: a put for itself, and what was taken for its sight too

@@ -1,20 +1,19 @@
 -- A strand by itself comes to its end, if it writes finitely much and takes nothing as it comes.
 use Rattle.std.proofs.Common.{◌≡◌, ◌≢◌, inl, inr, ℤ, ℕ, zero, suc, ◌+◌, ◌≤◌, ◌<◌, Bool, true, false, cond, ◌&&◌, ◌||◌, ◌==◌, List, [], ◌∷◌, ◌++◌, length, refl, sym, ◌∙◌, ap, subst, arith, Option, Some, None, is_none, slice_get, pos, negsuc}
-use Rattle.std.specs.Prelude.{filter, not}
+use Rattle.std.specs.Prelude.{filter}
 use Rattle.pipe_model.specs.declared.net.Strand.{Strand}
-use Rattle.pipe_model.specs.Event.{Event, Want, one_more, is_took, puts_on, tooks_on, has_ended, answers}
+use Rattle.pipe_model.specs.Event.{Event, Want, one_more, puts_on, tooks_on, has_ended, answers}
 use Rattle.pipe_model.specs.Event.Event.{Up, Saw, SawEnd, Took, Put, Refused, Primed, Ended}
 use Rattle.pipe_model.specs.Event.Want.{Commit, Read, Any, Gate, Take, Write, Prime, Issue, Join, Sever, Done}
-use Rattle.pipe_model.specs.Row.{Pair, Act, Goal, Known, Row}
+use Rattle.pipe_model.specs.Row.{Pair, Act, Goal, Known}
 use Rattle.pipe_model.specs.Row.Act.{Writes, Repeats, Takes}
 use Rattle.pipe_model.specs.Row.Goal.{Asks, Ends}
 use Rattle.pipe_model.specs.Table.{Meeting, form}
 use Rattle.pipe_model.specs.Table.Meeting.{Ordered, Braided, Loose}
-use Rattle.pipe_model.specs.Next.{Phase, Past, has, is_live, is_refused, doing, without, learned, nothing_known, first_phase, past_by, after, want_in, next, told_it}
+use Rattle.pipe_model.specs.Next.{Phase, Past, has, is_live, is_refused, doing, without, learned, nothing_known, first_phase, past_by, after, want_in}
 use Rattle.pipe_model.specs.Next.Phase.{Starting, Doing, Lost}
-use Rattle.pipe_model.specs.Licence.{read_answer, write_answer}
+use Rattle.pipe_model.specs.Licence.{read_answer}
 use Rattle.pipe_model.specs.Alone.{Given, takes_more, alone_event, IsAlone, IsAllAlone}
-use Rattle.pipe_model.specs.Plain.{is_ordered_meeting}
 use Rattle.confluence_laws.proofs.Basics.{test_same, test_apart, equal_or_not, same_number}
 use Rattle.confluence_laws.proofs.Facts.{Fits, IsLook, IsFiniteLook, Allows, NoRepeats, IsSoundLine, asking, reach_of, sees, taken}
 use Rattle.confluence_laws.proofs.Sound.{sound_line}

@@ -1,21 +1,20 @@
 -- No legal dispatch of a plain net is longer than enough: where a strand ends early no record moves, and elsewhere the records are on the first pass's lists.
-use Rattle.std.proofs.Common.{◌≡◌, ◌⊎◌, inl, inr, ℤ, ℕ, zero, suc, ◌+◌, ◌≤◌, ◌<◌, Bool, true, false, cond, ◌&&◌, ◌||◌, ◌==◌, List, [], ◌∷◌, ◌++◌, length, take, refl, sym, ◌∙◌, ap, subst, arith, Option, Some, None, slice_get, is_some, pos, negsuc}
+use Rattle.std.proofs.Common.{◌≡◌, ◌⊎◌, inl, inr, ℤ, ℕ, suc, ◌≤◌, ◌<◌, Bool, true, false, ◌||◌, List, [], ◌∷◌, ◌++◌, length, refl, sym, ◌∙◌, ap, subst, arith, Option, Some, None, slice_get, is_some, pos, negsuc}
 use Rattle.std.specs.List.{list_any}
-use Rattle.std.specs.Ordering.{int_eq}
 use Rattle.std.proofs.Math.Seq.{take-append_seam}
 use Rattle.std.proofs.lemmas.List.{length-append}
 use Rattle.pipe_model.specs.declared.net.Net.{Net}
 use Rattle.pipe_model.specs.declared.net.Strand.{Strand}
 use Rattle.pipe_model.specs.declared.step.Entry.{Entry}
-use Rattle.pipe_model.specs.Event.{Event, Want, one_more, answers, has_ended, has_up, moves, puts_on, tooks_on, records_on}
-use Rattle.pipe_model.specs.Event.Event.{Up, Saw, Put, Refused}
+use Rattle.pipe_model.specs.Event.{Event, one_more, answers, has_ended, has_up, moves, puts_on, tooks_on, records_on}
+use Rattle.pipe_model.specs.Event.Event.{Up, Saw, Put}
 use Rattle.pipe_model.specs.Event.Want.{Write, Done}
 use Rattle.pipe_model.specs.Row.Goal.{Ends}
 use Rattle.pipe_model.specs.Table.{form}
-use Rattle.pipe_model.specs.Next.{Phase, Past, first_phase, after, want_in, next, IsOwn}
+use Rattle.pipe_model.specs.Next.{Past, first_phase, after, want_in, next, IsOwn}
 use Rattle.pipe_model.specs.Next.Phase.{Doing, Lost}
 use Rattle.pipe_model.specs.State.{State, Who, past, nothing_yet, strand_at, link_in}
-use Rattle.pipe_model.specs.Licence.{none_left, want_after, want_at, answer, licence, sight_of}
+use Rattle.pipe_model.specs.Licence.{none_left, want_after, want_at, licence}
 use Rattle.pipe_model.specs.Play.{step, play, play_from, IsLicensed, IsLegal, IsLegalFrom}
 use Rattle.pipe_model.specs.Committed.{IsMove, IsCommitted, event_of, event_at}
 use Rattle.pipe_model.specs.WellFormed.{IsWellFormed}
@@ -27,8 +26,8 @@ use Rattle.confluence_laws.proofs.Fitting.{past_of, still_wants, wants_now}
 use Rattle.confluence_laws.proofs.Owns.{answers_it}
 use Rattle.confluence_laws.proofs.Braids.{saw_it, play_reached}
 use Rattle.confluence_laws.proofs.Commits.{committed_before}
-use Rattle.confluence_laws.proofs.Within.{at_end, count_is, records_within, write_told}
-use Rattle.confluence_laws.proofs.Follow.{Follows, IsCutOff, next_put}
+use Rattle.confluence_laws.proofs.Within.{at_end, count_is, records_within}
+use Rattle.confluence_laws.proofs.Follow.{next_put}
 use Rattle.confluence_laws.proofs.Ways.{HasNoEarly, plain_strand, IsOnTheWay, IsFollowing, IsStopped, way_begins, shown_whole}
 use Rattle.confluence_laws.proofs.Second.{on_the_way}
 use Rattle.confluence_laws.proofs.Barred.{early_none}

@@ -1,5 +1,5 @@
 -- The first pass and the plain reading of a plain net exist.
-use Rattle.std.proofs.Common.{◌≡◌, ◌≢◌, inl, inr, ℕ, zero, suc, ◌+◌, ◌-◌, ◌<◌, ◌≤◌, Bool, true, false, cond, ◌&&◌, ◌==◌, List, [], ◌∷◌, length, refl, sym, ◌∙◌, ap, subst, arith, Option, Some, None, slice_get, is_some, not}
+use Rattle.std.proofs.Common.{◌≡◌, inl, inr, ℕ, zero, suc, ◌+◌, ◌-◌, ◌<◌, ◌≤◌, Bool, true, false, cond, ◌&&◌, ◌==◌, List, [], ◌∷◌, length, refl, sym, ◌∙◌, ap, subst, arith, Option, Some, None, slice_get, is_some, not}
 use Rattle.std.specs.Bool.{MatchBool}
 use Rattle.std.specs.List.{list_any}
 use mathlib.Core.Path.{fun_ext}
@@ -12,9 +12,9 @@ use Rattle.pipe_model.specs.Table.Parting.{Whole, Queued, Streamed}
 use Rattle.pipe_model.specs.Next.{next}
 use Rattle.pipe_model.specs.State.{State, Who, past, same, nothing_yet, strand_at, link_in, link_out}
 use Rattle.pipe_model.specs.Licence.{first_part, part_down}
-use Rattle.pipe_model.specs.WellFormed.{IsWellFormed, IsJoined, IsOfStage, strands_of}
+use Rattle.pipe_model.specs.WellFormed.{IsWellFormed, IsOfStage, strands_of}
 use Rattle.pipe_model.specs.Alone.{Given, Lists, Orders, list_on, inputs_of, primes, limit_of, whole, cut, alone_event, IsAlone, IsAllAlone, IsFirstPass, IsSecondPass, is_early, worst_of_early, barred_history, IsBarred, IsPlainReading}
-use Rattle.pipe_model.specs.Plain.{IsPlain, IsOrdered, IsAcyclic, is_primed_later, waits_for_first}
+use Rattle.pipe_model.specs.Plain.{IsPlain, IsOrdered, is_primed_later, waits_for_first}
 use Rattle.confluence_laws.proofs.Basics.{equal_or_not, found_at, from_in, from_out, test_apart}
 use Rattle.confluence_laws.proofs.Facts.{same_parting}
 use Rattle.confluence_laws.proofs.Within.{Within, from_start, grows, alone_within}
