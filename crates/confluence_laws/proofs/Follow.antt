@@ -2,8 +2,8 @@
 use Rattle.std.proofs.Common.{◌≡◌, ◌≢◌, ◌⊎◌, inl, inr, ℤ, ℕ, zero, suc, Bool, true, false, cond, ◌&&◌, ◌||◌, not, ◌==◌, List, [], ◌∷◌, ◌++◌, refl, sym, ◌∙◌, ap, subst, Option, Some, None, slice_get, pos, negsuc}
 use Rattle.std.specs.Prelude.{filter}
 use Rattle.pipe_model.specs.declared.net.Strand.{Strand}
-use Rattle.pipe_model.specs.Event.{Event, Want, one_more, puts_on, records_on, tooks_on, has_ended, is_took, answers}
-use Rattle.pipe_model.specs.Event.Event.{Put, Refused, Ended}
+use Rattle.pipe_model.specs.Event.{Event, Want, one_more, puts_on, records_on, tooks_on, has_ended, has_seen, is_took, answers}
+use Rattle.pipe_model.specs.Event.Event.{Saw, Put, Refused, Ended}
 use Rattle.pipe_model.specs.Event.Want.{Commit, Read, Any, Gate, Take, Write, Prime, Issue, Join, Sever, Done}
 use Rattle.pipe_model.specs.Row.{Act, Goal, Plan, Known, Row}
 use Rattle.pipe_model.specs.Row.Act.{Writes, Repeats, Takes}
@@ -17,7 +17,7 @@ use Rattle.pipe_model.specs.Alone.{Given, takes_more, IsAllAlone}
 use Rattle.confluence_laws.proofs.Basics.{both, test_same, test_apart, equal_or_not}
 use Rattle.confluence_laws.proofs.Facts.{Allows, IsFiniteLook, IsFiniteRow, NoRepeats, asking, reach_of}
 use Rattle.confluence_laws.proofs.Sound.{sound_line}
-use Rattle.confluence_laws.proofs.Fitting.{PhaseFits, own_fits, past_of}
+use Rattle.confluence_laws.proofs.Fitting.{PhaseFits, own_fits, past_of, still_wants}
 use Rattle.confluence_laws.proofs.Pending.{IsBare, Matches, mk, filter_twice, live_before, IsAlike, bare_after, goal_after, take_after, goal_alike}
 use Rattle.confluence_laws.proofs.Within.{Within, from_start, grows, IsShown, IsSimple, IsLevel, IsPrimed, same_answer, write_told, alone_put}
 use Rattle.confluence_laws.proofs.Within.Within.{all}
@@ -36,6 +36,10 @@ first_alike outputs (Some code) = goal_alike outputs [] (Ends code)
 same_ended : (e : Event) (a b : List Event) → has_ended a ≡ has_ended b → has_ended (e ∷ a) ≡ has_ended (e ∷ b)
 same_ended (Ended c) a b e = refl
 same_ended _ a b e = e
+
+same_seen : (e : Event) (a b : List Event) → has_seen a ≡ has_seen b → has_seen (e ∷ a) ≡ has_seen (e ∷ b)
+same_seen (Saw i rec) a b e = refl
+same_seen _ a b e = e
 
 same_records : (o : ℕ) (e : Event) (a b : List Event) → records_on o a ≡ records_on o b → records_on o (e ∷ a) ≡ records_on o (e ∷ b)
 same_records o (Put p rec) a b e = ap (λ z. cond (p == o) (z ++ rec ∷ []) z) e
@@ -66,11 +70,18 @@ module _ (s : Strand) (plain : IsPlainStrand s) (g : Given) (unlimited : (o : �
     pub past_other : past_by (form s).row s.ports.has_output other ≡ mk known [] now_other
     pub matches : Matches s.ports.has_output refused now now_other
     pub closed : has_ended other ≡ has_ended h
+    pub saw : has_seen other ≡ has_seen h
     pub tooks : (i : ℕ) → tooks_on i other ≡ tooks_on i h
     pub lists : (o : ℕ) → flag_at s.ports.has_output o ≡ true → has refused o ≡ false → records_on o other ≡ records_on o h
 
-  -- refusals ended it
+  -- refusals ended it, when the whole history went on to write
   pub record IsCutOff (h : List Event) : Type 0 where
+    pub other : List Event
+    pub within : Within W other
+    pub output : ℕ
+    pub rec : List ℕ
+    pub wrote : want_in (past_of s other).phase ≡ Some (Write output rec)
+    pub saw : has_seen other ≡ has_seen h
     pub known : Known
     pub refused : List ℕ
     pub now : Phase
@@ -90,6 +101,7 @@ module _ (s : Strand) (plain : IsPlainStrand s) (g : Given) (unlimited : (o : �
     past_other = refl;
     matches = first_alike s.ports.has_output (form s).row.early;
     closed = refl;
+    saw = refl;
     tooks = λ i. refl;
     lists = λ o flag free. refl;
   }
@@ -113,6 +125,7 @@ module _ (s : Strand) (plain : IsPlainStrand s) (g : Given) (unlimited : (o : �
       past_other = ap (λ p. after (form s).row s.ports.has_output p p.phase (Put o rec)) at;
       matches = inr (acts, goal, finite, e, refl);
       closed = x.closed;
+      saw = x.saw;
       tooks = x.tooks;
       lists = λ k flag free. ap (λ b. cond b (records_on k x.other ++ rec ∷ []) (records_on k x.other)) (elsewhere k flag free) ∙ x.lists k flag free;
     },
@@ -160,6 +173,7 @@ module _ (s : Strand) (plain : IsPlainStrand s) (g : Given) (unlimited : (o : �
       past_other = ap (λ p. after (form s).row s.ports.has_output p p.phase e) at_other ∙ r.4;
       matches = r.5;
       closed = same_ended e y.other h y.closed;
+      saw = same_seen e y.other h y.saw;
       tooks = λ i. ap (one_more (is_took i e)) (y.tooks i);
       lists = λ o flag free. same_records o e y.other h (y.lists o flag free);
     }
@@ -233,6 +247,7 @@ module _ (s : Strand) (plain : IsPlainStrand s) (g : Given) (unlimited : (o : �
         past_other = ap (λ p. after (form s).row s.ports.has_output p p.phase (Put o rec)) at_other;
         matches = inr (acts, goal, none, refl, refl);
         closed = y.closed;
+        saw = y.saw;
         tooks = y.tooks;
         lists = λ k flag free. same_records k (Put o rec) y.other h (y.lists k flag free);
       }))
@@ -259,6 +274,12 @@ module _ (s : Strand) (plain : IsPlainStrand s) (g : Given) (unlimited : (o : �
 
         by_test : (b : Bool) → ((form s).row.yields && is_refused s.ports.has_output (o ∷ y.refused)) ≡ b → e ≡ Refused o → Follows (e ∷ h) ⊎ IsCutOff (e ∷ h)
         by_test true x it = inr (subst (λ z. IsCutOff (z ∷ h)) (sym it) (record {
+          other = y.other;
+          within = y.within;
+          output = o;
+          rec = rec;
+          wrote = ap (λ (p : Past). want_in p.phase) at_other;
+          saw = y.saw;
           known = y.known;
           refused = o ∷ y.refused;
           now = Doing [] (Ends (pos 0));
@@ -284,6 +305,7 @@ module _ (s : Strand) (plain : IsPlainStrand s) (g : Given) (unlimited : (o : �
             b,
           );
           closed = y.closed;
+          saw = y.saw;
           tooks = y.tooks;
           lists = λ k flag free. y.lists k flag (second_no (o == k) (has y.refused k) free);
         }))
@@ -301,19 +323,39 @@ module _ (s : Strand) (plain : IsPlainStrand s) (g : Given) (unlimited : (o : �
         by_acts y (Writes o rec ∷ acts) goal none first a b = write_event y o rec acts goal none first a b
         by_acts y (Repeats o rec ∷ acts) goal none first a b = absurd none
 
-  -- who was cut off stays so
-  pub stays_cut : (h : List Event) (e : Event) → IsCutOff h → IsCutOff (e ∷ h)
-  stays_cut h e x = record {
+  -- who was cut off ends, and has no other event
+  pub stays_cut : (h : List Event) (e : Event) → answers (next s h) e ≡ true → IsCutOff h → IsCutOff (e ∷ h)
+  stays_cut h e fits x = record {
+    other = x.other;
+    within = x.within;
+    output = x.output;
+    rec = x.rec;
+    wrote = x.wrote;
+    saw = x.saw ∙ sym (unseen e told);
     known = x.known;
     refused = x.refused;
     now = Lost;
-    past = elim x.over [
-      | inl is ↦ ap (λ p. after (form s).row s.ports.has_output p p.phase e) (x.past ∙ ap (mk x.known x.refused) is)
-      | inr is ↦ ap (λ p. after (form s).row s.ports.has_output p p.phase e) (x.past ∙ ap (mk x.known x.refused) is)
-    ];
+    past = ap (λ p. after (form s).row s.ports.has_output p p.phase e) (x.past ∙ ap (mk x.known x.refused) ends);
     all_refused = x.all_refused;
     over = inr refl;
   }
+    where
+      still : answers (want_in x.now) e ≡ true
+      still = subst (λ (p : Past). answers (want_in p.phase) e ≡ true) x.past (still_wants s h e fits)
+
+      ends : x.now ≡ Doing [] (Ends (pos 0))
+      ends = elim x.over [
+        | inl is ↦ is
+        | inr is ↦ (let z : answers None e ≡ true = subst (λ f. answers (want_in f) e ≡ true) is still in cc)
+      ]
+
+      told : answers (Some (Done (pos 0))) e ≡ true
+      told = subst (λ f. answers (want_in f) e ≡ true) ends still
+
+      unseen : (e : Event) → answers (Some (Done (pos 0))) e ≡ true → has_seen (e ∷ h) ≡ has_seen h
+      unseen (Ended code) p = refl
+      unseen (Saw i r) p = cc
+      unseen _ p = refl
 
   -- what it wants to write, the whole history puts next
   pub next_put : (h : List Event) (o : ℕ) (rec : List ℕ) → IsOwn s h → has_ended h ≡ false → Follows h → next s h ≡ Some (Write o rec) →

@@ -24,7 +24,7 @@ use Rattle.confluence_laws.proofs.Fitting.{past_of, still_wants}
 use Rattle.confluence_laws.proofs.Within.{same_answer, write_told, alone_put, alone_refused, IsPrimed}
 use Rattle.confluence_laws.proofs.Asked.{plain_want}
 use Rattle.confluence_laws.proofs.Follow.{follows_on, stays_cut}
-use Rattle.confluence_laws.proofs.Ways.{HasNoEarly, refused_before, plain_strand, IsFollowing, IsStopped, IsOnTheWay, way_begins, shown_whole}
+use Rattle.confluence_laws.proofs.Ways.{HasNoEarly, refused_before, plain_strand, IsFollowing, IsStopped, IsOnTheWay, way_begins, shown_whole, primed_whole}
 
 not_less_self : (n : ℕ) → nat_lt n n ≡ false
 not_less_self n = grind (arith, nat_tests)
@@ -96,8 +96,21 @@ module _ (net : Net) (formed : IsWellFormed net) (plain : IsPlain net) (ordered 
         cc
 
     -- what it asks of DAM's first strand is what the lists hold
-    primes : IsPrimed (sight_of net st none_left t) (whole net orders lists t) actor.2.0
-    primes = ?
+    primed : IsPrimed (sight_of net st none_left t) (whole net orders lists t) actor.2.0
+    primed = by_want actor.2.0 actor.2.1
+      where
+        by_want : (w : Want) → next actor.0 (past st t) ≡ Some w → IsPrimed (sight_of net st none_left t) (whole net orders lists t) w
+        by_want Prime want = primed_whole net formed plain ordered calm orders lists first st way t actor.0 actor.1 want
+        by_want (Commit level) want = tt
+        by_want (Read i) want = tt
+        by_want Any want = tt
+        by_want Gate want = tt
+        by_want (Take i) want = tt
+        by_want (Write o rec) want = tt
+        by_want (Issue text) want = tt
+        by_want (Join u) want = tt
+        by_want (Sever u) want = tt
+        by_want (Done code) want = tt
 
     own_after : (s : Who) (p : Strand) → strand_at net nothing_yet s ≡ Some p → IsOwn p (past (with_event st t f) s)
     own_after s p e = elim (equal_or_not s t) [
@@ -116,7 +129,7 @@ module _ (net : Net) (formed : IsWellFormed net) (plain : IsPlain net) (ordered 
         Cases s p e z = IsFollowing net formed plain ordered calm orders lists first (λ u. z) s p e ⊎ IsStopped net formed plain ordered calm orders lists first (λ u. z) s p e
 
         by_case : s ≡ t → Cases s p e (past st s) → Cases s p e (f ∷ past st s)
-        by_case it (inr x) = inr (stays_cut p (plain_strand net formed plain ordered calm orders lists first s p e) (whole net orders lists s) (λ o. refl) (first s p e).0 (first s p e).1 (past st s) f x)
+        by_case it (inr x) = inr (stays_cut p (plain_strand net formed plain ordered calm orders lists first s p e) (whole net orders lists s) (λ o. refl) (first s p e).0 (first s p e).1 (past st s) f (subst (λ w. answers w f ≡ true) (ap (λ z. want_after z (past st t)) (sym (ap (strand_at net st) it) ∙ e) ∙ ap (λ z. next p (past st z)) (sym it)) fits) x)
         by_case it (inl x) =
             let p_is = actor_is s p e it in
             let want : next p (past st s) ≡ Some actor.2.0 = ap (λ z. next p (past st z)) it ∙ ap (λ z. next z (past st t)) (sym p_is) ∙ actor.2.1 in
@@ -124,7 +137,7 @@ module _ (net : Net) (formed : IsWellFormed net) (plain : IsPlain net) (ordered 
             let on : has_ended (past st s) ≡ false = ap (λ z. has_ended (past st z)) it ∙ going in
             let told : answers (Some actor.2.0) f ≡ true = subst (λ w. answers w f ≡ true) (ap (λ z. want_after z (past st t)) actor.1 ∙ actor.2.1) fits in
             follows_on p (plain_strand net formed plain ordered calm orders lists first s p e) (whole net orders lists s) (λ o. refl) (first s p e).0 (first s p e).1 (past st s) (way.own s p e) (sight_of net st none_left s) k actor.2.0 f on want may told
-            (shown_whole net formed plain ordered calm orders lists first st way s on) (subst (λ z. IsPrimed (sight_of net st none_left z) (whole net orders lists z) actor.2.0) (sym it) primes) x
+            (shown_whole net formed plain ordered calm orders lists first st way s on) (subst (λ z. IsPrimed (sight_of net st none_left z) (whole net orders lists z) actor.2.0) (sym it) primed) x
 
     still_ended : (u : Who) → has_ended (past st u) ≡ true → has_ended (past (with_event st t f) u) ≡ true
     still_ended u e = ap has_ended (ended_stays net formed st t f k licensed u e) ∙ e
@@ -180,7 +193,7 @@ module _ (net : Net) (formed : IsWellFormed net) (plain : IsPlain net) (ordered 
       told_alone : alone_event (cut net orders lists later t) (past st t) (next actor.0 (past st t)) ≡ Some f
       told_alone = ap (alone_event (cut net orders lists later t) (past st t)) actor.2.1 ∙ elim (plain_want actor.0 (plain_strand net formed plain ordered calm orders lists first t actor.0 actor.1) (past st t) (way.own t actor.0 actor.1) actor.2.0 actor.2.1) [
         | inl simple ↦ same_answer (sight_of net st none_left t) (cut net orders lists later t) (past st t) k actor.2.0 f
-            (let x = shown_whole net formed plain ordered calm orders lists first st way t going in record { level = x.level; hand = x.hand; over = x.over }) simple (primed_too actor.2.0 primes) actor.2.2
+            (let x = shown_whole net formed plain ordered calm orders lists first st way t going in record { level = x.level; hand = x.hand; over = x.over }) simple (primed_too actor.2.0 primed) actor.2.2
         | inr w ↦ ap (λ z. alone_event (cut net orders lists later t) (past st t) (Some z)) w.2 ∙
             elim (write_told (sight_of net st none_left t) k w.0 w.1 f (subst (λ z. answer (sight_of net st none_left t) k (Some z) ≡ Some f) w.2 actor.2.2)) [
               | inl put ↦ alone_put (cut net orders lists later t) (past st t) w.0 w.1 (puts_more w.0 (link_out net st t w.0) refl put.1) ∙ ap Some (sym put.0)

@@ -1,5 +1,5 @@
 -- Any legal dispatch of a plain net is on the way to its plain reading.
-use Rattle.std.proofs.Common.{◌≡◌, ◌⊎◌, inl, inr, ℤ, ℕ, zero, suc, ◌+◌, Bool, true, false, cond, ◌&&◌, ◌||◌, not, ◌==◌, List, [], ◌∷◌, ◌++◌, length, refl, sym, ◌∙◌, ap, subst, arith, Option, Some, None, slice_get, is_some, pos, negsuc}
+use Rattle.std.proofs.Common.{◌≡◌, ◌⊎◌, inl, inr, ℤ, ℕ, zero, suc, ◌+◌, ◌-◌, ◌<◌, Bool, true, false, cond, ◌&&◌, ◌||◌, not, ◌==◌, List, [], ◌∷◌, ◌++◌, length, refl, sym, ◌∙◌, ap, subst, arith, Option, Some, None, slice_get, is_some, pos, negsuc}
 use Rattle.std.specs.List.{list_any, list_all}
 use Rattle.std.specs.Ordering.{int_eq}
 use Rattle.std.proofs.lemmas.Bool.Decides.{Decides-int_eq}
@@ -9,21 +9,24 @@ use Rattle.pipe_model.specs.declared.net.Strand.{Strand}
 use Rattle.pipe_model.specs.Code.{worst_of}
 use Rattle.pipe_model.specs.Event.{Event, Want, records_on, tooks_on, has_ended, has_reached, code_of, answers}
 use Rattle.pipe_model.specs.Event.Event.{Up, Took, Put, Refused, Ended}
-use Rattle.pipe_model.specs.Event.Want.{Write}
+use Rattle.pipe_model.specs.Event.Want.{Write, Prime}
 use Rattle.pipe_model.specs.Row.{Act, Goal, Plan, Known, Row}
 use Rattle.pipe_model.specs.Row.Act.{Writes, Repeats, Takes}
 use Rattle.pipe_model.specs.Row.Goal.{Asks, Ends}
-use Rattle.pipe_model.specs.Table.{Line, form}
+use Rattle.pipe_model.specs.Table.{Line, form, line_of}
 use Rattle.pipe_model.specs.Next.{Phase, Past, has, flag_at, all_refused_from, after, learned, begins_plan, first_phase, want_in, wanted_by, next, IsOwn}
 use Rattle.pipe_model.specs.Next.Phase.{Starting, Doing, Lost}
 use Rattle.pipe_model.specs.State.{State, Who, past, same, nothing_yet, members, strand_at, link_in, link_out}
-use Rattle.pipe_model.specs.Licence.{none_left, want_after, want_at, puts, tooks, is_level, offered, shown, at_hand, is_over, out_closed, stands_at, early_code, worst_early, level_of, sight_of}
-use Rattle.pipe_model.specs.WellFormed.{IsWellFormed}
+use Rattle.pipe_model.specs.Licence.{none_left, want_after, want_at, puts, tooks, is_level, offered, shown, at_hand, is_over, out_closed, stands_at, early_code, worst_early, level_of, part_down, first_part, primed_by, sight_of}
+use Rattle.pipe_model.specs.WellFormed.{IsWellFormed, IsOfStage, strands_of}
 use Rattle.pipe_model.specs.Plain.{IsPlain, IsOrdered}
-use Rattle.pipe_model.specs.Alone.{Orders, Lists, list_on, whole, IsFirstPass, early_or_zero}
+use Rattle.pipe_model.specs.Alone.{Given, Orders, Lists, list_on, primes, whole, IsFirstPass, early_or_zero}
 use Rattle.confluence_laws.proofs.Basics.{cond_some, both, either, or_second, same_number, test_same, not_ended, from_in}
-use Rattle.confluence_laws.proofs.Fitting.{past_of, still_wants}
-use Rattle.confluence_laws.proofs.Within.{is_all, longer, at_end, past_end, count_is, records_within, IsShown, IsLevel}
+use Rattle.confluence_laws.proofs.Fitting.{past_of, still_wants, IsAsker, stands_for}
+use Rattle.confluence_laws.proofs.Within.{alone_within, is_all, longer, at_end, past_end, count_is, records_within, IsShown, IsLevel}
+use Rattle.confluence_laws.proofs.Facts.{IsPrimer}
+use Rattle.confluence_laws.proofs.Sound.{first_primes}
+use Rattle.confluence_laws.proofs.Primers.{alone_tells, told_first, fresh_writes}
 use Rattle.confluence_laws.proofs.Asked.{IsPlainStrand}
 use Rattle.confluence_laws.proofs.Follow.{Follows, IsCutOff, follows_first, next_put}
 
@@ -269,3 +272,33 @@ module _ (net : Net) (formed : IsWellFormed net) (plain : IsPlain net) (ordered 
         by_over : (i : ℕ) (lk : Option Link) → link_in net st s i ≡ lk → is_over st lk ≡ true → slice_get (list_on lists lk) (tooks_on i (past st s)) ≡ None
         by_over i None e p = refl
         by_over i (Some link) e p = ap (slice_get (lists link.from link.output)) (sym (count s i link e going)) ∙ over_whole s i link e going (strand_at net st link.from) refl p
+
+    -- what a strand is told of the first strand of its stage is what the lists hold
+    pub primed_whole : (s : Who) (p : Strand) → strand_at net nothing_yet s ≡ Some p → next p (past st s) ≡ Some Prime → (b : Bool) → primed_by (past st (first_part net st s)) ≡ Some b → primes net lists s ≡ b
+    primed_whole s p e want b told = elim (way.followed (first_part net st s) mate.0 there) [
+      | inl x ↦ told_first given (past_of mate.0 x.other).known (past_of mate.0 x.other).phase x.other (past st (first_part net st s)) b x.saw (λ fresh going. sym x.closed ∙ going)
+          (alone_tells mate.0 primer given x.other (alone_within mate.0 given (first (first_part net st s) mate.0 there).0 (first (first_part net st s) mate.0 there).1 x.other x.within)) told
+      | inr x ↦ told_first given (past_of mate.0 x.other).known (past_of mate.0 x.other).phase x.other (past st (first_part net st s)) b x.saw (λ fresh going. absurd (fresh_writes (past_of mate.0 x.other).phase x.output x.rec fresh x.wrote))
+          (alone_tells mate.0 primer given x.other (alone_within mate.0 given (first (first_part net st s) mate.0 there).0 (first (first_part net st s) mate.0 there).1 x.other x.within)) told
+    ]
+      where
+        stage : (m : ℕ) × IsOfStage net s p m
+        stage = formed.staged s p e
+
+        mate : (q : Strand) × (strand_at net nothing_yet (s - p.part + 0) ≡ Some q) × (q.part ≡ 0) × (q.name ≡ p.name) × (q.kind ≡ p.kind)
+        mate = let lt = stage.1.part in stage.1.others 0 (omega (arith, lt))
+
+        place : s - p.part + 0 ≡ first_part net st s
+        place = (let z : s - p.part + 0 ≡ s - p.part = omega arith in z) ∙ sym (ap (part_down s) e)
+
+        there : strand_at net nothing_yet (first_part net st s) ≡ Some mate.0
+        there = ap (strand_at net nothing_yet) (sym place) ∙ mate.1
+
+        given : Given
+        given = whole net orders lists (first_part net st s)
+
+        asker : IsAsker p (past st s) Prime
+        asker = stands_for p (past st s) (way.own s p e) Prime want
+
+        primer : IsPrimer (form mate.0).row
+        primer = subst (λ z. IsPrimer (line_of mate.0 z).row) (sym mate.4) (first_primes p mate.0 p.kind (past_of p (past st s)).known asker.asked mate.2)
