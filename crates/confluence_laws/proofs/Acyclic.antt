@@ -1,10 +1,9 @@
 -- The tests of a plain net, and of one in which no strand takes what comes first, imply that it is one.
-use Rattle.std.proofs.Common.{◌≡◌, inl, inr, ℕ, zero, suc, ◌<◌, Bool, true, false, cond, ◌&&◌, ◌||◌, not, List, [], ◌∷◌, length, refl, sym, ◌∙◌, ap, subst, arith, Option, Some, None, slice_get}
+use Rattle.std.proofs.Common.{◌≡◌, ℕ, ◌<◌, Bool, true, false, ◌&&◌, ◌||◌, not, length, refl, sym, ◌∙◌, ap, arith, Option, Some, None}
 use Rattle.std.specs.Prelude.{nat_lt}
 use Rattle.std.specs.List.{list_all}
 use Rattle.std.proofs.lemmas.Bool.Decides.{nat_tests}
 use Rattle.pipe_model.specs.declared.net.Net.{Net}
-use Rattle.pipe_model.specs.declared.net.Link.{Link}
 use Rattle.pipe_model.specs.declared.net.Strand.{Strand}
 use Rattle.pipe_model.specs.Table.{Meeting, form}
 use Rattle.pipe_model.specs.Table.Meeting.{Ordered, Braided, Loose}
@@ -12,10 +11,11 @@ use Rattle.pipe_model.specs.State.{Who, below, nothing_yet, strand_at}
 use Rattle.pipe_model.specs.Licence.{first_part}
 use Rattle.pipe_model.specs.Settled.{is_settled}
 use Rattle.pipe_model.specs.Plain.{waits_for_first, IsAcyclic, IsPlain, IsOrdered, height, rises, is_acyclic, is_plain, is_ordered, is_ordered_meeting}
-use Rattle.confluence_laws.proofs.Basics.{both, all_at, equal_or_not}
+use Rattle.confluence_laws.proofs.Basics.{both, all_at}
 use Rattle.confluence_laws.proofs.Ends.{at_place}
 use Rattle.confluence_laws.proofs.Walks.{settled_if, in_below}
 
+-- what the test of less says
 less : (a b : ℕ) → nat_lt a b ≡ true → a < b
 less a b e = grind (arith, nat_tests)
 

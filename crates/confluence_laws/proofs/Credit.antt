@@ -1,24 +1,24 @@
 -- How many events a strand can have, by the records that it took and put.
-use Rattle.std.proofs.Common.{◌≡◌, ◌≢◌, ◌⊎◌, inl, inr, ℤ, ℕ, zero, suc, ◌+◌, ◌*◌, ◌≤◌, ◌<◌, Bool, true, false, cond, ◌&&◌, ◌||◌, not, ◌==◌, List, [], ◌∷◌, ◌++◌, length, refl, sym, ◌∙◌, ap, subst, arith, Some, None, pos, negsuc}
+use Rattle.std.proofs.Common.{◌≡◌, ◌≢◌, ◌⊎◌, inl, inr, ℕ, zero, suc, ◌+◌, ◌*◌, ◌≤◌, Bool, true, false, cond, ◌&&◌, ◌||◌, not, ◌==◌, List, [], ◌∷◌, ◌++◌, length, refl, sym, ◌∙◌, ap, subst, arith, Some, None, pos, negsuc}
 use Rattle.std.specs.Prelude.{filter}
 use Rattle.std.specs.List.{list_all}
 use Rattle.std.specs.Ordering.{int_eq}
 use Rattle.pipe_model.specs.declared.net.Strand.{Strand}
 use Rattle.pipe_model.specs.Event.{Event, Want, one_more, answers, is_took, tooks_on}
-use Rattle.pipe_model.specs.Event.Event.{Up, Saw, SawEnd, SawAllEnd, Took, Put, Refused, Primed, Opened, Joined, Severed, Ended}
+use Rattle.pipe_model.specs.Event.Event.{Up, Saw, SawEnd, Took, Put, Refused, Primed, Ended}
 use Rattle.pipe_model.specs.Event.Want.{Commit, Read, Any, Gate, Take, Write, Prime, Issue, Join, Sever, Done}
 use Rattle.pipe_model.specs.Row.{Pair, Act, Goal, Plan, Known, Row}
 use Rattle.pipe_model.specs.Row.Act.{Writes, Repeats, Takes}
 use Rattle.pipe_model.specs.Row.Goal.{Asks, Ends}
 use Rattle.pipe_model.specs.Table.{form}
 use Rattle.pipe_model.specs.Table.Meeting.{Ordered}
-use Rattle.pipe_model.specs.Next.{Phase, Past, IsOwn, has, flag_at, is_live, is_open, is_refused, doing, begins_plan, without, learned, nothing_known, first_phase, past_by, after, want_in}
+use Rattle.pipe_model.specs.Next.{Phase, Past, IsOwn, has, flag_at, is_live, is_open, is_refused, doing, begins_plan, without, learned, nothing_known, first_phase, after, want_in}
 use Rattle.pipe_model.specs.Next.Phase.{Starting, Doing, Lost}
 use Rattle.confluence_laws.proofs.Basics.{both, same_number, test_same, test_apart, equal_or_not}
-use Rattle.confluence_laws.proofs.Facts.{Fits, IsLook, IsFiniteLook, Allows, asking, reach_of, sees}
+use Rattle.confluence_laws.proofs.Facts.{IsLook, IsFiniteLook, Allows, asking, reach_of, sees}
 use Rattle.confluence_laws.proofs.Sound.{sound_line}
 use Rattle.confluence_laws.proofs.Fitting.{PhaseFits, past_of, still_wants, own_fits, own_knows, IsOnce}
-use Rattle.confluence_laws.proofs.Sums.{over, over_same, over_more, over_within}
+use Rattle.confluence_laws.proofs.Sums.{over, over_same, over_more}
 use Rattle.confluence_laws.proofs.Ends.{count_on, count_none, count_saw, count_took, count_other}
 
 -- what an event that moves a record pays for: a put for itself, and what was taken for its sight too
@@ -27,6 +27,7 @@ cost (Took i) = 2
 cost (Put o rec) = 1
 cost _ = 0
 
+-- what the events of a history pay for
 abbrev pub spent : List Event → ℕ
 spent [] = 0
 spent (e ∷ h) = cost e + spent h
@@ -108,11 +109,13 @@ no_level : (n : ℕ) → (negsuc (suc n) ≡ negsuc 0) ⊎ (negsuc (suc n) ≡ p
 no_level n (inl e) = cc
 no_level n (inr e) = cc
 
+-- of two ways on
 live_or : (outputs : List Bool) (refused : List ℕ) (b : Bool) (f g : Phase) → IsLiveNow outputs refused f → IsLiveNow outputs refused g → IsLiveNow outputs refused (cond b f g)
 live_or outputs refused true f g x y = x
 live_or outputs refused false f g x y = y
 
 module _ (A : Known → Want → Type 0) (w : Row) (outputs : List Bool) where
+  -- a plan begins so
   begins_live : (refused : List ℕ) (plan : Plan) → IsLiveNow outputs refused (begins_plan outputs refused plan)
   begins_live refused plan = live_all (is_live outputs refused) plan.acts
 
@@ -142,6 +145,7 @@ module _ (A : Known → Want → Type 0) (w : Row) (outputs : List Bool) where
 
 -- What was seen
 
+-- a record is seen on the input
 abbrev pub is_saw : ℕ → Event → Bool
 is_saw i (Saw i' rec) = i' == i
 is_saw i _ = false
@@ -176,10 +180,12 @@ abbrev free : List Event → ℕ
 free [] = 2
 free (e ∷ told) = 1
 
+-- its end is always left
 some_free : (told : List Event) → 1 ≤ free told
 some_free [] = omega arith
 some_free (e ∷ told) = omega arith
 
+-- and no more than both
 few_free : (told : List Event) → free told ≤ 2
 few_free [] = omega arith
 few_free (e ∷ told) = omega arith
@@ -197,11 +203,13 @@ credit k (Starting _) = 3
 credit k (Doing acts goal) = free k.told
 credit k Lost = 0
 
+-- of two ways on
 credit_or : (k : Known) (n : ℕ) (b : Bool) (f g : Phase) → credit k f ≤ n → credit k g ≤ n → credit k (cond b f g) ≤ n
 credit_or k n true f g x y = x
 credit_or k n false f g x y = y
 
 module _ (s : Strand) (finite : (form s).finite ≡ true) (ordered : (form s).meeting ≡ Ordered) where
+  -- what it asks for where it asks
   look_is : (k : Known) (want : Want) → asking s s.kind k want → IsFiniteLook want × Allows Ordered want × IsLook (reach_of s s.kind) k want
   look_is k want asked = (((sound_line s).finite finite).looks k want asked, subst (λ m. Allows m want) ordered ((sound_line s).allows k want asked), (sound_line s).sound.looks k want asked)
 
@@ -227,6 +235,7 @@ module _ (s : Strand) (finite : (form s).finite ≡ true) (ordered : (form s).me
   abbrev debt : Known → ℕ
   debt k = over (λ i. count_on i k.sight) (reach_of s s.kind) + over (λ i. one_more (has k.ends i) 0) (reach_of s s.kind)
 
+  -- what it is told adds to what it sees or to the ends, or uses up its question about DAM
   debt_told : (k : Known) (want : Want) (e : Event) → asking s s.kind k want → answers (Some want) e ≡ true → debt k + 2 ≤ free k.told + debt (learned k e)
   debt_told k want e asked it =
       let look = look_is k want asked in
@@ -251,9 +260,11 @@ module _ (s : Strand) (finite : (form s).finite ≡ true) (ordered : (form s).me
       primed : (b : Bool) (want : Want) → want ≡ Prime → IsLook (reach_of s s.kind) k want → debt k + 2 ≤ free k.told + debt (learned k (Primed b))
       primed b want is look = let a : free k.told ≡ 2 = ap free (subst (IsLook (reach_of s s.kind) k) is look) in omega (arith, a)
 
+  -- what it takes goes out of sight
   debt_took : (k : Known) (i : ℕ) → sees i k.sight ≡ true → over (λ j. count_on j k.sight) (reach_of s s.kind) ≤ over (λ j. count_on j (without i k.sight)) (reach_of s s.kind) + 1
   debt_took k i sees_it = over_less (λ j. count_on j k.sight) (λ j. count_on j (without i k.sight)) (reach_of s s.kind) i (let a = count_took i k.sight sees_it in omega (arith, a)) (λ j apart. sym (count_other i j k.sight (λ e. apart (sym e))))
 
+  -- a refusal makes an open output less
   pays_refused : (p : Past) (f : Phase) (o o' : ℕ) (acts : List Act) (goal : Goal) → credit p.known f ≡ free p.known.told → (o' == o) ≡ true → is_open s.ports.has_output p.refused o ≡ true →
       suc (open_from 0 s.ports.has_output (o' ∷ p.refused) + credit p.known (cond ((form s).row.yields && is_refused s.ports.has_output (o' ∷ p.refused)) (Doing [] (Ends (pos 0))) (doing s.ports.has_output (o' ∷ p.refused) acts goal))) + debt p.known
       ≤ open_from 0 s.ports.has_output p.refused + credit p.known f + 0 + debt p.known
@@ -333,10 +344,12 @@ module _ (s : Strand) (finite : (form s).finite ≡ true) (ordered : (form s).me
   balance_step p (Doing (Takes i ∷ acts) goal) _ at it fits j = cc
   balance_step p Lost e at it fits j = cc
 
+  -- all along its history what it is to do can be done
   live_all_along : (h : List Event) → IsOwn s h → IsLiveNow s.ports.has_output (past_of s h).refused (past_of s h).phase
   live_all_along [] own = elim (form s).row.early as (λ m. IsLiveNow s.ports.has_output [] (first_phase m)) [ None ↦ tt | Some code ↦ refl ]
   live_all_along (e ∷ h) own = live_step (asking s s.kind) (form s).row s.ports.has_output (past_of s h) (past_of s h).phase e refl (still_wants s h e own.0) (own_fits s h own.1) (live_all_along h own.1)
 
+  -- all along its history what was seen was taken or is in sight
   pub saws_are : (h : List Event) → IsOwn s h → (j : ℕ) → tooks_on j h + count_on j (past_of s h).known.sight ≡ saws_on j h
   saws_are [] own j = refl
   saws_are (e ∷ h) own j =
@@ -371,6 +384,7 @@ module _ (s : Strand) (finite : (form s).finite ≡ true) (ordered : (form s).me
       by_phase (Doing (Takes i' ∷ acts) goal) it fits = cc
       by_phase Lost it fits = cc
 
+  -- all along its history its events were paid by credit and records
   credit_all : (h : List Event) → IsOwn s h → length h + (open_from 0 s.ports.has_output (past_of s h).refused + credit (past_of s h).known (past_of s h).phase) ≤ length s.ports.has_output + 4 + spent h + debt (past_of s h).known
   credit_all [] own =
       let a = all_open 0 s.ports.has_output in
@@ -381,6 +395,7 @@ module _ (s : Strand) (finite : (form s).finite ≡ true) (ordered : (form s).me
       let b = credit_step (past_of s h) (past_of s h).phase e refl (still_wants s h e own.0) (own_fits s h own.1) (live_all_along h own.1) in
       omega (arith, a, b)
 
+  -- each input that it reads has one record in sight and one end at most
   debt_within : (h : List Event) → IsOwn s h → debt (past_of s h).known ≤ 2 * reach_of s s.kind
   debt_within h own =
       let a = ones (λ i. count_on i (past_of s h).known.sight) (reach_of s s.kind) (λ i. count_once i (past_of s h).known.sight (own_knows s h own).once) in

@@ -1,27 +1,27 @@
 -- A strand by itself comes to its end, if it writes finitely much and takes nothing as it comes.
 use Rattle.std.proofs.Common.{◌≡◌, ◌≢◌, inl, inr, ℤ, ℕ, zero, suc, ◌+◌, ◌≤◌, ◌<◌, Bool, true, false, cond, ◌&&◌, ◌||◌, ◌==◌, List, [], ◌∷◌, ◌++◌, length, refl, sym, ◌∙◌, ap, subst, arith, Option, Some, None, is_none, slice_get, pos, negsuc}
-use Rattle.std.specs.Prelude.{filter, not}
+use Rattle.std.specs.Prelude.{filter}
 use Rattle.pipe_model.specs.declared.net.Strand.{Strand}
-use Rattle.pipe_model.specs.Event.{Event, Want, one_more, is_took, puts_on, tooks_on, has_ended, answers}
+use Rattle.pipe_model.specs.Event.{Event, Want, one_more, puts_on, tooks_on, has_ended, answers}
 use Rattle.pipe_model.specs.Event.Event.{Up, Saw, SawEnd, Took, Put, Refused, Primed, Ended}
 use Rattle.pipe_model.specs.Event.Want.{Commit, Read, Any, Gate, Take, Write, Prime, Issue, Join, Sever, Done}
-use Rattle.pipe_model.specs.Row.{Pair, Act, Goal, Known, Row}
+use Rattle.pipe_model.specs.Row.{Pair, Act, Goal, Known}
 use Rattle.pipe_model.specs.Row.Act.{Writes, Repeats, Takes}
 use Rattle.pipe_model.specs.Row.Goal.{Asks, Ends}
 use Rattle.pipe_model.specs.Table.{Meeting, form}
 use Rattle.pipe_model.specs.Table.Meeting.{Ordered, Braided, Loose}
-use Rattle.pipe_model.specs.Next.{Phase, Past, has, is_live, is_refused, doing, without, learned, nothing_known, first_phase, past_by, after, want_in, next, told_it}
+use Rattle.pipe_model.specs.Next.{Phase, Past, has, is_live, is_refused, doing, without, learned, nothing_known, first_phase, past_by, after, want_in}
 use Rattle.pipe_model.specs.Next.Phase.{Starting, Doing, Lost}
-use Rattle.pipe_model.specs.Licence.{read_answer, write_answer}
+use Rattle.pipe_model.specs.Licence.{read_answer}
 use Rattle.pipe_model.specs.Alone.{Given, takes_more, alone_event, IsAlone, IsAllAlone}
-use Rattle.pipe_model.specs.Plain.{is_ordered_meeting}
 use Rattle.confluence_laws.proofs.Basics.{test_same, test_apart, equal_or_not, same_number}
 use Rattle.confluence_laws.proofs.Facts.{Fits, IsLook, IsFiniteLook, Allows, NoRepeats, IsSoundLine, asking, reach_of, sees, taken}
 use Rattle.confluence_laws.proofs.Sound.{sound_line}
+use Rattle.confluence_laws.proofs.Within.{alone_put, alone_refused}
 use Rattle.confluence_laws.proofs.Sums.{over, over_same, over_more, over_within}
 
 -- a past of these parts
-abbrev pub mk : Known → List ℕ → Phase → Past
+abbrev mk : Known → List ℕ → Phase → Past
 mk k refused f = record { known = k; refused = refused; phase = f }
 
 -- What is in sight
@@ -71,7 +71,7 @@ count_other i j (p ∷ ps) apart = go (p.0 == i) refl (count_other i j ps apart)
 -- Acts that are dropped
 
 -- what fits still does where some writes are dropped
-pub fits_live : (A : Known → Want → Type 0) (outputs : List Bool) (refused : List ℕ) (k : Known) (acts : List Act) (goal : Goal) → Fits A k acts goal → Fits A k (filter (is_live outputs refused) acts) goal
+fits_live : (A : Known → Want → Type 0) (outputs : List Bool) (refused : List ℕ) (k : Known) (acts : List Act) (goal : Goal) → Fits A k acts goal → Fits A k (filter (is_live outputs refused) acts) goal
 fits_live A outputs refused k [] goal fits = fits
 fits_live A outputs refused k (Writes o rec ∷ acts) goal fits = go (is_live outputs refused (Writes o rec)) (fits_live A outputs refused k acts goal fits)
   where
@@ -117,21 +117,11 @@ told_any [] = 0
 told_any (e ∷ told) = 1
 
 module _ (s : Strand) (finite : (form s).finite ≡ true) (ordered : (form s).meeting ≡ Ordered) (g : Given) where
-  abbrev A : Known → Want → Type 0
-  A = asking s s.kind
-
-  abbrev w : Row
-  w = (form s).row
-
-  abbrev outputs : List Bool
-  outputs = s.ports.has_output
-
-  abbrev reach : ℕ
-  reach = reach_of s s.kind
-
+  -- the line of the stage table is sound
   line : IsSoundLine (asking s s.kind) (form s) (reach_of s s.kind)
   line = sound_line s
 
+  -- it has come to its end
   abbrev IsAtEnd : Type 0
   IsAtEnd = (h : List Event) × IsAllAlone s g h
 
@@ -143,13 +133,16 @@ module _ (s : Strand) (finite : (form s).finite ≡ true) (ordered : (form s).me
     -- what it took and sees is on the lists
     within : (i : ℕ) → tooks_on i h + count_on i k.sight ≤ length (g.inputs i)
 
+  -- by what it wants it goes on
   one_more_event : (k : Known) (refused : List ℕ) (f : Phase) (h : List Event) (want : Want) (e : Event) → Here k refused f h → want_in f ≡ Some want → alone_event g h (Some want) ≡ Some e → IsAlone s g (e ∷ h)
   one_more_event k refused f h want e here is may =
       (ap (alone_event g h) (ap (λ b. cond b None (want_in (past_by (form s).row s.ports.has_output h).phase)) here.going ∙ ap (λ (p : Past). want_in p.phase) here.past ∙ is) ∙ may, here.alone)
 
+  -- where it is to end it ends
   finish : (k : Known) (refused : List ℕ) (code : ℤ) (h : List Event) → Here k refused (Doing [] (Ends code)) h → IsAtEnd
   finish k refused code h here = (Ended code ∷ h, (one_more_event k refused (Doing [] (Ends code)) h (Done code) (Ended code) here refl refl, refl))
 
+  -- one answer or none counts
   told_one : (told : List Event) → told_any told ≤ 1
   told_one [] = omega arith
   told_one (e ∷ told) = omega arith
@@ -162,6 +155,7 @@ module _ (s : Strand) (finite : (form s).finite ≡ true) (ordered : (form s).me
   abbrev room : ℕ
   room = over (λ i. length (g.inputs i)) (reach_of s s.kind) + reach_of s s.kind + 1
 
+  -- it had no more than it may have
   used_within : (k : Known) (h : List Event) → ((i : ℕ) → tooks_on i h + count_on i k.sight ≤ length (g.inputs i)) → used k h ≤ room
   used_within k h within =
       let a = over_within (λ i. tooks_on i h + count_on i k.sight) (λ i. length (g.inputs i)) (reach_of s s.kind) (λ i lt. within i) in
@@ -188,13 +182,10 @@ module _ (s : Strand) (finite : (form s).finite ≡ true) (ordered : (form s).me
   does n zero rest k refused (a ∷ acts) goal h few here fits none size = absurd (omega (arith, few))
   does n (suc m) rest k refused (Writes o rec ∷ acts) goal h few here fits none size = by_limit (takes_more (g.limits o) (puts_on o h)) refl (does n m rest)
     where
-      may : (b : Bool) → takes_more (g.limits o) (puts_on o h) ≡ b → alone_event g h (Some (Write o rec)) ≡ write_answer o rec b (not b)
-      may b is = ap (λ b. cond b (write_answer o rec (takes_more (g.limits o) (puts_on o h)) (not (takes_more (g.limits o) (puts_on o h)))) None) (test_same o) ∙ ap (λ b. write_answer o rec b (not b)) is
-
       by_limit : (b : Bool) → takes_more (g.limits o) (puts_on o h) ≡ b →
           ((k : Known) (refused : List ℕ) (acts : List Act) (goal : Goal) (h : List Event) → length acts ≤ m → Here k refused (Doing acts goal) h → Fits (asking s s.kind) k acts goal → NoRepeats acts → room < n + used k h → IsAtEnd) → IsAtEnd
       by_limit true is on = on k refused acts goal (Put o rec ∷ h) (omega (arith, few)) (record {
-        alone = one_more_event k refused (Doing (Writes o rec ∷ acts) goal) h (Write o rec) (Put o rec) here refl (may true is);
+        alone = one_more_event k refused (Doing (Writes o rec ∷ acts) goal) h (Write o rec) (Put o rec) here refl (alone_put g h o rec is);
         going = here.going;
         past = ap (λ (p : Past). after (form s).row s.ports.has_output p p.phase (Put o rec)) here.past;
         within = here.within;
@@ -206,7 +197,7 @@ module _ (s : Strand) (finite : (form s).finite ≡ true) (ordered : (form s).me
 
           here_now : (f : Phase) → cond ((form s).row.yields && is_refused s.ports.has_output (o ∷ refused)) (Doing [] (Ends (pos 0))) (doing s.ports.has_output (o ∷ refused) acts goal) ≡ f → Here k (o ∷ refused) f (Refused o ∷ h)
           here_now f e = record {
-            alone = one_more_event k refused (Doing (Writes o rec ∷ acts) goal) h (Write o rec) (Refused o) here refl (may false is);
+            alone = one_more_event k refused (Doing (Writes o rec ∷ acts) goal) h (Write o rec) (Refused o) here refl (alone_refused g h o rec is);
             going = here.going;
             past = now ∙ ap (mk k (o ∷ refused)) e;
             within = here.within;

@@ -1,21 +1,20 @@
 -- No legal dispatch of a plain net is longer than enough: where a strand ends early no record moves, and elsewhere the records are on the first pass's lists.
-use Rattle.std.proofs.Common.{◌≡◌, ◌⊎◌, inl, inr, ℤ, ℕ, zero, suc, ◌+◌, ◌≤◌, ◌<◌, Bool, true, false, cond, ◌&&◌, ◌||◌, ◌==◌, List, [], ◌∷◌, ◌++◌, length, take, refl, sym, ◌∙◌, ap, subst, arith, Option, Some, None, slice_get, is_some, pos, negsuc}
+use Rattle.std.proofs.Common.{◌≡◌, ◌⊎◌, inl, inr, ℤ, ℕ, suc, ◌≤◌, ◌<◌, Bool, true, false, ◌||◌, List, [], ◌∷◌, ◌++◌, length, refl, sym, ◌∙◌, ap, subst, arith, Option, Some, None, slice_get, is_some, pos, negsuc}
 use Rattle.std.specs.List.{list_any}
-use Rattle.std.specs.Ordering.{int_eq}
 use Rattle.std.proofs.Math.Seq.{take-append_seam}
 use Rattle.std.proofs.lemmas.List.{length-append}
 use Rattle.pipe_model.specs.declared.net.Net.{Net}
 use Rattle.pipe_model.specs.declared.net.Strand.{Strand}
 use Rattle.pipe_model.specs.declared.step.Entry.{Entry}
-use Rattle.pipe_model.specs.Event.{Event, Want, one_more, answers, has_ended, has_up, moves, puts_on, tooks_on, records_on}
-use Rattle.pipe_model.specs.Event.Event.{Up, Saw, Put, Refused}
+use Rattle.pipe_model.specs.Event.{Event, one_more, answers, has_ended, has_up, moves, puts_on, tooks_on, records_on}
+use Rattle.pipe_model.specs.Event.Event.{Up, Saw, Put}
 use Rattle.pipe_model.specs.Event.Want.{Write, Done}
 use Rattle.pipe_model.specs.Row.Goal.{Ends}
 use Rattle.pipe_model.specs.Table.{form}
-use Rattle.pipe_model.specs.Next.{Phase, Past, first_phase, after, want_in, next, IsOwn}
+use Rattle.pipe_model.specs.Next.{Past, first_phase, after, want_in, next, IsOwn}
 use Rattle.pipe_model.specs.Next.Phase.{Doing, Lost}
 use Rattle.pipe_model.specs.State.{State, Who, past, nothing_yet, strand_at, link_in}
-use Rattle.pipe_model.specs.Licence.{none_left, want_after, want_at, answer, licence, sight_of}
+use Rattle.pipe_model.specs.Licence.{none_left, want_after, want_at, licence}
 use Rattle.pipe_model.specs.Play.{step, play, play_from, IsLicensed, IsLegal, IsLegalFrom}
 use Rattle.pipe_model.specs.Committed.{IsMove, IsCommitted, event_of, event_at}
 use Rattle.pipe_model.specs.WellFormed.{IsWellFormed}
@@ -23,13 +22,12 @@ use Rattle.pipe_model.specs.Alone.{Lists, Orders, list_on, whole, IsFirstPass, i
 use Rattle.pipe_model.specs.Plain.{IsPlain, IsOrdered, enough}
 use Rattle.confluence_laws.proofs.Basics.{test_same}
 use Rattle.confluence_laws.proofs.Later.{actor_goes_on}
-use Rattle.confluence_laws.proofs.Fitting.{past_of, still_wants}
+use Rattle.confluence_laws.proofs.Fitting.{past_of, still_wants, wants_now}
 use Rattle.confluence_laws.proofs.Owns.{answers_it}
 use Rattle.confluence_laws.proofs.Braids.{saw_it, play_reached}
 use Rattle.confluence_laws.proofs.Commits.{committed_before}
-use Rattle.confluence_laws.proofs.Within.{at_end, count_is, records_within, write_told}
-use Rattle.confluence_laws.proofs.Pending.{mk}
-use Rattle.confluence_laws.proofs.Follow.{Follows, IsCutOff, wants_in, next_put}
+use Rattle.confluence_laws.proofs.Within.{at_end, count_is, records_within}
+use Rattle.confluence_laws.proofs.Follow.{next_put}
 use Rattle.confluence_laws.proofs.Ways.{HasNoEarly, plain_strand, IsOnTheWay, IsFollowing, IsStopped, way_begins, shown_whole}
 use Rattle.confluence_laws.proofs.Second.{on_the_way}
 use Rattle.confluence_laws.proofs.Barred.{early_none}
@@ -43,6 +41,7 @@ play_last : (net : Net) (st : State) (es : List Entry) (e : Entry) → play_from
 play_last net st [] e = refl
 play_last net st (d ∷ es) e = play_last net (step net st d) es e
 
+-- which is licensed
 legal_last : (net : Net) (st : State) (es : List Entry) (e : Entry) → IsLegalFrom net st es → IsLicensed net (play_from net st es) e → IsLegalFrom net st (es ++ e ∷ [])
 legal_last net st [] e legal may = (may, tt)
 legal_last net st (d ∷ es) e legal may = (legal.0, legal_last net (step net st d) es e legal.1 may)
@@ -126,15 +125,18 @@ module _ (net : Net) (formed : IsWellFormed net) (plain : IsPlain net) (ordered 
             let more : length (records_on o (Put o asked.0 ∷ u.0.other)) ≡ suc (puts_on o u.0.other) = count_is o (Put o asked.0 ∷ u.0.other) ∙ ap (λ b. one_more b (puts_on o u.0.other)) (test_same o) in
             let now : puts_on o u.0.other ≡ puts_on o (past st t) = sym (count_is o u.0.other) ∙ ap length (u.0.lists o u.3 u.2) ∙ count_is o (past st t) in
             omega (arith, all, split, more, now)
-        by_follow p here want (inr x) = elim x.over [
-          | inl is ↦ (let z : Some (Done (pos 0)) ≡ Some (Write o asked.0) = sym (wants_in p (past st t) (mk x.known x.refused x.now) going x.past ∙ ap want_in is) ∙ want in cc)
-          | inr is ↦ (let z : None ≡ Some (Write o asked.0) = sym (wants_in p (past st t) (mk x.known x.refused x.now) going x.past ∙ ap want_in is) ∙ want in cc)
-        ]
+        by_follow p here want (inr x) =
+            let now : want_in x.now ≡ Some (Write o asked.0) = ap (λ (q : Past). want_in q.phase) (sym x.past) ∙ (wants_now p (past st t) (Write o asked.0) want).0 in
+            elim x.over [
+              | inl is ↦ (let z : Some (Done (pos 0)) ≡ Some (Write o asked.0) = ap want_in (sym is) ∙ now in cc)
+              | inr is ↦ (let z : None ≡ Some (Write o asked.0) = ap want_in (sym is) ∙ now in cc)
+            ]
 
         by_strand : (m : Option Strand) → strand_at net nothing_yet t ≡ m → puts_on o (past st t) < length (lists t o)
         by_strand None e = (let z : None ≡ Some (Write o asked.0) = ap (λ z. want_after z (past st t)) (sym e) ∙ asked.1 in cc)
         by_strand (Some p) e = by_follow p e (ap (λ z. want_after z (past st t)) (sym e) ∙ asked.1) (way.followed t p e)
 
+  -- so the dispatch is no longer than enough
   pub few_listed : (es : List Entry) → IsLegal net es → length es ≤ enough net lists
   few_listed =
       few_entries net formed plain.finite ordered lists (IsOnTheWay net formed plain ordered calm orders lists first)
@@ -157,6 +159,7 @@ some_early (p ∷ ps) e = by_test (is_early p) refl e (λ q. some_early ps q)
     by_test true is q rest = (0, p, refl, its_code (form p).row.early refl is)
     by_test false is q rest = let r = rest q in (suc r.0, r.1, r.2, r.3)
 
+-- no legal dispatch of a plain net is longer than enough
 pub few_steps : (net : Net) → IsWellFormed net → IsPlain net → IsOrdered net → (orders : Orders) (lists : Lists) → IsFirstPass net orders lists → (es : List Entry) → IsLegal net es → length es ≤ enough net lists
 few_steps net formed plain ordered orders lists first es legal = by_early (list_any is_early net.strands) refl
   where

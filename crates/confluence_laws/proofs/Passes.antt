@@ -1,5 +1,5 @@
 -- The first pass and the plain reading of a plain net exist.
-use Rattle.std.proofs.Common.{◌≡◌, ◌≢◌, inl, inr, ℕ, zero, suc, ◌+◌, ◌-◌, ◌<◌, ◌≤◌, Bool, true, false, cond, ◌&&◌, ◌==◌, List, [], ◌∷◌, length, refl, sym, ◌∙◌, ap, subst, arith, Option, Some, None, slice_get, is_some, not}
+use Rattle.std.proofs.Common.{◌≡◌, inl, inr, ℕ, zero, suc, ◌+◌, ◌-◌, ◌<◌, ◌≤◌, Bool, true, false, cond, ◌&&◌, ◌==◌, List, [], ◌∷◌, length, refl, sym, ◌∙◌, ap, subst, arith, Option, Some, None, slice_get, is_some, not}
 use Rattle.std.specs.Bool.{MatchBool}
 use Rattle.std.specs.List.{list_any}
 use mathlib.Core.Path.{fun_ext}
@@ -12,9 +12,9 @@ use Rattle.pipe_model.specs.Table.Parting.{Whole, Queued, Streamed}
 use Rattle.pipe_model.specs.Next.{next}
 use Rattle.pipe_model.specs.State.{State, Who, past, same, nothing_yet, strand_at, link_in, link_out}
 use Rattle.pipe_model.specs.Licence.{first_part, part_down}
-use Rattle.pipe_model.specs.WellFormed.{IsWellFormed, IsJoined, IsOfStage, strands_of}
+use Rattle.pipe_model.specs.WellFormed.{IsWellFormed, IsOfStage, strands_of}
 use Rattle.pipe_model.specs.Alone.{Given, Lists, Orders, list_on, inputs_of, primes, limit_of, whole, cut, alone_event, IsAlone, IsAllAlone, IsFirstPass, IsSecondPass, is_early, worst_of_early, barred_history, IsBarred, IsPlainReading}
-use Rattle.pipe_model.specs.Plain.{IsPlain, IsOrdered, IsAcyclic, is_primed_later, waits_for_first}
+use Rattle.pipe_model.specs.Plain.{IsPlain, IsOrdered, is_primed_later, waits_for_first}
 use Rattle.confluence_laws.proofs.Basics.{equal_or_not, found_at, from_in, from_out, test_apart}
 use Rattle.confluence_laws.proofs.Facts.{same_parting}
 use Rattle.confluence_laws.proofs.Within.{Within, from_start, grows, alone_within}
@@ -33,6 +33,7 @@ module _ (s : Strand) (g : Given) (W : List Event) (done : IsAllAlone s g W) whe
       by_want None is p x = cc
       by_want (Some want) is p x = grows s g W done k e want x is p
 
+  -- where it wants nothing more it is the whole
   finished_within : (h : List Event) → next s h ≡ None → Within W h → h ≡ W
   finished_within h none all = refl
   finished_within h none (earlier {d} x) =
@@ -40,22 +41,23 @@ module _ (s : Strand) (g : Given) (W : List Event) (done : IsAllAlone s g W) whe
       (let y : None ≡ Some d = ap (alone_event g h) (sym none) ∙ z in cc)
 
   -- it has one such history
-  pub one_whole : (k : List Event) → IsAllAlone s g k → k ≡ W
+  one_whole : (k : List Event) → IsAllAlone s g k → k ≡ W
   one_whole k a = finished_within k a.1 (within_whole k a.0)
 
 -- The first pass
 
 -- what a strand does by itself
-abbrev pub ran : Option Strand → Given → List Event
+abbrev ran : Option Strand → Given → List Event
 ran None g = []
 ran (Some p) g = (alone_to_end p g).0
 
 -- a number above all ranks
-abbrev pub top : (ℕ → ℕ) → ℕ → ℕ
+abbrev top : (ℕ → ℕ) → ℕ → ℕ
 top rank zero = 0
 top rank (suc n) = suc (rank n) + top rank n
 
-pub below_top : (rank : ℕ → ℕ) (n s : ℕ) → s < n → rank s < top rank n
+-- each strand ranks below it
+below_top : (rank : ℕ → ℕ) (n s : ℕ) → s < n → rank s < top rank n
 below_top rank zero s lt = absurd (omega (arith, lt))
 below_top rank (suc n) s lt = elim (equal_or_not s n) [
   | inl is ↦ subst (λ z. rank z < suc (rank n) + top rank n) (sym is) (omega arith)
@@ -69,22 +71,26 @@ at_some (x ∷ xs) zero lt = (x, refl)
 at_some (x ∷ xs) (suc i) lt = at_some xs i (omega (arith, lt))
 
 module _ (net : Net) (formed : IsWellFormed net) (plain : IsPlain net) where
+  -- a link leads from a lower rank
   rises_in : (s i : ℕ) (l : Link) → link_in net nothing_yet s i ≡ Some l → plain.acyclic.rank l.from < plain.acyclic.rank s
   rises_in s i l e =
       let r = found_at (λ k. same k.to s && k.input == i) net.links e in
       subst (λ z. plain.acyclic.rank l.from < plain.acyclic.rank z) (from_in net formed nothing_yet s i l e).0 (plain.acyclic.along r.1.0 l r.1.1)
 
+  -- and to a higher one
   rises_out : (s o : ℕ) (l : Link) → link_out net nothing_yet s o ≡ Some l → plain.acyclic.rank s < plain.acyclic.rank l.to
   rises_out s o l e =
       let r = found_at (λ k. same k.from s && k.output == o) net.links e in
       subst (λ z. plain.acyclic.rank z < plain.acyclic.rank l.to) (from_out net formed nothing_yet s o l e).0 (plain.acyclic.along r.1.0 l r.1.1)
 
+  -- it leads from a strand
   producer : (s i : ℕ) (l : Link) → link_in net nothing_yet s i ≡ Some l → (q : Strand) × (strand_at net nothing_yet l.from ≡ Some q)
   producer s i l e =
       let r = found_at (λ k. same k.to s && k.input == i) net.links e in
       let j = formed.joined r.1.0 l r.1.1 in
       (j.producer, j.from_strand)
 
+  -- and to one
   consumer : (s o : ℕ) (l : Link) → link_out net nothing_yet s o ≡ Some l → (q : Strand) × (strand_at net nothing_yet l.to ≡ Some q)
   consumer s o l e =
       let r = found_at (λ k. same k.from s && k.output == o) net.links e in
@@ -141,6 +147,7 @@ module _ (net : Net) (formed : IsWellFormed net) (plain : IsPlain net) where
       by_link t i le None e = refl
       by_link t i le (Some l) e = each t i l le e
 
+  -- as many rounds as settle all lists
   abbrev rounds : ℕ
   rounds = top plain.acyclic.rank (length net.strands)
 
@@ -150,6 +157,7 @@ module _ (net : Net) (formed : IsWellFormed net) (plain : IsPlain net) where
     pass zero s o = []
     pass (suc n) s o = records_on o (ran (strand_at net nothing_yet s) (whole net orders (pass n) s))
 
+    -- after more rounds than its rank a strand puts the same again
     settles : (n s : ℕ) (p : Strand) → strand_at net nothing_yet s ≡ Some p → plain.acyclic.rank s < n → (o : ℕ) → pass (suc n) s o ≡ pass n s o
     settles zero s p here lt o = absurd (omega (arith, lt))
     settles (suc n) s p here lt o =
@@ -159,6 +167,7 @@ module _ (net : Net) (formed : IsWellFormed net) (plain : IsPlain net) where
         settles n l.from q.0 q.1 (omega (arith, r, le, lt)) l.output) in
         ap (λ z. records_on o (ran (strand_at net nothing_yet s) z)) e
 
+    -- the first pass exists
     pub first_pass : IsOrdered net → (lists : Lists) × IsFirstPass net orders lists
     first_pass ordered = (
       pass rounds,
@@ -182,6 +191,7 @@ module _ (net : Net) (formed : IsWellFormed net) (plain : IsPlain net) where
         let it = one_whole p (whole net orders a s) u.0 u.1 v.0 (subst (λ z. IsAllAlone p z v.0) given v.1) in
         sym (u.2 o) ∙ ap (records_on o) (sym it) ∙ v.2 o
 
+    -- so first passes give a strand the same
     same_given : (a b : Lists) → IsFirstPass net orders a → IsFirstPass net orders b → (s : ℕ) (p : Strand) → strand_at net nothing_yet s ≡ Some p → whole net orders a s ≡ whole net orders b s
     same_given a b x y s p here = same_whole orders a b s p here (λ t i l le is.
         let q = producer t i l is in
@@ -189,6 +199,7 @@ module _ (net : Net) (formed : IsWellFormed net) (plain : IsPlain net) where
 
     -- The second pass
 
+    -- what the consumers take of each output
     abbrev limits_of : State → Who → ℕ → Option ℕ
     limits_of st s o = limit_of st (link_out net nothing_yet s o)
 
@@ -206,12 +217,14 @@ module _ (net : Net) (formed : IsWellFormed net) (plain : IsPlain net) where
       back zero s = []
       back (suc n) s = ran (strand_at net nothing_yet s) (cut net orders lists (back n) s)
 
+      -- a strand does the same again after more rounds than there are ranks above it
       settles_back : (n s : ℕ) (p : Strand) → strand_at net nothing_yet s ≡ Some p → rounds < n + plain.acyclic.rank s → back (suc n) s ≡ back n s
       settles_back zero s p here lt = let r = below_top plain.acyclic.rank (length net.strands) s (at_place net.strands s here) in absurd (omega (arith, lt, r))
       settles_back (suc n) s p here lt =
           let e = same_limits (back (suc n)) (back n) s (λ o l q is there. let r = rises_out s o l is in settles_back n l.to q there (omega (arith, lt, r))) in
           ap (λ z. ran (strand_at net nothing_yet s) (record { inputs = inputs_of net lists s; order = orders s; primed = primes net lists s; limits = z })) e
 
+      -- the second pass exists
       second_pass : IsOrdered net → (st : State) × IsSecondPass net orders lists st
       second_pass ordered = (
         back (suc rounds),
@@ -222,10 +235,12 @@ module _ (net : Net) (formed : IsWellFormed net) (plain : IsPlain net) where
 
     -- The plain reading
 
+    -- the history where a strand of the net ends early
     abbrev barred_at : Option Strand → List Event
     barred_at None = []
     barred_at (Some p) = barred_history (worst_of_early net.strands) (form p).row.early
 
+    -- a plain reading exists
     pub some_reading : IsOrdered net → (st : State) × IsPlainReading net orders st
     some_reading ordered = by_early (list_any is_early net.strands)
       where
@@ -237,6 +252,7 @@ module _ (net : Net) (formed : IsWellFormed net) (plain : IsPlain net) where
             (second.0, (first.0, first.1, second.1))
 
     module _ (a b : State) where
+      -- two second passes are the same, from the last strands on
       same_from : (lists lists' : Lists) → IsFirstPass net orders lists → IsFirstPass net orders lists' → IsSecondPass net orders lists a → IsSecondPass net orders lists' b →
           (n s : ℕ) (p : Strand) → rounds < n + plain.acyclic.rank s → strand_at net nothing_yet s ≡ Some p → past a s ≡ past b s
       same_from lists lists' x y u v zero s p lt here = let r = below_top plain.acyclic.rank (length net.strands) s (at_place net.strands s here) in absurd (omega (arith, lt, r))
@@ -247,6 +263,7 @@ module _ (net : Net) (formed : IsWellFormed net) (plain : IsPlain net) where
           (subst (λ z. IsAllAlone p (record { inputs = inputs_of net lists s; order = orders s; primed = primes net lists s; limits = z }) (past b s)) limits
           (subst (λ (z : Given). IsAllAlone p (record { inputs = z.inputs; order = z.order; primed = z.primed; limits = limits_of b s }) (past b s)) given (v s p here))))
 
+      -- there is one plain reading
       pub one_reading : IsPlainReading net orders a → IsPlainReading net orders b → (s : ℕ) → s < length net.strands → past a s ≡ past b s
       one_reading x y s lt = let p = at_some net.strands s lt in by_early (list_any is_early net.strands) x y p.0 p.1
         where

@@ -1,5 +1,5 @@
 -- A test of each member of a list, as far as a loop has come.
-use Rattle.std.proofs.Common.{◌≡◌, ℕ, zero, suc, ◌+◌, Bool, true, false, ◌&&◌, List, [], ◌∷◌, take, refl, sym, ◌∙◌, ap, Option, Some, None, slice_get, add-one}
+use Rattle.std.proofs.Common.{◌≡◌, ℕ, zero, suc, ◌+◌, Bool, true, false, ◌&&◌, List, [], ◌∷◌, take, refl, ◌∙◌, ap, Some, slice_get, add-one}
 use Rattle.std.specs.List.{list_all}
 
 both : (a b : Bool) → (a && b) ≡ true → (a ≡ true) × (b ≡ true)

@@ -1,13 +1,12 @@
 -- From what the parts of a call did to what the call answers.
-use Rattle.std.proofs.Common.{◌≡◌, ◌≢◌, ◌⊎◌, ⊎_elim, inl, inr, ℕ, ◌+◌, ◌<◌, ◌≤◌, List, [], ◌∷◌, ◌++◌, length, refl, sym, ◌∙◌, ap, subst, arith, append-nil, length-append, Option, Some, None}
-use Rattle.std.specs.Option.{option_map, IfSome}
+use Rattle.std.proofs.Common.{◌≡◌, ◌≢◌, ◌⊎◌, ⊎_elim, inl, inr, ℕ, ◌<◌, List, [], ◌++◌, length, refl, sym, ◌∙◌, ap, subst, arith, append-nil, length-append, Option, Some, None}
+use Rattle.std.specs.Option.{IfSome}
 use Rattle.outside.specs.Source.{Gave}
-use Rattle.outside.specs.Sink.{Gained}
 use Rattle.pipe_cli.specs.declared.status.Status.{Status}
 use Rattle.pipe_cli.specs.declared.status.Status.TheVariants.{Zero, ReadFault, WriteFault, NoMemory, InputTooLarge, NotYet}
-use Rattle.pipe_cli.specs.Devices.{Device, Outside, Steady, Failed, IsRead}
-use Rattle.pipe_cli.specs.Meaning.{Means, Overflows, IsStraightLine, input_limit}
-use Rattle.pipe_cli.specs.Answer.{HasCause, Decides, Reports, Told, IsHalfTold, AllSteady, NoneFailed, IsMeant, Answers}
+use Rattle.pipe_cli.specs.Devices.{Device, Outside, Steady}
+use Rattle.pipe_cli.specs.Meaning.{Means, IsStraightLine, input_limit}
+use Rattle.pipe_cli.specs.Answer.{HasCause, Decides, Reports, AllSteady, NoneFailed, IsMeant, Answers}
 use Rattle.pipe_cli.specs.Steps.{IsPart, StopsReading}
 use Rattle.pipe_cli.proofs.Streams.{gained-none, gave-none}
 

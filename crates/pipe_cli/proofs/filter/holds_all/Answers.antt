@@ -1,4 +1,4 @@
-use Rattle.std.proofs.Common.{◌≡◌, ◌∙◌, sym, ap, take, false}
+use Rattle.std.proofs.Common.{sym}
 use Rattle.pipe_model.specs.Search.{holds}
 use Rattle.pipe_cli.proofs.Checks.{list_all-take_more, list_all-false_at}
 use Rattle.pipe_cli.proofs.filter.holds_all.Goals as goal

@@ -1,5 +1,3 @@
-use Rattle.std.proofs.Common.{refl, map, ◌≡◌, ap, sym, subst, ◌∙◌}
-use Rattle.std.specs.String.{string_bytes}
 use Rattle.std.proofs.lemmas.Result.{err_from_is_err_and}
 use Rattle.pipe_cli.proofs.Replies.{decides-words, decides-reading}
 use Rattle.pipe_cli.proofs.main_call.run.Goals as goal

@@ -1,4 +1,4 @@
-use Rattle.std.proofs.Common.{◌≡◌, ◌∙◌, ◌++◌, ◌+◌, ◌<◌, ◌≤◌, take, length, arith, length-append}
+use Rattle.std.proofs.Common.{◌∙◌, ◌++◌, ◌<◌, take, length, arith, length-append}
 use Rattle.std.proofs.lemmas.List.{length-take}
 use Rattle.pipe_cli.specs.Meaning.{input_limit}
 use Rattle.pipe_cli.proofs.Streams.{gave-more}

@@ -1,4 +1,4 @@
-use Rattle.std.proofs.Common.{◌≡◌, ◌∙◌, sym, ap, subst, take, drop, ◌-◌, length, arith, Option, List, ℕ, ◌+◌, ◌≤◌, length-drop}
+use Rattle.std.proofs.Common.{◌∙◌, subst, drop, ◌-◌, length, arith, List, ℕ, ◌+◌, ◌≤◌, length-drop}
 use Rattle.std.proofs.lemmas.List.{length-take}
 use Rattle.outside.specs.Sink.{Gained}
 use Rattle.pipe_cli.proofs.Streams.{gained-more, take-further}
