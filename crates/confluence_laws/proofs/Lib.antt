@@ -18,5 +18,6 @@ pub mod Rows
 pub mod Rules
 pub mod Sights
 pub mod Sound
+pub mod StraightRows
 pub mod Sums
 pub mod Within
