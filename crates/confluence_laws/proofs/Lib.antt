@@ -8,6 +8,7 @@ pub mod Follow
 pub mod Formed
 pub mod Later
 pub mod LeftOut
+pub mod Modes
 pub mod Orders
 pub mod Owed
 pub mod Owns
