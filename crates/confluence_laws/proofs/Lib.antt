@@ -4,6 +4,7 @@ pub mod Confluence
 pub mod Ends
 pub mod Facts
 pub mod Fitting
+pub mod Flow
 pub mod Follow
 pub mod Formed
 pub mod Later
