@@ -127,7 +127,7 @@ held_seen : (p : Strand) (test : List ℕ → Bool) (h : List Event) (m : Mode) 
 held_seen p test h m at rec is = (subst (λ (z : Mode). Stands p (Selects test) z h) is at).flows.1
 
 -- the records taken are as many as the takings
-took_count : (i : ℕ) (h : List Event) → length (taken_from i h) ≡ tooks_on i h
+pub took_count : (i : ℕ) (h : List Event) → length (taken_from i h) ≡ tooks_on i h
 took_count i [] = refl
 took_count i (Took j ∷ h) = by_test (j == i) (took_count i h)
   where

@@ -16,6 +16,7 @@ pub mod Owns
 pub mod Passes
 pub mod Pending
 pub mod Prefixes
+pub mod Progress
 pub mod Rows
 pub mod Rules
 pub mod Sights
