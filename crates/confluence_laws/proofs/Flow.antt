@@ -49,7 +49,8 @@ IsAhead from to put took = (rec : List ℕ) × (rest : List (List ℕ)) × (from
 abbrev pub IsPaced : Mode → Mode → List (List ℕ) → List (List ℕ) → Type 0
 IsPaced from to put took = ((put ≡ took) × Suits to from) ⊎ IsAhead from to put took
 
-length_more : {A : Type 0} (xs : List A) (x : A) → length (xs ++ x ∷ []) ≡ suc (length xs)
+-- one element more
+pub length_more : {A : Type 0} (xs : List A) (x : A) → length (xs ++ x ∷ []) ≡ suc (length xs)
 length_more [] x = refl
 length_more (z ∷ zs) x = ap suc (length_more zs x)
 
@@ -73,11 +74,12 @@ suits_any from from' (Holds rec) none going suits = absurd (none rec suits.0 sui
 suits_any from from' Stops none going suits = absurd (going suits)
 suits_any from from' Over none going suits = absurd (going suits)
 
+-- and its link is paced
 paced_any : (from from' to : Mode) (put took : List (List ℕ)) → ((rec : List ℕ) (rest : List (List ℕ)) → from ≢ Offers rec rest) → from ≢ Over → IsPaced from to put took → IsPaced from' to put took
 paced_any from from' to put took none going (inl x) = inl (x.0, suits_any from from' to none going x.1)
 paced_any from from' to put took none going (inr x) = absurd (none x.0 x.1 x.2)
 
--- the producer goes on to stand in from'
+-- the producer goes on
 put_on : (v : Sight) (e : Event) (h : List Event) (r : Role) (from to : Mode) (took : List (List ℕ)) → Told from v e → (v.can_put 0 ≡ true → length (records_on 0 h) < length took) →
     IsPaced from to (records_on 0 h) took → IsPaced (then_in from r e) to (records_on 0 (e ∷ h)) took
 put_on v e h r Begins to took told put paced = subst (λ z. IsPaced Commits to (records_on 0 (z ∷ h)) took) (sym told) (paced_any Begins Commits to (records_on 0 h) took (λ rec rest d. cc) (λ d. cc) paced)
@@ -97,6 +99,7 @@ pub record IsFed (v : Sight) (from : Mode) (put took : List (List ℕ)) : Type 0
   pub hand : (rec : List ℕ) → v.hand 0 ≡ Some rec → (length put ≡ length took) × IsOffering from rec
   pub over : v.over 0 ≡ true → (length put ≡ length took) × (from ≡ Over)
 
+-- a record that is offered comes in sight
 suits_seen : (from : Mode) (rec : List ℕ) (b : Bool) → IsOffering from rec → Suits (has_passed b rec) from
 suits_seen from rec true x = x
 suits_seen from rec false x = x
@@ -146,6 +149,7 @@ offers_it (Holds rec') rec e = cc
 offers_it Stops rec e = cc
 offers_it Over rec e = cc
 
+-- who has ended
 over_mode : (m : Mode) → is_over_mode m ≡ true → m ≡ Over
 over_mode Over e = refl
 over_mode Begins e = cc
@@ -166,7 +170,7 @@ offers_going from (Offers rec' rest') put took rec rest is paced = refl
 offers_going from (Holds rec') put took rec rest is paced = refl
 offers_going from Stops put took rec rest is paced = refl
 
--- who refuses is told nothing
+-- no strand is told of a refusal
 told_no_refusal : (m : Mode) (v : Sight) (o : ℕ) → Told m v (Refused o) → ⊥
 told_no_refusal Begins v o told = cc
 told_no_refusal Commits v o told = cc
@@ -191,6 +195,7 @@ pub record IsFlowing (net : Net) (bytes : List ℕ) (strings : List (List ℕ)) 
   pub paced : (s : Who) → s ≤ length strings → IsPaced (modes s) (modes (suc s)) (records_on 0 (past st s)) (taken_from 0 (past st (suc s)))
 
 module _ (net : Net) (formed : IsWellFormed net) (bytes : List ℕ) (strings : List (List ℕ)) (straight : IsStraightNet net bytes strings) where
+  -- before the first entry
   flows_first : IsFlowing net bytes strings nothing_yet
   flows_first = record {
     modes = λ s. Begins;
@@ -198,9 +203,11 @@ module _ (net : Net) (formed : IsWellFormed net) (bytes : List ℕ) (strings : L
     paced = λ s within. inl (refl, tt);
   }
 
+  -- there is a strand at each place
   pub some_strand : (s : Who) → s < length net.strands → (p : Strand) × (strand_at net nothing_yet s ≡ Some p)
   some_strand s lt = at_some net.strands s lt
 
+  -- the last place is that behind all strings
   pub within_size : (s : Who) → s ≤ suc (length strings) → s < length net.strands
   within_size s le = omega (arith, le, size net formed bytes strings straight)
 
@@ -209,9 +216,11 @@ module _ (net : Net) (formed : IsWellFormed net) (bytes : List ℕ) (strings : L
     pub wants_at : (s : Who) (p : Strand) → strand_at net nothing_yet s ≡ Some p → want_at net st none_left s ≡ want_of (flowing.modes s)
     wants_at s p at = ap (λ z. want_after z (past st s)) at ∙ wants_there p (role_at bytes strings s) (flowing.modes s) (past st s) (flowing.stands s p at)
 
+    -- whether it has ended
     pub ended_at : (s : Who) → s < length net.strands → has_ended (past st s) ≡ is_over_mode (flowing.modes s)
     ended_at s lt = let p = some_strand s lt in (flowing.stands s p.0 p.1).ended
 
+    -- on a level link as many records were taken as put
     level_lengths : (s : Who) → is_level st (next_link s) ≡ true → length (records_on 0 (past st s)) ≡ length (taken_from 0 (past st (suc s)))
     level_lengths s level = count_is 0 (past st s) ∙ same_number (puts_on 0 (past st s)) (tooks_on 0 (past st (suc s))) level ∙ sym (took_count 0 (past st (suc s)))
 
@@ -259,6 +268,7 @@ module _ (net : Net) (formed : IsWellFormed net) (bytes : List ℕ) (strings : L
         by_test true e = refl
         by_test false e = e
 
+    -- so that no strand ends early
     level_zero : (s : Who) (level code : ℤ) → level_of net st none_left s level ≡ Some code → code ≡ pos 0
     level_zero s level code is =
         let c = cond_some (list_all (stands_at net st none_left level) (members net st s)) (Some (worst_early st level (members net st s))) is in
@@ -274,6 +284,7 @@ module _ (net : Net) (formed : IsWellFormed net) (bytes : List ℕ) (strings : L
           by_strand (Some p) is = (p, is)
           by_strand None is = (let z : None ≡ Some e = ap (λ q. answer (sight_of net st none_left s) k (want_after q (past st s))) (sym is) ∙ may in cc)
 
+      -- its place
       place : s ≤ suc (length strings)
       place = let lt = slice_get_within net.strands s actor.0 actor.1 in omega (arith, lt, size net formed bytes strings straight)
 
@@ -285,27 +296,32 @@ module _ (net : Net) (formed : IsWellFormed net) (bytes : List ℕ) (strings : L
       pub no_refusal : (o : ℕ) → e ≢ Refused o
       no_refusal o is = told_no_refusal (flowing.modes s) (sight_of net st none_left s) o (subst (Told (flowing.modes s) (sight_of net st none_left s)) is told_at)
 
+      -- the state then
       abbrev later : State
       later = with_event st s e
 
-      -- it stands elsewhere then, and all others where they stood
+      -- it has gone on, and all others stand where they stood
       abbrev now : Mode
       now = then_in (flowing.modes s) (role_at bytes strings s) e
 
       abbrev stand : ℕ → Mode
       stand t = cond (same t s) now (flowing.modes t)
 
+      -- where it stands
       stand_here : stand s ≡ then_in (flowing.modes s) (role_at bytes strings s) e
       stand_here = ap (λ b. cond b now (flowing.modes s)) (test_same s)
 
+      -- and where another does
       stand_there : (t : Who) → t ≢ s → stand t ≡ flowing.modes t
       stand_there t apart = ap (λ b. cond b now (flowing.modes t)) (test_apart t s apart)
 
+      -- its history has led it there
       stands_here : (p : Strand) → strand_at net nothing_yet s ≡ Some p → Stands p (role_at bytes strings s) (stand s) (past later s)
       stands_here p at =
           subst (λ z. Stands p (role_at bytes strings s) z (past later s)) (sym stand_here) (subst (Stands p (role_at bytes strings s) (then_in (flowing.modes s) (role_at bytes strings s) e)) (sym (at_same st s e))
           (stands_on p (past st s) (sight_of net st none_left s) e (role_at bytes strings s) (does_at net formed bytes strings straight s p at) (flowing.modes s) (flowing.stands s p at) told_at))
 
+      -- and so has each history
       stands_still : (t : Who) (p : Strand) → strand_at net nothing_yet t ≡ Some p → Stands p (role_at bytes strings t) (stand t) (past later t)
       stands_still t p at = elim (equal_or_not t s) [
         | inl is ↦ subst (λ z. strand_at net nothing_yet z ≡ Some p → Stands p (role_at bytes strings z) (stand z) (past later z)) (sym is) (stands_here p) at
@@ -333,6 +349,7 @@ module _ (net : Net) (formed : IsWellFormed net) (bytes : List ℕ) (strings : L
               (fed_at t within)
               (flowing.paced t within))
 
+      -- each link
       paced_still : (t : Who) → t ≤ length strings → IsPaced (stand t) (stand (suc t)) (records_on 0 (past later t)) (taken_from 0 (past later (suc t)))
       paced_still t within = elim (equal_or_not t s) [
         | inl is ↦ subst (λ z. z ≤ length strings → IsPaced (stand z) (stand (suc z)) (records_on 0 (past later z)) (taken_from 0 (past later (suc z)))) (sym is) paced_on within
@@ -342,6 +359,7 @@ module _ (net : Net) (formed : IsWellFormed net) (bytes : List ℕ) (strings : L
         ]
       ]
 
+      -- the state after one more entry
       flows_more : IsFlowing net bytes strings (with_event st s e)
       flows_more = record { modes = stand; stands = stands_still; paced = paced_still }
 
@@ -352,5 +370,6 @@ module _ (net : Net) (formed : IsWellFormed net) (bytes : List ℕ) (strings : L
       let f = the_event (licence net st none_left e.strand e.stream) legal.0 in
       flows_from es (step net st e) (subst (λ z. IsFlowing net bytes strings (with_some_event st e.strand z)) (sym f.1) (flows_more st flowing e.strand e.stream f.0 f.1)) legal.1
 
+  -- from the start on
   pub all_flows : (es : List Entry) → IsLegal net es → IsFlowing net bytes strings (play net es)
   all_flows es legal = flows_from es nothing_yet flows_first legal

@@ -1,5 +1,6 @@
 -- Where a strand of a straight line stands, and how it goes on.
 use Rattle.std.proofs.Common.{◌≡◌, ◌≢◌, ◌⊎◌, inl, inr, ℕ, zero, suc, Bool, true, false, cond, List, [], ◌∷◌, ◌++◌, ◌==◌, refl, sym, ◌∙◌, ap, subst, Option, Some, None, ℤ, pos, negsuc, append_assoc}
+use Rattle.std.proofs.lemmas.List.{append-nil}
 use Rattle.std.specs.Prelude.{filter}
 use Rattle.pipe_model.specs.declared.net.Strand.{Strand}
 use Rattle.pipe_model.specs.Event.{Event, Want, records_on, taken_from, last_seen_on, has_ended, has_reached, code_of}
@@ -114,6 +115,7 @@ pub record Stands (p : Strand) (r : Role) (m : Mode) (h : List Event) : Type 0 w
   pub second : has_reached (pos 0) h ≡ has_committed m
   pub code : code_of h ≡ pos 0
 
+-- before its first event
 pub stands_first : (p : Strand) (r : Role) → Does (form p).row p.ports.has_output r → Stands p r Begins []
 stands_first p (Gives records) does = record { known = nothing_known; past = ap (λ z. mk nothing_known [] (first_phase z)) does.early; fresh = refl; flows = refl; ended = refl; first = refl; second = refl; code = refl }
 stands_first p (Selects test) does = record { known = nothing_known; past = ap (λ z. mk nothing_known [] (first_phase z)) does.early; fresh = refl; flows = refl; ended = refl; first = refl; second = refl; code = refl }
@@ -160,17 +162,15 @@ then_in (Holds rec) r e = Reads
 then_in Stops r e = Over
 then_in Over r e = Over
 
+-- a level that answers does so with 0
+up_told : (v : Sight) (e : Event) → ((level code : ℤ) → v.level level ≡ Some code → code ≡ pos 0) → (level : ℤ) → up_answer level (v.level level) ≡ Some e → e ≡ Up level (pos 0)
+up_told v e zeros level p = let u = up_is level e (v.level level) p in sym u.1 ∙ ap (Up level) (zeros level u.0 u.2)
+
 -- an answer tells it so, where the levels answer with 0 and nothing is refused
 pub told_by : (v : Sight) (k : ℕ) (e : Event) (m : Mode) → ((level code : ℤ) → v.level level ≡ Some code → code ≡ pos 0) → ((rec : List ℕ) (rest : List (List ℕ)) → m ≡ Offers rec rest → v.can_refuse 0 ≡ false) →
     answer v k (want_of m) ≡ Some e → Told m v e
-told_by v k e Begins zeros free may = level (negsuc 0) (cond_some (k == 0) (up_answer (negsuc 0) (v.level (negsuc 0))) may).1
-  where
-    level : (l : ℤ) → up_answer l (v.level l) ≡ Some e → e ≡ Up l (pos 0)
-    level l p = let u = up_is l e (v.level l) p in sym u.1 ∙ ap (Up l) (zeros l u.0 u.2)
-told_by v k e Commits zeros free may = level (pos 0) (cond_some (k == 0) (up_answer (pos 0) (v.level (pos 0))) may).1
-  where
-    level : (l : ℤ) → up_answer l (v.level l) ≡ Some e → e ≡ Up l (pos 0)
-    level l p = let u = up_is l e (v.level l) p in sym u.1 ∙ ap (Up l) (zeros l u.0 u.2)
+told_by v k e Begins zeros free may = up_told v e zeros (negsuc 0) (cond_some (k == 0) (up_answer (negsuc 0) (v.level (negsuc 0))) may).1
+told_by v k e Commits zeros free may = up_told v e zeros (pos 0) (cond_some (k == 0) (up_answer (pos 0) (v.level (pos 0))) may).1
 told_by v k e Reads zeros free may = by_sight (v.hand 0) (v.over 0) refl refl (cond_some (k == 0) (read_answer 0 (v.hand 0) (v.over 0)) may).1
   where
     by_sight : (a : Option (List ℕ)) (b : Bool) → v.hand 0 ≡ a → v.over 0 ≡ b → read_answer 0 a b ≡ Some e → Told Reads v e
@@ -197,11 +197,6 @@ filter_more test (y ∷ ys) x = (elim (test y) as (λ b. cond b (y ∷ filter te
     outside true xs ys = refl
     outside false xs ys = refl
 
--- nothing is appended
-no_more : {A : Type 0} (xs : List A) → xs ++ [] ≡ xs
-no_more [] = refl
-no_more (x ∷ xs) = ap (λ z. x ∷ z) (no_more xs)
-
 module _ (p : Strand) (h : List Event) (v : Sight) (e : Event) where
   -- the past after one more event
   past_on : (d : Event) (known : Known) (f : Phase) → past_of p h ≡ mk known [] f → past_of p (d ∷ h) ≡ after (form p).row p.ports.has_output (mk known [] f) f d
@@ -210,7 +205,7 @@ module _ (p : Strand) (h : List Event) (v : Sight) (e : Event) where
   -- it has records left to give, or none
   gives_rest : (records : List (List ℕ)) (d : Event) (rest : List (List ℕ)) (known : Known) → past_of p (d ∷ h) ≡ mk known [] (Doing (writes (on_first rest)) (Ends (pos 0))) → records_on 0 (d ∷ h) ++ rest ≡ records →
       has_ended (d ∷ h) ≡ false → has_reached (negsuc 0) (d ∷ h) ≡ true → has_reached (pos 0) (d ∷ h) ≡ true → code_of (d ∷ h) ≡ pos 0 → Stands p (Gives records) (offer rest) (d ∷ h)
-  gives_rest records d [] known past flows ended first second code = record { known = known; past = past; fresh = tt; flows = sym (no_more (records_on 0 (d ∷ h))) ∙ flows; ended = ended; first = first; second = second; code = code }
+  gives_rest records d [] known past flows ended first second code = record { known = known; past = past; fresh = tt; flows = sym (append-nil (records_on 0 (d ∷ h))) ∙ flows; ended = ended; first = first; second = second; code = code }
   gives_rest records d (rec ∷ rest) known past flows ended first second code = record { known = known; past = past; fresh = tt; flows = flows; ended = ended; first = first; second = second; code = code }
 
   -- a strand that gives goes on

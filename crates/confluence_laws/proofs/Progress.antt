@@ -19,7 +19,7 @@ use Rattle.confluence_laws.proofs.StraightRows.{role_at, test_at, size, link_on,
 use Rattle.confluence_laws.proofs.StraightRows.Role.{Gives, Selects}
 use Rattle.confluence_laws.proofs.Modes.{Mode, Stands, want_of, is_over as is_over_mode, has_begun, has_committed}
 use Rattle.confluence_laws.proofs.Modes.Mode.{Begins, Commits, Reads, Offers, Holds, Stops, Over}
-use Rattle.confluence_laws.proofs.Flow.{IsFlowing, IsPaced, IsAhead, IsOffering, Suits, some_strand, within_size, wants_at, ended_at, took_count}
+use Rattle.confluence_laws.proofs.Flow.{IsFlowing, IsPaced, IsAhead, IsOffering, Suits, some_strand, within_size, wants_at, ended_at, length_more, took_count}
 
 -- Lists
 
@@ -43,6 +43,7 @@ filter_both p q (x ∷ xs) = (elim (p x) as (λ b. filter q (cond b (x ∷ filte
   | false ↦ filter_both p q xs
 ])
 
+-- a test that all pass
 all_of : (xs : List (List ℕ)) → xs ≡ filter (λ x. true) xs
 all_of [] = refl
 all_of (x ∷ xs) = ap (λ z. x ∷ z) (all_of xs)
@@ -62,21 +63,20 @@ all_below : (test : ℕ → Bool) (n : ℕ) → ((t : ℕ) → t < n → test t 
 all_below test zero each = refl
 all_below test (suc n) each = ap (λ b. b && list_all test (below n)) (each n (omega arith)) ∙ all_below test n (λ t lt. each t (omega (arith, lt)))
 
--- as many
+-- equal numbers pass the test of equality
 equal_test : (a b : ℕ) → a ≡ b → (a == b) ≡ true
 equal_test a b e = grind (arith, nat_tests)
 
+-- and a lesser one that of order
 less_test : (a b : ℕ) → a < b → nat_lt a b ≡ true
 less_test a b e = grind (arith, nat_tests)
 
-length_more : (xs : List (List ℕ)) (x : List ℕ) → length (xs ++ x ∷ []) ≡ suc (length xs)
-length_more [] x = refl
-length_more (z ∷ zs) x = ap suc (length_more zs x)
-
 module _ (net : Net) (formed : IsWellFormed net) (bytes : List ℕ) (strings : List (List ℕ)) (straight : IsStraightNet net bytes strings) (st : State) (flowing : IsFlowing net bytes strings st) (none : (s k : ℕ) (e : Event) → licence net st none_left s k ≢ Some e) where
+  -- where a strand stands
   abbrev at : ℕ → Mode
   at s = flowing.modes s
 
+  -- the strand at a place
   strand : (s : Who) → s ≤ suc (length strings) → (p : Strand) × (strand_at net nothing_yet s ≡ Some p)
   strand s le = some_strand net formed bytes strings straight s (within_size net formed bytes strings straight s le)
 
@@ -86,17 +86,19 @@ module _ (net : Net) (formed : IsWellFormed net) (bytes : List ℕ) (strings : L
       let p = strand s le in
       none s k e (ap (answer (sight_of net st none_left s) k) (wants_at net formed bytes strings straight st flowing s p.0 p.1 ∙ ap want_of is) ∙ may)
 
-  -- nobody waits to take a record or to end
+  -- nobody is about to take a record
   never_holds : (s : Who) → s ≤ suc (length strings) → (rec : List ℕ) → at s ≢ Holds rec
   never_holds s le rec is = unanswered s le (Holds rec) is 0 (Took 0) refl
 
+  -- or to end
   never_stops : (s : Who) → s ≤ suc (length strings) → at s ≢ Stops
   never_stops s le is = unanswered s le Stops is 0 (Ended (pos 0)) refl
 
-  -- at a level at which all stand
+  -- a level at which all stand answers
   level_answer : (s : Who) (l : ℤ) → ((t : Who) → t < length net.strands → stands_at net st none_left l t ≡ true) → up_answer l (level_of net st none_left s l) ≡ Some (Up l (worst_early st l (members net st s)))
   level_answer s l all = ap (λ b. up_answer l (cond b (Some (worst_early st l (members net st s))) None)) (all_below (stands_at net st none_left l) (length net.strands) all)
 
+  -- whoever hasn't reached level -1 wants to
   stands_first : (t : Who) (m : Mode) → at t ≡ m → t < length net.strands → stands_at net st none_left (negsuc 0) t ≡ true
   stands_first t m is lt =
       let p = some_strand net formed bytes strings straight t lt in
@@ -112,6 +114,7 @@ module _ (net : Net) (formed : IsWellFormed net) (bytes : List ℕ) (strings : L
   never_begins : (s : Who) → s ≤ suc (length strings) → at s ≢ Begins
   never_begins s le is = unanswered s le Begins is 0 (Up (negsuc 0) (worst_early st (negsuc 0) (members net st s))) (level_answer s (negsuc 0) (λ t lt. stands_first t (at t) refl lt))
 
+  -- whoever hasn't reached level 0 wants to
   stands_second : (t : Who) (m : Mode) → at t ≡ m → t < length net.strands → stands_at net st none_left (pos 0) t ≡ true
   stands_second t m is lt =
       let p = some_strand net formed bytes strings straight t lt in
@@ -220,6 +223,7 @@ module _ (net : Net) (formed : IsWellFormed net) (bytes : List ℕ) (strings : L
       by_mode Stops is level before = absurd (never_stops (suc s) le is)
       by_mode Over is level before = refl
 
+  -- so every strand has ended
   pub has_ended_at : (s : Who) → s < length net.strands → has_ended (past st s) ≡ true
   has_ended_at s lt = ended_at net formed bytes strings straight st flowing s lt ∙ ap is_over_mode (all_over s (omega (arith, lt, size net formed bytes strings straight)))
 
@@ -234,5 +238,6 @@ module _ (net : Net) (formed : IsWellFormed net) (bytes : List ℕ) (strings : L
       let stand : Stands p.0 (Selects (test_at strings s)) Over (past st (suc s)) = subst (λ (m : Mode). Stands p.0 (Selects (test_at strings s)) m (past st (suc s))) (all_over (suc s) (omega (arith, le))) (flowing.stands (suc s) p.0 p.1) in
       sym (all_level (suc s) le).0 ∙ stand.flows ∙ ap (filter (test_at strings s)) (taken_is s (omega (arith, le))) ∙ sym (first_more s strings (lines bytes) (omega (arith, le)))
 
+  -- and the last one what passes every test
   pub last_took : taken_from 0 (past st (suc (length strings))) ≡ selected_by strings (lines bytes)
   last_took = taken_is (length strings) (omega arith) ∙ first_all strings (lines bytes)

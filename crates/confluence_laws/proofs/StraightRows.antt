@@ -77,9 +77,11 @@ all_live outputs (rec ∷ records) flag =
     ap (λ b. cond (b && true) (Writes 0 rec ∷ filter (is_live outputs []) (writes (on_first records))) (filter (is_live outputs []) (writes (on_first records)))) flag
     ∙ ap (λ z. Writes 0 rec ∷ z) (all_live outputs records flag)
 
+-- CONSOLE at the front gives its lines
 console_gives : (s : Strand) (bytes : List ℕ) (outputs : List Bool) → flag_at outputs 0 ≡ true → IsGiver (line_of s (ConsoleIn bytes)).row outputs (lines bytes)
 console_gives s bytes outputs flag = record { early = refl; starts = ap (λ z. Doing z (Ends (pos 0))) (all_live outputs (lines bytes) flag) }
 
+-- LOCATE selects the records that hold its string
 locate_selects : (s : Strand) (string : List ℕ) (outputs : List Bool) → flag_at outputs 0 ≡ true → flag_at outputs 1 ≡ false → IsSelector (line_of s (Locate all_columns (Some string))).row outputs (holds string)
 locate_selects s string outputs flag none = record {
   early = refl;
@@ -94,6 +96,7 @@ locate_selects s string outputs flag none = record {
     by_test rec true = ap (λ b. cond (b && true) (Writes 0 rec ∷ Takes 0 ∷ []) (Takes 0 ∷ [])) flag
     by_test rec false = ap (λ b. cond (b && true) (Writes 1 rec ∷ Takes 0 ∷ []) (Takes 0 ∷ [])) none
 
+-- CONSOLE at the end passes nothing on
 console_selects : (s : Strand) (outputs : List Bool) → flag_at outputs 0 ≡ false → IsSelector (line_of s ConsoleOut).row outputs (λ rec. false)
 console_selects s outputs none = record {
   early = refl;
@@ -160,6 +163,7 @@ module _ (net : Net) (formed : IsWellFormed net) (bytes : List ℕ) (strings : L
       ap (find (λ link. same link.from s && link.output == 1)) straight.links
       ∙ find_none (λ link. same link.from s && link.output == 1) (length strings + 1) 0 (λ k lt. and_false (same k s))
 
+  -- the kind that stands at a place
   kind_at : (s : Who) (p : Strand) → strand_at net nothing_yet s ≡ Some p → slice_get (ConsoleIn bytes ∷ (map (λ string. Locate all_columns (Some string)) strings ++ ConsoleOut ∷ [])) s ≡ Some p.kind
   kind_at s p at = ap (λ z. slice_get z s) (sym straight.kinds) ∙ slice_get-map (λ (p : Strand). p.kind) net.strands s ∙ ap (option_map (λ (p : Strand). p.kind)) at
 
