@@ -138,6 +138,7 @@ module _ (words : List (List ℕ)) (old new : Outside) where
       decides = d;
       reports = reports;
       files = files;
+      file_faults = file_faults;
       steady = steady;
       complete = complete;
     }

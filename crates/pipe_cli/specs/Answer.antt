@@ -87,8 +87,9 @@ pub record Answers (words : List (List ℕ)) (old new : Outside) (status : Statu
   pub decided : Status
   pub decides : Decides words old.input new.input old.output new.output decided
   pub reports : Reports decided status old.diag new.diag
-  -- the files stay as they were
+  -- the shelf isn't used: its files and its count of faults stay as they were
   pub files : new.files ≡ old.files
+  pub file_faults : new.file_faults ≡ old.file_faults
   -- a status that is no fault leaves the counts of faults as they were
   pub steady : status ≢ ReadFault → status ≢ WriteFault → AllSteady old new
   -- where no call failed, it answers what the words mean, or want of memory
