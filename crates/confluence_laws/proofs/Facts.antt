@@ -1,5 +1,5 @@
 -- What the laws need of a row, and of a line of the stage table.
-use Rattle.std.proofs.Common.{◌≡◌, ◌≢◌, ℕ, suc, ◌<◌, ◌≤◌, ◌*◌, Bool, true, false, ◌==◌, List, [], ◌∷◌, length, pos, Some, None, ℤ, refl}
+use Rattle.std.proofs.Common.{◌≡◌, ◌≢◌, ℕ, ◌<◌, ◌≤◌, Bool, true, false, ◌==◌, List, [], ◌∷◌, length, pos, Some, None, ℤ, refl}
 use Rattle.std.specs.List.{list_any}
 use Rattle.pipe_model.specs.declared.net.Strand.{Strand}
 use Rattle.pipe_model.specs.declared.kind.Kind.{Kind}
@@ -7,10 +7,10 @@ use Rattle.pipe_model.specs.declared.kind.Kind.TheVariants.{ConsoleIn, ConsoleOu
 use Rattle.pipe_model.specs.Event.{Event, Want, answers}
 use Rattle.pipe_model.specs.Event.Event.{SawEnd}
 use Rattle.pipe_model.specs.Event.Want.{Commit, Read, Any, Gate, Take, Write, Prime, Issue, Join, Sever, Done}
-use Rattle.pipe_model.specs.Row.{Pair, Act, Goal, Plan, Known, Row}
+use Rattle.pipe_model.specs.Row.{Pair, Act, Goal, Known, Row}
 use Rattle.pipe_model.specs.Row.Act.{Writes, Repeats, Takes}
 use Rattle.pipe_model.specs.Row.Goal.{Asks, Ends}
-use Rattle.pipe_model.specs.Table.{Line, Meeting, form, line_of}
+use Rattle.pipe_model.specs.Table.{Line, Meeting, line_of}
 use Rattle.pipe_model.specs.Table.Meeting.{Ordered, Braided, Loose}
 use Rattle.pipe_model.specs.Table.Parting.{Queued}
 use Rattle.pipe_model.specs.Next.{has, without, learned, nothing_known}

@@ -1,28 +1,26 @@
 -- On a straight line records and ends go one way, and nothing is refused.
-use Rattle.std.proofs.Common.{◌≡◌, ◌≢◌, ◌⊎◌, inl, inr, ℕ, zero, suc, ◌+◌, ◌≤◌, ◌<◌, Bool, true, false, cond, ◌&&◌, ◌||◌, not, ◌==◌, List, [], ◌∷◌, ◌++◌, length, refl, sym, ◌∙◌, ap, subst, arith, Option, Some, None, ℤ, pos, slice_get, is_some, IsTrue}
+use Rattle.std.proofs.Common.{◌≡◌, ◌≢◌, ◌⊎◌, inl, inr, ℕ, zero, suc, ◌≤◌, ◌<◌, Bool, true, false, cond, ◌&&◌, ◌==◌, List, [], ◌∷◌, ◌++◌, length, refl, sym, ◌∙◌, ap, subst, arith, Option, Some, None, ℤ, pos}
 use Rattle.std.specs.Prelude.{nat_lt}
 use Rattle.std.proofs.lemmas.Bool.Decides.{nat_tests}
 use Rattle.std.proofs.lemmas.Option.{slice_get_within}
 use Rattle.std.specs.List.{list_all}
 use Rattle.pipe_model.specs.declared.net.Net.{Net}
-use Rattle.pipe_model.specs.declared.net.Link.{Link}
 use Rattle.pipe_model.specs.declared.net.Strand.{Strand}
 use Rattle.pipe_model.specs.declared.step.Entry.{Entry}
 use Rattle.pipe_model.specs.Code.{worst_of}
-use Rattle.pipe_model.specs.Event.{Event, Want, one_more, puts_on, tooks_on, records_on, taken_from, last_seen_on, has_ended, has_reached, code_of}
-use Rattle.pipe_model.specs.Event.Event.{Up, Saw, SawEnd, Took, Put, Refused, Ended}
-use Rattle.pipe_model.specs.Table.{form}
-use Rattle.pipe_model.specs.State.{State, Who, past, same, below, members, with_event, with_some_event, nothing_yet, strand_at, link_in, link_out}
-use Rattle.pipe_model.specs.Licence.{Sight, sight_of, answer, licence, none_left, want_after, want_at, offered, shown, at_hand, is_over, is_level, may_put, may_refuse, early_code, worst_early, level_of, stands_at}
+use Rattle.pipe_model.specs.Event.{Event, one_more, puts_on, tooks_on, records_on, taken_from, last_seen_on, has_ended, has_reached, code_of}
+use Rattle.pipe_model.specs.Event.Event.{Took, Refused}
+use Rattle.pipe_model.specs.State.{State, Who, past, same, below, members, with_event, with_some_event, nothing_yet, strand_at, link_out}
+use Rattle.pipe_model.specs.Licence.{Sight, sight_of, answer, licence, none_left, want_after, want_at, offered, at_hand, is_over, is_level, may_put, may_refuse, worst_early, level_of, stands_at}
 use Rattle.pipe_model.specs.Play.{step, play, play_from, IsLegal, IsLegalFrom}
 use Rattle.pipe_model.specs.WellFormed.{IsWellFormed}
 use Rattle.pipe_model.specs.Straight.{IsStraightNet, next_link}
 use Rattle.confluence_laws.proofs.Basics.{cond_some, both, the_event, same_number, test_same, test_apart, equal_or_not, at_same, at_other}
 use Rattle.confluence_laws.proofs.Within.{count_is}
 use Rattle.confluence_laws.proofs.Passes.{at_some}
-use Rattle.confluence_laws.proofs.StraightRows.{Role, Does, role_at, test_at, size, link_on, link_to, last_link, does_at}
-use Rattle.confluence_laws.proofs.StraightRows.Role.{Gives, Selects}
-use Rattle.confluence_laws.proofs.Modes.{Mode, Stands, Told, then_in, offer, has_passed, want_of, is_over as is_over_mode, stands_first, wants_there, told_by, stands_on}
+use Rattle.confluence_laws.proofs.StraightRows.{Role, role_at, test_at, size, link_on, link_to, last_link, does_at}
+use Rattle.confluence_laws.proofs.StraightRows.Role.{Selects}
+use Rattle.confluence_laws.proofs.Modes.{Mode, Stands, Told, then_in, has_passed, want_of, is_over as is_over_mode, stands_first, wants_there, told_by, stands_on}
 use Rattle.confluence_laws.proofs.Modes.Mode.{Begins, Commits, Reads, Offers, Holds, Stops, Over}
 
 -- Two neighbours
@@ -344,10 +342,10 @@ module _ (net : Net) (formed : IsWellFormed net) (bytes : List ℕ) (strings : L
           let p = some_strand (suc t) (within_size (suc t) (omega (arith, within))) in
           paced_same (stand_there t apart) here (at_other st s e t apart) same_past
           (take_on (sight_of net st none_left (suc t)) e (past st (suc t)) (test_at strings t) (flowing.modes t) (flowing.modes (suc t)) (records_on 0 (past st t))
-              (subst (λ z. Told (flowing.modes z) (sight_of net st none_left z) e) (sym is) told_at)
-              (held_seen p.0 (test_at strings t) (past st (suc t)) (flowing.modes (suc t)) (flowing.stands (suc t) p.0 p.1))
-              (fed_at t within)
-              (flowing.paced t within))
+          (subst (λ z. Told (flowing.modes z) (sight_of net st none_left z) e) (sym is) told_at)
+          (held_seen p.0 (test_at strings t) (past st (suc t)) (flowing.modes (suc t)) (flowing.stands (suc t) p.0 p.1))
+          (fed_at t within)
+          (flowing.paced t within))
 
       -- each link
       paced_still : (t : Who) → t ≤ length strings → IsPaced (stand t) (stand (suc t)) (records_on 0 (past later t)) (taken_from 0 (past later (suc t)))

@@ -1,15 +1,14 @@
 -- The definitions at small nets, computed.
-use Rattle.std.proofs.Common.{◌≡◌, ℕ, zero, suc, Bool, true, false, List, [], ◌∷◌, ◌++◌, length, refl, Option, Some, None, codes, ℤ, pos, negsuc}
+use Rattle.std.proofs.Common.{◌≡◌, ℕ, zero, suc, true, false, List, [], ◌∷◌, ◌++◌, length, refl, Option, Some, None, codes, pos, negsuc}
 use Rattle.pipe_model.specs.declared.net.Net.{Net}
 use Rattle.pipe_model.specs.declared.step.Entry.{Entry}
-use Rattle.pipe_model.specs.Event.{Event, Want}
 use Rattle.pipe_model.specs.Event.Want.{Read, Write}
 use Rattle.pipe_model.specs.State.{State, nothing_yet}
 use Rattle.pipe_model.specs.Licence.{licence, none_left}
 use Rattle.pipe_model.specs.Play.{play, step}
 use Rattle.pipe_model.specs.Settled.{is_settled}
 use Rattle.pipe_model.specs.Plain.{is_plain}
-use Rattle.pipe_model.specs.Reply.{reply, Reply}
+use Rattle.pipe_model.specs.Reply.{reply}
 use Rattle.confluence_laws.specs.Examples.{lf, entry, entries, filtering_steps, joining_steps, stalling_steps, filtering, joining, delayed, fanning, stalling, buffered}
 
 -- the least stream below n on which the strand may go on
