@@ -11,9 +11,8 @@ use Rattle.pipe_model.specs.State.{Who, below, nothing_yet, strand_at}
 use Rattle.pipe_model.specs.Licence.{first_part}
 use Rattle.pipe_model.specs.Settled.{is_settled}
 use Rattle.pipe_model.specs.Plain.{waits_for_first, IsAcyclic, IsPlain, IsOrdered, height, rises, is_acyclic, is_plain, is_ordered, is_ordered_meeting}
-use Rattle.confluence_laws.proofs.Basics.{both, all_at}
-use Rattle.confluence_laws.proofs.Ends.{at_place}
-use Rattle.confluence_laws.proofs.Walks.{settled_if, in_below}
+use Rattle.confluence_laws.proofs.Basics.{both, all_at, at_place, in_below}
+use Rattle.confluence_laws.proofs.Walks.{settled_if}
 
 -- what the test of less says
 less : (a b : ℕ) → nat_lt a b ≡ true → a < b

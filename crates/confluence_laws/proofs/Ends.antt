@@ -14,11 +14,12 @@ use Rattle.pipe_model.specs.Next.{Phase, Past, has, is_live, is_refused, doing, 
 use Rattle.pipe_model.specs.Next.Phase.{Starting, Doing, Lost}
 use Rattle.pipe_model.specs.Licence.{read_answer}
 use Rattle.pipe_model.specs.Alone.{Given, takes_more, alone_event, IsAlone, IsAllAlone}
-use Rattle.confluence_laws.proofs.Basics.{test_same, test_apart, equal_or_not, same_number}
+use Rattle.confluence_laws.proofs.Basics.{test_same, test_apart, equal_or_not, same_number, at_place}
 use Rattle.confluence_laws.proofs.Facts.{Fits, IsLook, IsFiniteLook, Allows, NoRepeats, IsSoundLine, asking, reach_of, sees, taken}
 use Rattle.confluence_laws.proofs.Sound.{sound_line}
 use Rattle.confluence_laws.proofs.Within.{alone_put, alone_refused}
 use Rattle.confluence_laws.proofs.Sums.{over, over_same, over_more, over_within}
+use Rattle.confluence_laws.proofs.Fitting.{fits_filter}
 
 -- a past of these parts
 abbrev mk : Known → List ℕ → Phase → Past
@@ -70,21 +71,6 @@ count_other i j (p ∷ ps) apart = go (p.0 == i) refl (count_other i j ps apart)
 
 -- Acts that are dropped
 
--- what fits still does where some writes are dropped
-fits_live : (A : Known → Want → Type 0) (outputs : List Bool) (refused : List ℕ) (k : Known) (acts : List Act) (goal : Goal) → Fits A k acts goal → Fits A k (filter (is_live outputs refused) acts) goal
-fits_live A outputs refused k [] goal fits = fits
-fits_live A outputs refused k (Writes o rec ∷ acts) goal fits = go (is_live outputs refused (Writes o rec)) (fits_live A outputs refused k acts goal fits)
-  where
-    go : (b : Bool) → Fits A k (filter (is_live outputs refused) acts) goal → Fits A k (cond b (Writes o rec ∷ filter (is_live outputs refused) acts) (filter (is_live outputs refused) acts)) goal
-    go true x = x
-    go false x = x
-fits_live A outputs refused k (Repeats o rec ∷ acts) goal fits = go (is_live outputs refused (Repeats o rec)) (fits_live A outputs refused k acts goal fits)
-  where
-    go : (b : Bool) → Fits A k (filter (is_live outputs refused) acts) goal → Fits A k (cond b (Repeats o rec ∷ filter (is_live outputs refused) acts) (filter (is_live outputs refused) acts)) goal
-    go true x = x
-    go false x = x
-fits_live A outputs refused k (Takes i ∷ acts) goal fits = (fits.0, fits_live A outputs refused (taken i k) acts goal fits.1)
-
 -- and there are no endless pairs in it
 pub finite_live : (outputs : List Bool) (refused : List ℕ) (acts : List Act) → NoRepeats acts → NoRepeats (filter (is_live outputs refused) acts)
 finite_live outputs refused [] none = tt
@@ -104,12 +90,6 @@ fewer p (x ∷ xs) = go (p x) (fewer p xs)
     go : (b : Bool) → length (filter p xs) ≤ length xs → length (cond b (x ∷ filter p xs) (filter p xs)) ≤ suc (length xs)
     go true le = omega (arith, le)
     go false le = omega (arith, le)
-
--- a list that holds something at a place reaches so far
-pub at_place : {A : Type 0} {x : A} (xs : List A) (n : ℕ) → slice_get xs n ≡ Some x → n < length xs
-at_place [] n e = cc
-at_place (x ∷ xs) zero e = omega arith
-at_place (x ∷ xs) (suc n) e = let r = at_place xs n e in omega arith
 
 -- whether it was told something
 abbrev pub told_any : List Event → ℕ
@@ -209,7 +189,7 @@ module _ (s : Strand) (finite : (form s).finite ≡ true) (ordered : (form s).me
               let a = fewer (is_live s.ports.has_output (o ∷ refused)) acts in
               on k (o ∷ refused) (filter (is_live s.ports.has_output (o ∷ refused)) acts) goal (Refused o ∷ h) (omega (arith, few, a))
               (here_now (doing s.ports.has_output (o ∷ refused) acts goal) (ap (λ b. cond b (Doing [] (Ends (pos 0))) (doing s.ports.has_output (o ∷ refused) acts goal)) e))
-              (fits_live (asking s s.kind) s.ports.has_output (o ∷ refused) k acts goal fits) (finite_live s.ports.has_output (o ∷ refused) acts none) size
+              (fits_filter (asking s s.kind) s.ports.has_output (o ∷ refused) k acts goal fits) (finite_live s.ports.has_output (o ∷ refused) acts none) size
   does n (suc m) rest k refused (Repeats o rec ∷ acts) goal h few here fits none size = absurd none
   does n (suc m) rest k refused (Takes i ∷ acts) goal h few here fits none size =
       does n m rest (taken i k) refused acts goal (Took i ∷ h) (omega (arith, few)) (record {
@@ -243,7 +223,7 @@ module _ (s : Strand) (finite : (form s).finite ≡ true) (ordered : (form s).me
         past = ap (λ (p : Past). after (form s).row s.ports.has_output p p.phase e) here.past ∙ ap (λ b. cond b (mk (learned k e) refused (doing s.ports.has_output refused acts goal)) (mk k refused Lost)) fits;
         within = within;
       })
-      (fits_live (asking s s.kind) s.ports.has_output refused (learned k e) acts goal (line.sound.goes k want e asked fits))
+      (fits_filter (asking s s.kind) s.ports.has_output refused (learned k e) acts goal (line.sound.goes k want e asked fits))
       (finite_live s.ports.has_output refused acts ((line.finite finite).goes k want e asked fits))
       size
 
@@ -337,7 +317,7 @@ module _ (s : Strand) (finite : (form s).finite ≡ true) (ordered : (form s).me
             past = ap (λ (p : Past). after (form s).row s.ports.has_output p p.phase (Up (pos 0) (pos 0))) two.past;
             within = λ i. omega arith;
           })
-          (fits_live (asking s s.kind) s.ports.has_output [] nothing_known acts goal line.sound.starts)
+          (fits_filter (asking s s.kind) s.ports.has_output [] nothing_known acts goal line.sound.starts)
           (finite_live s.ports.has_output [] acts (line.finite finite).starts)
           (omega arith)
 

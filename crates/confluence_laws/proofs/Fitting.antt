@@ -29,7 +29,7 @@ PhaseFits A k (Doing acts goal) = Fits A k acts goal
 PhaseFits A k Lost = Unit {0}
 
 -- what fits also fits when only what can be done is left
-fits_filter : (A : Known → Want → Type 0) (outputs : List Bool) (refused : List ℕ) (k : Known) (acts : List Act) (goal : Goal) → Fits A k acts goal → Fits A k (filter (is_live outputs refused) acts) goal
+pub fits_filter : (A : Known → Want → Type 0) (outputs : List Bool) (refused : List ℕ) (k : Known) (acts : List Act) (goal : Goal) → Fits A k acts goal → Fits A k (filter (is_live outputs refused) acts) goal
 fits_filter A outputs refused k [] goal fits = fits
 fits_filter A outputs refused k (Writes o rec ∷ acts) goal fits =
     let rest = fits_filter A outputs refused k acts goal fits in

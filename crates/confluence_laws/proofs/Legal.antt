@@ -1,5 +1,5 @@
 -- Dispatches of small nets are legal and complete, by tests that compute.
-use Rattle.std.proofs.Common.{◌≡◌, ℕ, zero, suc, ◌<◌, Bool, true, ◌&&◌, List, [], ◌∷◌, length, refl, sym, ◌∙◌, ap, subst, arith, Option, Some, None, is_some, slice_get, cond, ⊎_elim}
+use Rattle.std.proofs.Common.{◌≡◌, ℕ, zero, suc, ◌<◌, Bool, true, ◌&&◌, List, [], ◌∷◌, length, refl, sym, ◌∙◌, ap, subst, arith, Option, Some, None, is_some, slice_get, cond}
 use Rattle.std.specs.List.{list_all}
 use Rattle.pipe_model.specs.declared.net.Net.{Net}
 use Rattle.pipe_model.specs.declared.net.Strand.{Strand}
@@ -14,7 +14,7 @@ use Rattle.pipe_model.specs.Settled.{IsSettled}
 use Rattle.pipe_model.specs.Plain.{IsPlain, IsOrdered}
 use Rattle.confluence_laws.proofs.Walks.{settled_if}
 use Rattle.confluence_laws.proofs.Acyclic.{plain_if, ordered_if}
-use Rattle.confluence_laws.proofs.Basics.{both, equal_or_not}
+use Rattle.confluence_laws.proofs.Basics.{both, in_below}
 use Rattle.confluence_laws.specs.Examples.{entries, filtering, filtering_steps, joining, joining_steps}
 
 -- each entry is licensed after those before it
@@ -49,14 +49,8 @@ no_want net st e (Some p) at ended licensed =
 abbrev all_ended : Net → State → Bool
 all_ended net st = list_all (λ s. has_ended (past st s)) (below (length net.strands))
 
-below_at : (test : ℕ → Bool) (n : ℕ) → list_all test (below n) ≡ true → (s : ℕ) → s < n → test s ≡ true
-below_at test zero all s within = absurd (omega arith)
-below_at test (suc n) all s within =
-    let b = both _ _ all in
-    ⊎_elim (λ here. ap test here ∙ b.0) (λ apart. below_at test n b.1 s (omega arith)) (equal_or_not s n)
-
 ended_if : (net : Net) (st : State) → all_ended net st ≡ true → HasEnded net st
-ended_if net st all s there = below_at (λ s. has_ended (past st s)) (length net.strands) all s (some_within net.strands s there)
+ended_if net st all s there = in_below (λ s. has_ended (past st s)) (length net.strands) s all (some_within net.strands s there)
 
 -- where every strand has ended, nothing can be added
 complete_if : (net : Net) (es : List Entry) → all_ended net (play net es) ≡ true → IsComplete net es

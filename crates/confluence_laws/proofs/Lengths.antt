@@ -20,7 +20,7 @@ use Rattle.pipe_model.specs.Committed.{IsMove, IsCommitted, event_of, event_at}
 use Rattle.pipe_model.specs.WellFormed.{IsWellFormed}
 use Rattle.pipe_model.specs.Alone.{Lists, Orders, list_on, whole, IsFirstPass, is_early, is_bad}
 use Rattle.pipe_model.specs.Plain.{IsPlain, IsOrdered, enough}
-use Rattle.confluence_laws.proofs.Basics.{test_same}
+use Rattle.confluence_laws.proofs.Basics.{test_same, at_place}
 use Rattle.confluence_laws.proofs.Later.{actor_goes_on}
 use Rattle.confluence_laws.proofs.Fitting.{past_of, still_wants, wants_now}
 use Rattle.confluence_laws.proofs.Owns.{answers_it}
@@ -31,7 +31,6 @@ use Rattle.confluence_laws.proofs.Follow.{next_put}
 use Rattle.confluence_laws.proofs.Ways.{HasNoEarly, plain_strand, IsOnTheWay, IsFollowing, IsStopped, way_begins, shown_whole}
 use Rattle.confluence_laws.proofs.Second.{on_the_way}
 use Rattle.confluence_laws.proofs.Barred.{early_none}
-use Rattle.confluence_laws.proofs.Ends.{at_place}
 use Rattle.confluence_laws.proofs.Total.{few_entries, put_asked}
 
 -- A net in which a strand ends early

@@ -15,11 +15,11 @@ use Rattle.pipe_model.specs.Licence.{first_part, part_down}
 use Rattle.pipe_model.specs.WellFormed.{IsWellFormed, IsOfStage, strands_of}
 use Rattle.pipe_model.specs.Alone.{Given, Lists, Orders, list_on, inputs_of, primes, limit_of, whole, cut, alone_event, IsAlone, IsAllAlone, IsFirstPass, IsSecondPass, is_early, worst_of_early, barred_history, IsBarred, IsPlainReading}
 use Rattle.pipe_model.specs.Plain.{IsPlain, IsOrdered, is_primed_later, waits_for_first}
-use Rattle.confluence_laws.proofs.Basics.{equal_or_not, found_at, from_in, from_out, test_apart}
+use Rattle.confluence_laws.proofs.Basics.{equal_or_not, found_at, from_in, from_out, test_apart, at_some, at_place}
 use Rattle.confluence_laws.proofs.Facts.{same_parting}
 use Rattle.confluence_laws.proofs.Within.{Within, from_start, grows, alone_within}
 use Rattle.confluence_laws.proofs.Within.Within.{all, earlier}
-use Rattle.confluence_laws.proofs.Ends.{alone_to_end, at_place}
+use Rattle.confluence_laws.proofs.Ends.{alone_to_end}
 
 -- One whole history
 
@@ -63,12 +63,6 @@ below_top rank (suc n) s lt = elim (equal_or_not s n) [
   | inl is ↦ subst (λ z. rank z < suc (rank n) + top rank n) (sym is) (omega arith)
   | inr apart ↦ let r = below_top rank n s (omega (arith, lt, apart)) in omega (arith, r)
 ]
-
--- within its length a list holds something
-pub at_some : {A : Type 0} (xs : List A) (i : ℕ) → i < length xs → (x : A) × (slice_get xs i ≡ Some x)
-at_some [] i lt = absurd (omega (arith, lt))
-at_some (x ∷ xs) zero lt = (x, refl)
-at_some (x ∷ xs) (suc i) lt = at_some xs i (omega (arith, lt))
 
 module _ (net : Net) (formed : IsWellFormed net) (plain : IsPlain net) where
   -- a link leads from a lower rank

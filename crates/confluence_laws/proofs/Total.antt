@@ -14,13 +14,11 @@ use Rattle.pipe_model.specs.Play.{step, play, play_from, IsLicensed, IsLegal, Is
 use Rattle.pipe_model.specs.WellFormed.{IsWellFormed}
 use Rattle.pipe_model.specs.Alone.{Lists, list_on}
 use Rattle.pipe_model.specs.Plain.{IsFinite, IsOrdered, sum_links, enough}
-use Rattle.confluence_laws.proofs.Basics.{both, same_number, test_same, equal_or_not, at_same, at_other, found_at, finds, the_event, from_in, from_out, more_puts, more_tooks}
+use Rattle.confluence_laws.proofs.Basics.{both, same_number, test_same, equal_or_not, at_same, at_other, found_at, finds, the_event, from_in, from_out, more_puts, more_tooks, at_some, at_place}
 use Rattle.confluence_laws.proofs.Sound.{reach_near}
 use Rattle.confluence_laws.proofs.Owns.{answers_it}
 use Rattle.confluence_laws.proofs.Within.{write_told}
 use Rattle.confluence_laws.proofs.Sums.{over, over_more, over_within, at_strand, over_strands, links_within, links_more, links_thrice}
-use Rattle.confluence_laws.proofs.Ends.{at_place}
-use Rattle.confluence_laws.proofs.Passes.{at_some}
 use Rattle.confluence_laws.proofs.Credit.{cost, spent, saws_on, saws_are, saw_all_taken, few_events}
 
 -- what the records of a link pay for

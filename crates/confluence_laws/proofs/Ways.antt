@@ -29,6 +29,7 @@ use Rattle.confluence_laws.proofs.Sound.{first_primes}
 use Rattle.confluence_laws.proofs.Primers.{alone_tells, told_first, fresh_writes}
 use Rattle.confluence_laws.proofs.Asked.{IsPlainStrand}
 use Rattle.confluence_laws.proofs.Follow.{Follows, IsCutOff, follows_first, next_put}
+use Rattle.confluence_laws.proofs.Later.{reach_stays}
 
 -- where all connected outputs have refused, each of them has
 refused_there : (refused : List ℕ) (k : ℕ) (flags : List Bool) (o n : ℕ) → all_refused_from k flags refused ≡ true → flag_at flags o ≡ true → n ≡ k + o → has refused n ≡ true
@@ -79,14 +80,9 @@ IsUnbegun Lost h = Unit {0}
 abbrev IsCalm : Phase → List Event → Type 0
 IsCalm f h = (IsUnbegun f h × (code_of h ≡ pos 0)) ⊎ ((has_reached (negsuc 0) h ≡ true) × (has_reached (pos 0) h ≡ true))
 
--- a level that was reached stays reached
-reach_on : (level : ℤ) (e : Event) (h : List Event) → has_reached level h ≡ true → has_reached level (e ∷ h) ≡ true
-reach_on level (Up m code) h p = or_second (int_eq m level) (has_reached level h) p
-reach_on level _ h p = p
-
 -- one event more
 calm_step : (w : Row) (outputs : List Bool) (p : Past) (f : Phase) (h : List Event) (e : Event) → answers (want_in f) e ≡ true → IsCalm f h → IsCalm (after w outputs p f e).phase (e ∷ h)
-calm_step w outputs p f h e fits (inr r) = inr (reach_on (negsuc 0) e h r.0, reach_on (pos 0) e h r.1)
+calm_step w outputs p f h e fits (inr r) = inr (reach_stays (negsuc 0) e h r.0, reach_stays (pos 0) e h r.1)
 calm_step w outputs p (Starting (negsuc zero)) h (Up level code) fits (inl x) = inl (
   elim (int_eq code (pos 0)) as (λ b. IsUnbegun (cond b (Starting (pos 0)) (Doing [] (Ends (pos 0)))) (Up level code ∷ h)) [ true ↦ ap (λ b. b || has_reached (negsuc 0) h) fits | false ↦ refl ],
   x.1,
