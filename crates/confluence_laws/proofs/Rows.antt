@@ -1,11 +1,12 @@
 -- The definitions at small nets, computed.
-use Rattle.std.proofs.Common.{◌≡◌, ℕ, zero, suc, true, false, List, [], ◌∷◌, ◌++◌, length, refl, Option, Some, None, codes, pos, negsuc}
+use Rattle.std.proofs.Common.{◌≡◌, ℕ, zero, suc, true, false, List, [], ◌∷◌, ◌++◌, length, take, refl, Option, Some, None, codes, pos, negsuc}
 use Rattle.pipe_model.specs.declared.net.Net.{Net}
 use Rattle.pipe_model.specs.declared.step.Entry.{Entry}
+use Rattle.pipe_model.specs.Event.Event.{Up, Ended}
 use Rattle.pipe_model.specs.Event.Want.{Read, Write}
-use Rattle.pipe_model.specs.State.{State, nothing_yet}
+use Rattle.pipe_model.specs.State.{State, past, nothing_yet, with_event}
 use Rattle.pipe_model.specs.Licence.{licence, none_left}
-use Rattle.pipe_model.specs.Play.{play, step}
+use Rattle.pipe_model.specs.Play.{play, play_from, step}
 use Rattle.pipe_model.specs.Settled.{is_settled}
 use Rattle.pipe_model.specs.Plain.{is_plain}
 use Rattle.pipe_model.specs.Reply.{reply}
@@ -74,3 +75,27 @@ buffered_reply = refl
 
 buffered_plain : is_plain buffered ≡ true
 buffered_plain = refl
+
+-- Runs that go on from a state
+
+abbrev pub played_on : Net → State → State
+played_on net st = play_from net st (least_first 60 net st)
+
+-- the LOCATE ends by itself at the sight of `cd`, as a stage that wants one record does: the reading CONSOLE is refused, and all end
+ended_after_one : reply filtering (played_on filtering (with_event (play filtering (entries (take 13 filtering_steps))) 1 (Ended (pos 0)))) ≡ record { console = codes "ab" ++ lf; files = []; code = pos 0; waits = [] }
+ended_after_one = refl
+
+-- the first stage ends with a code before level -1, which the others are told there: no record moves
+ended_before_its_first_level : reply filtering (played_on filtering (with_event nothing_yet 0 (Ended (pos 28)))) ≡ record { console = []; files = []; code = pos 28; waits = [] }
+ended_before_its_first_level = refl
+
+-- the same at the second level, where the last stage stands already
+ended_before_its_second_level : reply filtering (played_on filtering (with_event (play filtering (entries (take 3 filtering_steps))) 0 (Ended (negsuc 4)))) ≡ record { console = []; files = []; code = negsuc 4; waits = [] }
+ended_before_its_second_level = refl
+
+-- and the two histories of the last stage
+told_at_its_first_level : past (played_on filtering (with_event nothing_yet 0 (Ended (pos 28)))) 2 ≡ Ended (pos 0) ∷ Up (negsuc 0) (pos 28) ∷ []
+told_at_its_first_level = refl
+
+told_at_its_second_level : past (played_on filtering (with_event (play filtering (entries (take 3 filtering_steps))) 0 (Ended (negsuc 4)))) 2 ≡ Ended (pos 0) ∷ Up (pos 0) (negsuc 4) ∷ Up (negsuc 0) (pos 0) ∷ []
+told_at_its_second_level = refl
