@@ -1,5 +1,5 @@
 -- The definitions at small nets, computed.
-use Rattle.std.proofs.Common.{◌≡◌, ℕ, zero, suc, true, false, List, [], ◌∷◌, ◌++◌, length, take, refl, Option, Some, None, codes, pos, negsuc}
+use Rattle.std.proofs.Common.{◌≡◌, ℕ, zero, suc, ◌+◌, true, false, List, [], ◌∷◌, ◌++◌, length, take, refl, Option, Some, None, codes, pos, negsuc}
 use Rattle.pipe_model.specs.declared.net.Net.{Net}
 use Rattle.pipe_model.specs.declared.step.Entry.{Entry}
 use Rattle.pipe_model.specs.Event.Event.{Up, Ended}
@@ -81,9 +81,15 @@ buffered_plain = refl
 abbrev pub played_on : Net → State → State
 played_on net st = play_from net st (least_first 60 net st)
 
--- the LOCATE ends by itself at the sight of `cd`, as a stage that wants one record does: the reading CONSOLE is refused, and all end
-ended_after_one : reply filtering (played_on filtering (with_event (play filtering (entries (take 13 filtering_steps))) 1 (Ended (pos 0)))) ≡ record { console = codes "ab" ++ lf; files = []; code = pos 0; waits = [] }
+-- the LOCATE ends once it took `ab`, as a stage that wants one record does: the reading CONSOLE is refused, and all end, after 17 events
+abbrev one_taken : State
+one_taken = with_event (play filtering (entries (take 12 filtering_steps))) 1 (Ended (pos 0))
+
+ended_after_one : reply filtering (played_on filtering one_taken) ≡ record { console = codes "ab" ++ lf; files = []; code = pos 0; waits = [] }
 ended_after_one = refl
+
+ended_after_one_length : length (entries (take 12 filtering_steps)) + 1 + length (least_first 60 filtering one_taken) ≡ 17
+ended_after_one_length = refl
 
 -- the first stage ends with a code before level -1, which the others are told there: no record moves
 ended_before_its_first_level : reply filtering (played_on filtering (with_event nothing_yet 0 (Ended (pos 28)))) ≡ record { console = []; files = []; code = pos 28; waits = [] }
