@@ -1,6 +1,5 @@
 ghost use Rattle.std.specs.Prelude.{◌≡◌, ◌+◌, ◌-◌, ◌<◌, ◌^◌, Some, None, IsSome, true, false};
 ghost use Rattle.std.specs.Option.{option_map};
-ghost use Rattle.record_pool.specs.Places.{IsHeld};
 ghost use Rattle.connectors.specs.WireState.{at_hand, new_wire, offered, taken, settled, cleared, IsHeldIn, given_in, GivesBack, IsPaced};
 
 use record_pool::{Grip, Pool};

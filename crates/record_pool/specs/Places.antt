@@ -15,9 +15,13 @@ IsHeld places grip = IsSome (record_at places grip)
 abbrev pub bytes_at : List (Option Held) → ℕ → List ℕ
 bytes_at places grip = option_map_or (λ (held : Held). held.bytes) (record_at places grip) []
 
--- the number of its holders
+-- the number of holders of the record at a place
+abbrev pub holders_of : Option Held → ℕ
+holders_of place = option_map_or (λ (held : Held). held.holders) place 0
+
+-- the number of holders of the record that the grip holds
 abbrev pub holders_at : List (Option Held) → ℕ → ℕ
-holders_at places grip = option_map_or (λ (held : Held). held.holders) (record_at places grip) 0
+holders_at places grip = holders_of (record_at places grip)
 
 -- the places, where only this one is changed: behind the last place others are empty
 abbrev pub with_record : List (Option Held) → ℕ → Option Held → List (Option Held)

@@ -1,5 +1,5 @@
-ghost use Rattle.std.specs.Prelude.{◌≡◌, ◌+◌, ◌<◌, ◌≤◌, ◌^◌, ◌∷◌, ◌++◌, [], Some, None, IsSome, IfOk, OnOk, OnErr, MatchResult, length, vec_len, vec_capacity};
-ghost use Rattle.record_pool.specs.Places.{record_at, IsHeld, holders_at, bytes_at, with_record, shared, given, one_more, one_less, fresh, OthersStay};
+ghost use Rattle.std.specs.Prelude.{◌≡◌, ◌+◌, ◌<◌, ◌≤◌, [], Some, None, IsSome, IfOk, OnErr, length, vec_capacity};
+ghost use Rattle.record_pool.specs.Places.{record_at, IsHeld, holders_of, holders_at, bytes_at, with_record, shared, given, one_more, one_less, fresh, OthersStay};
 ghost use Rattle.record_pool.specs.Blocks.{blocks_of, blocks_at, blocks_in};
 ghost use Rattle.record_pool.specs.Kept.{IsKept};
 
@@ -186,7 +186,7 @@ fn fill(
 // Counts one holder more.
 fn add_holder(place: &mut Option<Held>)
     requires held { IsSome place.old }
-    requires holders { holders_at (place.old ∷ []) 0 < 4294967295 }
+    requires holders { holders_of place.old < 4294967295 }
     ensures { place.new ≡ one_more place.old }
 {
     if let Some(held) = place {
