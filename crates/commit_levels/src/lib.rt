@@ -3,7 +3,11 @@
 #![tactic(auto)]
 
 mod levels;
+mod licensed;
 mod member;
+#[cfg(test)]
+mod tests;
 mod unit;
 
+pub use licensed::{answers_as_licensed, members_stay_strands};
 pub use unit::Unit;

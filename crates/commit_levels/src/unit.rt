@@ -23,17 +23,15 @@ impl Level {
         requires { progress ≡ NotAsked → self.standing < 2 ^ 32 - 1 }
         ensures { result ≡ closed_level progress code self }
     {
-        match progress {
-            Progress::NotAsked => Level {
-                standing: self.standing + 1,
-                worst: worst(code, self.worst),
-            },
-            Progress::Asked => Level {
-                standing: self.standing,
-                worst: worst(code, self.worst),
-            },
-            Progress::Reached => self,
-        }
+        let standing = match progress {
+            Progress::NotAsked => self.standing + 1,
+            Progress::Asked | Progress::Reached => self.standing,
+        };
+        let worst = match progress {
+            Progress::NotAsked | Progress::Asked => worst(code, self.worst),
+            Progress::Reached => self.worst,
+        };
+        Level { standing, worst }
     }
 }
 
