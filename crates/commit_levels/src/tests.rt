@@ -1,4 +1,4 @@
-use crate::Unit;
+use crate::{Unit, answers_as_licensed, members_stay_strands};
 use std::test::Fail;
 
 #[test]
@@ -13,7 +13,17 @@ fn answers_once_all_stand_there(rt: HostRuntime) -> Result<(), Fail> {
     assert_eq!(rt; unit.answer(-1), Some(0));
     assert_eq!(rt; unit.answer(1_000), None);
     unit.ended(1, -8);
-    assert_eq!(rt; unit.answer(-1), Some(-8));
-    assert_eq!(rt; unit.answer(1_000), Some(-8));
+    for (level, answer) in [(-1, Some(-8)), (0, Some(-8)), (1_000, Some(-8))] {
+        assert_eq!(rt; unit.answer(level), answer);
+    }
+    answers_as_licensed();
+    members_stay_strands();
+    Ok(())
+}
+
+#[test]
+fn nobody_holds_up_a_level(rt: HostRuntime) -> Result<(), Fail> {
+    let unit = Unit::new(rt.alloc(), 0)?;
+    assert_eq!(rt; unit.answer(0), Some(0));
     Ok(())
 }

@@ -75,7 +75,7 @@ impl Unit {
     }
 
     /// A member asks for a level, from -1 to 1,000: it wants to go on once all stand there. Members count from 0.
-    /// It must be open, and asks for a level once.
+    /// A member that has ended asks for nothing, and no member asks for a level twice.
     pub fn ask(&mut self, member: u32, level: i32)
         requires member { member < length self.old }
         requires live { IsLive self.old member }
