@@ -1,0 +1,3 @@
+pub mod Coroutine
+pub mod Outputs
+pub mod Place

@@ -1,0 +1,9 @@
+//! The sequential parts of stages: what a stage promises, the drivers that walk its pairs, and the first stages.
+#![tactic(auto)]
+
+mod outputs;
+mod place;
+mod stage;
+
+pub use outputs::{Pair, Pairs};
+pub use stage::Stage;
