@@ -1,3 +1,6 @@
 pub mod Coroutine
+pub mod Kept
+pub mod KeptText
 pub mod Outputs
 pub mod Place
+pub mod Walk
