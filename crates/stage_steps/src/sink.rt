@@ -21,7 +21,8 @@ impl Lists for Copies {
         pairs.push(Pair {
             output: 0,
             out: Out::Same(0),
-        })
+        })?;
+        Ok(())
     }
 
     fn looks(&self) -> bool {
