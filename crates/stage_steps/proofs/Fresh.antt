@@ -1,5 +1,5 @@
 -- A driver before the first event.
-use Rattle.std.proofs.Common.{◌≡◌, ℕ, suc, Bool, true, false, ◌&&◌, List, [], ◌∷◌, refl, sym, ◌∙◌, ap, Some, None, cond}
+use Rattle.std.proofs.Common.{◌≡◌, ℕ, suc, Bool, true, false, ◌&&◌, List, [], ◌∷◌, refl, sym, ◌∙◌, ap, Some, None}
 use Rattle.std.specs.List.{list_any}
 use Rattle.pipe_model.specs.declared.net.Strand.{Strand}
 use Rattle.pipe_model.specs.declared.kind.Kind.TheVariants.{ConsoleOut, Locate}
@@ -15,7 +15,7 @@ use Rattle.stage_steps.specs.KeptText.{KeptText}
 use Rattle.stage_steps.specs.Kept.{nothing_kept}
 use Rattle.stage_steps.specs.Coroutine.{kept_by}
 use Rattle.stage_steps.specs.Outputs.{open_from}
-use Rattle.stage_steps.specs.Through.{ThroughIs, KeptIs}
+use Rattle.stage_steps.specs.Through.{ThroughIs}
 
 and_true : (b : Bool) → (b && true) ≡ b
 and_true true = refl

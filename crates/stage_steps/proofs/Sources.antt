@@ -1,30 +1,29 @@
 -- A source, one event on.
-use Rattle.std.proofs.Common.{◌≡◌, ℕ, Bool, true, false, cond, ◌&&◌, ◌||◌, not, ◌==◌, List, [], ◌∷◌, ◌++◌, map, drop, refl, sym, ◌∙◌, ap, subst, arith, Some, None, ℤ, pos, negsuc}
+use Rattle.std.proofs.Common.{◌≡◌, ℕ, Bool, true, false, cond, ◌&&◌, ◌||◌, not, ◌==◌, List, [], ◌∷◌, map, drop, refl, sym, ◌∙◌, ap, subst, Some, None, ℤ, pos, negsuc}
 use Rattle.std.specs.Prelude.{filter}
 use Rattle.std.specs.Ordering.{int_eq}
 use Rattle.std.proofs.lemmas.Bool.Decides.{Decides-int_eq}
 use Rattle.pipe_model.specs.declared.net.Strand.{Strand}
-use Rattle.pipe_model.specs.declared.kind.Kind.{Kind}
 use Rattle.pipe_model.specs.declared.kind.Kind.TheVariants.{ConsoleIn}
 use Rattle.pipe_model.specs.declared.step.Seen.{Seen}
 use Rattle.pipe_model.specs.declared.step.Out.TheVariants.{Same, Fresh}
 use Rattle.pipe_model.specs.declared.step.Want.{Want as Asked}
 use Rattle.pipe_model.specs.declared.step.Want.TheVariants as Ask
 use Rattle.pipe_model.specs.Event.{Event, Want, answers, has_ended}
-use Rattle.pipe_model.specs.Event.Event.{Up, Saw, SawEnd, Took, Put, Refused, Ended}
+use Rattle.pipe_model.specs.Event.Event.{Up, Put, Refused, Ended}
 use Rattle.pipe_model.specs.Records.{lines}
 use Rattle.pipe_model.specs.Table.{form, line_of}
-use Rattle.pipe_model.specs.Row.{Act, Row, writes, source}
+use Rattle.pipe_model.specs.Row.{writes, source}
 use Rattle.pipe_model.specs.Row.Act.{Writes}
 use Rattle.pipe_model.specs.Row.Goal.{Ends}
-use Rattle.pipe_model.specs.Next.{Phase, Past, doing, after, want_in, wanted_by, next, has, flag_at, is_open, is_live, is_refused}
+use Rattle.pipe_model.specs.Next.{Past, doing, after, want_in, wanted_by, next, has, flag_at, is_open, is_live, is_refused}
 use Rattle.pipe_model.specs.Next.Phase.{Doing}
 use Rattle.pipe_model.specs.Next.Phase.{Starting as Reaching}
 use Rattle.stage_steps.specs.declared.place.Place.{Place}
 use Rattle.stage_steps.specs.declared.place.Place.TheVariants.{Starting, Committing, Looking, Writing, Taking, Ending, Over}
 use Rattle.stage_steps.specs.Coroutine.{meaning, told, last_seen, owed}
 use Rattle.stage_steps.specs.Place.{place_after}
-use Rattle.stage_steps.specs.Source.{writes_from, LineIs, SourceAt, source_past, SourceIs, AsksLine, AsksNext}
+use Rattle.stage_steps.specs.Source.{writes_from, SourceAt, source_past, SourceIs, AsksNext}
 use Rattle.stage_steps.proofs.Walks.{same_number, going}
 
 -- writes on an open output can all be done
@@ -57,9 +56,12 @@ module _ (bytes : List ℕ) (at : ℕ) (outputs : List Bool) (h : List Event) (p
 
   begins : (b : Bool) → flag_at outputs 0 ≡ b → at ≡ 0 → p.refused ≡ [] →
       SourceAt false (cond b Writing Ending) bytes at b (record p { phase = doing outputs p.refused (writes (map (λ rec. (0, rec)) (lines bytes))) (Ends (pos 0)) })
-  begins true is zero_at none =
-      (refl, none, ap (λ r. doing outputs r (writes (map (λ rec. (0, rec)) (lines bytes))) (Ends (pos 0))) none
-          ∙ ap (λ l. Doing l (Ends (pos 0))) (all_live outputs [] (open_still (flag_at outputs 0) ∙ is) (lines bytes)) ∙ ap (λ n. Doing (writes_from n bytes) (Ends (pos 0))) (sym zero_at))
+  begins true is zero_at none = (
+    refl,
+    none,
+    ap (λ r. doing outputs r (writes (map (λ rec. (0, rec)) (lines bytes))) (Ends (pos 0))) none
+        ∙ ap (λ l. Doing l (Ends (pos 0))) (all_live outputs [] (open_still (flag_at outputs 0) ∙ is) (lines bytes)) ∙ ap (λ n. Doing (writes_from n bytes) (Ends (pos 0))) (sym zero_at),
+  )
   begins false is zero_at none =
       ap (λ r. doing outputs r (writes (map (λ rec. (0, rec)) (lines bytes))) (Ends (pos 0))) none ∙ ap (λ l. Doing l (Ends (pos 0))) (none_live outputs [] (open_still (flag_at outputs 0) ∙ is) (lines bytes))
 

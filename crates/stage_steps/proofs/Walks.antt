@@ -1,5 +1,5 @@
 -- A walk of pairs, one event on.
-use Rattle.std.proofs.Common.{◌≡◌, ◌≢◌, ℕ, Bool, true, false, cond, ◌&&◌, ◌||◌, not, ◌==◌, List, [], ◌∷◌, ◌++◌, map, refl, sym, ◌∙◌, ap, subst, arith, Some, None, Option, ℤ, pos, negsuc, append_assoc, is_none, is_some, option_map}
+use Rattle.std.proofs.Common.{◌≡◌, ℕ, Bool, true, false, cond, ◌&&◌, ◌||◌, not, ◌==◌, List, [], ◌∷◌, ◌++◌, map, refl, sym, ◌∙◌, ap, subst, arith, Some, None, Option, ℤ, pos, negsuc, append_assoc, is_none, is_some, option_map}
 use Rattle.std.specs.Prelude.{filter}
 use Rattle.std.specs.List.{list_any}
 use Rattle.std.specs.Ordering.{int_eq}
@@ -12,10 +12,10 @@ use Rattle.pipe_model.specs.Event.{Event, Want, answers, has_ended, last_seen_on
 use Rattle.pipe_model.specs.Event.Event.{Up, Saw, SawEnd, Took, Put, Refused, Ended}
 use Rattle.pipe_model.specs.Records.{text}
 use Rattle.pipe_model.specs.Table.{Keeping, form}
-use Rattle.pipe_model.specs.Row.{Pair as RowPair, Act, Goal, Row, Plan, writes, each_record, through_plan}
+use Rattle.pipe_model.specs.Row.{Pair as RowPair, writes, each_record, through_plan}
 use Rattle.pipe_model.specs.Row.Act.{Writes, Takes}
 use Rattle.pipe_model.specs.Row.Goal.{Asks, Ends}
-use Rattle.pipe_model.specs.Next.{Phase, Past, begins_plan, past_by, after, want_in, wanted_by, next, has, flag_at, is_open, is_live, is_refused, learned}
+use Rattle.pipe_model.specs.Next.{Past, begins_plan, after, want_in, wanted_by, next, has, flag_at, is_open, is_live, is_refused}
 use Rattle.pipe_model.specs.Next.Phase.{Doing}
 use Rattle.pipe_model.specs.Next.Phase.{Starting as Reaching}
 use Rattle.stage_steps.specs.declared.place.Place.{Place}
@@ -26,7 +26,7 @@ use Rattle.stage_steps.specs.KeptText.{KeptText}
 use Rattle.stage_steps.specs.Kept.{kept_after}
 use Rattle.stage_steps.specs.Outputs.{open_after, open_from, live, none_left}
 use Rattle.stage_steps.specs.Place.{place_after}
-use Rattle.stage_steps.specs.Walk.{each_row, gives_up, meant, rest_of, PlaceIs, asked_at, AsksPair, AsksFrom}
+use Rattle.stage_steps.specs.Walk.{each_row, gives_up, meant, rest_of, PlaceIs, AsksFrom}
 use Rattle.stage_steps.specs.Through.{Gives, GivesAt, AllIs, KeptIs, past_of, ThroughIs}
 use Rattle.stage_steps.proofs.Flags.{closed_open, flag_open, refused_is}
 
@@ -53,8 +53,8 @@ live_acts outputs refused flags same sight [] = refl
 live_acts outputs refused flags same sight (p ∷ ps) =
     let ih = live_acts outputs refused flags same sight ps in
     (elim (flag_at flags p.output) as (λ b. b ≡ is_open outputs refused p.output →
-        cond (is_open outputs refused p.output) (Writes p.output (written p.out sight) ∷ filter (is_live outputs refused) (writes (map (meant sight) ps) ++ Takes 0 ∷ [])) (filter (is_live outputs refused) (writes (map (meant sight) ps) ++ Takes 0 ∷ []))
-        ≡ writes (map (meant sight) (cond b (p ∷ live flags ps) (live flags ps))) ++ Takes 0 ∷ []) [
+    cond (is_open outputs refused p.output) (Writes p.output (written p.out sight) ∷ filter (is_live outputs refused) (writes (map (meant sight) ps) ++ Takes 0 ∷ [])) (filter (is_live outputs refused) (writes (map (meant sight) ps) ++ Takes 0 ∷ []))
+    ≡ writes (map (meant sight) (cond b (p ∷ live flags ps) (live flags ps))) ++ Takes 0 ∷ []) [
       | true ↦ λ e. ap (λ z. cond z (Writes p.output (written p.out sight) ∷ filter (is_live outputs refused) (writes (map (meant sight) ps) ++ Takes 0 ∷ [])) (filter (is_live outputs refused) (writes (map (meant sight) ps) ++ Takes 0 ∷ []))) (sym e) ∙ ap (λ l. Writes p.output (written p.out sight) ∷ l) ih
       | false ↦ λ e. ap (λ z. cond z (Writes p.output (written p.out sight) ∷ filter (is_live outputs refused) (writes (map (meant sight) ps) ++ Takes 0 ∷ [])) (filter (is_live outputs refused) (writes (map (meant sight) ps) ++ Takes 0 ∷ []))) (sym e) ∙ ih
     ]) (same p.output)
@@ -66,9 +66,9 @@ live_twice flags flags' fewer (p ∷ ps) =
     (elim (flag_at flags p.output) as (λ b. flag_at flags p.output ≡ b → live flags' (cond b (p ∷ live flags ps) (live flags ps)) ≡ cond (flag_at flags' p.output) (p ∷ live flags' ps) (live flags' ps)) [
       | true ↦ λ e. ap (λ l. cond (flag_at flags' p.output) (p ∷ l) l) ih
       | false ↦ λ e. ih ∙ (elim (flag_at flags' p.output) as (λ b. flag_at flags' p.output ≡ b → live flags' ps ≡ cond b (p ∷ live flags' ps) (live flags' ps)) [
-          | true ↦ λ e'. let no : true ≡ false = sym (fewer p.output e') ∙ e in cc
-          | false ↦ λ e'. refl
-        ]) refl
+        | true ↦ λ e'. let no : true ≡ false = sym (fewer p.output e') ∙ e in cc
+        | false ↦ λ e'. refl
+      ]) refl
     ]) refl
 
 still_open : (f a b : Bool) → (f && not (b || a)) ≡ true → (f && not a) ≡ true
@@ -176,15 +176,15 @@ module _ {L : Type 0} (gives : L → (List RowPair → List RowPair) → List Ro
         let now = open_from 0 outputs (r ∷ p.refused) in
         let rest = filter (is_live outputs (r ∷ p.refused)) (rest_of (last_seen h) (open_from 0 outputs p.refused) left) in
         let is : (z : Bool) → PlaceIs false (cond z Ending Writing) (last_seen h) now left' (record { known = p.known; refused = r ∷ p.refused; phase = cond z (Doing [] (Ends (pos 0))) (Doing rest (Asks (Want.Read 0))) }) =
-            (λ z. elim z as (λ z. PlaceIs false (cond z Ending Writing) (last_seen h) now left' (record { known = p.known; refused = r ∷ p.refused; phase = cond z (Doing [] (Ends (pos 0))) (Doing rest (Asks (Want.Read 0))) })) [
-              | true ↦ refl
-              | false ↦ ap (λ l. Doing l (Asks (Want.Read 0))) (rest_refused outputs p.refused r (last_seen h) left ∙ ap (rest_of (last_seen h) now) (sym given.1))
-            ]) in
+        (λ z. elim z as (λ z. PlaceIs false (cond z Ending Writing) (last_seen h) now left' (record { known = p.known; refused = r ∷ p.refused; phase = cond z (Doing [] (Ends (pos 0))) (Doing rest (Asks (Want.Read 0))) })) [
+          | true ↦ refl
+          | false ↦ ap (λ l. Doing l (Asks (Want.Read 0))) (rest_refused outputs p.refused r (last_seen h) left ∙ ap (rest_of (last_seen h) now) (sym given.1))
+        ]) in
         subst (λ l. PlaceIs false (cond (yields && none_left (list_any (λ flag. flag) outputs) l) Ending Writing) (last_seen h) l left'
-            (record { known = p.known; refused = r ∷ p.refused; phase = cond (yields && is_refused outputs (r ∷ p.refused)) (Doing [] (Ends (pos 0))) (Doing rest (Asks (Want.Read 0))) }))
+        (record { known = p.known; refused = r ∷ p.refused; phase = cond (yields && is_refused outputs (r ∷ p.refused)) (Doing [] (Ends (pos 0))) (Doing rest (Asks (Want.Read 0))) }))
         (sym (closed_open 0 r outputs p.refused))
         (subst (λ z. PlaceIs false (cond (yields && none_left (list_any (λ flag. flag) outputs) now) Ending Writing) (last_seen h) now left'
-            (record { known = p.known; refused = r ∷ p.refused; phase = cond (yields && z) (Doing [] (Ends (pos 0))) (Doing rest (Asks (Want.Read 0))) }))
+        (record { known = p.known; refused = r ∷ p.refused; phase = cond (yields && z) (Doing [] (Ends (pos 0))) (Doing rest (Asks (Want.Read 0))) }))
         (sym (refused_is outputs (r ∷ p.refused)))
         (is (yields && none_left (list_any (λ flag. flag) outputs) now)));
   }
@@ -264,7 +264,7 @@ module _ {L : Type 0} (gives : L → (List RowPair → List RowPair) → List Ro
   pub goes : (x y : L) (place : Place) (bytes : List ℕ) (left left' : List Pair) (connected : Bool) (flags : List Bool) (kept : Option KeptText) (s : Strand) (h : List Event) (e : Event) →
       ThroughIs gives looks true x place left connected flags kept s h → answers (next s h) e ≡ true → bytes_with looks e ≡ bytes → GivesAt gives looks x y (told e) bytes left left' →
       ThroughIs gives looks false y (place_after place (told e) Looking (gives_up (told e) (is_none kept) connected (open_after (told e) flags))) left' connected (open_after (told e) flags)
-          (option_map (kept_after (told e) bytes) kept) s (e ∷ h)
+      (option_map (kept_after (told e) bytes) kept) s (e ∷ h)
   goes x y place bytes left left' connected flags kept s h e is answer came given =
       let g = going s h e answer in
       let past = past_of (is_none kept) is.outs s h in
@@ -300,7 +300,7 @@ module _ {L : Type 0} (gives : L → (List RowPair → List RowPair) → List Ro
       (subst (λ f. PlaceIs true f sight flags left' p) (sym asks.0) is, ap (λ a. Some (meaning a sight)) asks.1 ∙ ap want_in (sym is))
   by_want Writing place' left left' (Ask.Write o out) sight flags p is asks =
       let phase : p.phase ≡ Doing (Writes o (written out sight) ∷ rest_of sight flags left') (Asks (Want.Read 0)) =
-          is ∙ ap (λ l. Doing (writes (map (meant sight) l) ++ Takes 0 ∷ []) (Asks (Want.Read 0))) asks.1 in
+      is ∙ ap (λ l. Doing (writes (map (meant sight) l) ++ Takes 0 ∷ []) (Asks (Want.Read 0))) asks.1 in
       (subst (λ f. PlaceIs true f sight flags left' p) (sym asks.0) ((o, written out sight), phase), ap want_in (sym phase))
   by_want Writing place' left left' (Ask.Take i) sight flags p is asks =
       let phase : p.phase ≡ Doing (Takes 0 ∷ []) (Asks (Want.Read 0)) = is ∙ ap (λ l. Doing (writes (map (meant sight) l) ++ Takes 0 ∷ []) (Asks (Want.Read 0))) asks.2 in
@@ -389,17 +389,18 @@ module _ {L : Type 0} (gives : L → (List RowPair → List RowPair) → List Ro
     steps =
         let now : flags1 ≡ open_after (told e) flags = flags_are ∙ ap (λ z. open_after z flags) (sym seen_is) in
         let at : place1 ≡ place_after place (told e) Looking (gives_up (told e) (is_none kept) connected (open_after (told e) flags)) =
-            place_is ∙ ap (λ z. place_after place z Looking (gives_up z yields connected1 flags1)) (sym seen_is)
-            ∙ ap (λ z. place_after place (told e) Looking (gives_up (told e) z connected1 flags1)) yields_is
-            ∙ ap (λ z. place_after place (told e) Looking (gives_up (told e) (is_none kept) z flags1)) connected_is
-            ∙ ap (λ z. place_after place (told e) Looking (gives_up (told e) (is_none kept) connected z)) now in
+        place_is ∙ ap (λ z. place_after place z Looking (gives_up z yields connected1 flags1)) (sym seen_is)
+        ∙ ap (λ z. place_after place (told e) Looking (gives_up (told e) z connected1 flags1)) yields_is
+        ∙ ap (λ z. place_after place (told e) Looking (gives_up (told e) (is_none kept) z flags1)) connected_is
+        ∙ ap (λ z. place_after place (told e) Looking (gives_up (told e) (is_none kept) connected z)) now in
         let wants : AsksFrom (place_after place (told e) Looking (gives_up (told e) (is_none kept) connected (open_after (told e) flags))) (open_after (told e) flags) left0 place2 left2 asked =
-            subst (λ z. AsksFrom z (open_after (told e) flags) left0 place2 left2 asked) at (subst (λ z. AsksFrom place1 z left0 place2 left2 asked) now (subst (λ z. AsksFrom place1 flags1 z place2 left2 asked) left_is asks)) in
+        subst (λ z. AsksFrom z (open_after (told e) flags) left0 place2 left2 asked) at (subst (λ z. AsksFrom place1 z left0 place2 left2 asked) now (subst (λ z. AsksFrom place1 flags1 z place2 left2 asked) left_is asks)) in
         let gave : GivesAt gives looks x y (told e) bytes left left0 = subst (λ z. GivesAt gives looks x y z bytes left left0) (sym seen_is) given in
         let holds : kept1 ≡ option_map (kept_after (told e) bytes) kept = kept_is ∙ ap (λ z. option_map (kept_after z bytes) kept) (sym seen_is) in
         let new = asks_it y (place_after place (told e) Looking (gives_up (told e) (is_none kept) connected (open_after (told e) flags))) place2 left0 left2 connected (open_after (told e) flags)
-            (option_map (kept_after (told e) bytes) kept) asked s (e ∷ h) (goes x y place bytes left left0 connected flags kept s h e is answer came gave) wants in
-        (subst (λ z. ThroughIs gives looks true y place2 left2 z flags2 kept1 s (e ∷ h)) (sym (connected_stays ∙ connected_is))
-            (subst (λ z. ThroughIs gives looks true y place2 left2 connected z kept1 s (e ∷ h)) (sym (flags_stay ∙ now))
-            (subst (λ z. ThroughIs gives looks true y place2 left2 connected (open_after (told e) flags) z s (e ∷ h)) (sym holds) new)),
-        owes x y place place2 bytes left left0 left2 connected flags kept asked s h e is answer came gave wants)
+        (option_map (kept_after (told e) bytes) kept) asked s (e ∷ h) (goes x y place bytes left left0 connected flags kept s h e is answer came gave) wants in (
+          subst (λ z. ThroughIs gives looks true y place2 left2 z flags2 kept1 s (e ∷ h)) (sym (connected_stays ∙ connected_is))
+              (subst (λ z. ThroughIs gives looks true y place2 left2 connected z kept1 s (e ∷ h)) (sym (flags_stay ∙ now))
+              (subst (λ z. ThroughIs gives looks true y place2 left2 connected (open_after (told e) flags) z s (e ∷ h)) (sym holds) new)),
+          owes x y place place2 bytes left left0 left2 connected flags kept asked s h e is answer came gave wants,
+        )

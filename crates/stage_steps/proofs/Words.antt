@@ -1,5 +1,5 @@
 -- The words of a record, from its front on.
-use Rattle.std.proofs.Common.{◌≡◌, ◌≢◌, ◌⊎◌, inl, inr, ⊎_elim, ℕ, zero, suc, ◌+◌, ◌-◌, ◌<◌, ◌≤◌, Bool, true, false, cond, not, nat_lt, List, [], ◌∷◌, ◌++◌, length, take, drop, refl, sym, ◌∙◌, ap, subst, arith, length-drop, Option, Some, None}
+use Rattle.std.proofs.Common.{◌≡◌, ◌≢◌, ◌⊎◌, inl, inr, ⊎_elim, ℕ, zero, suc, ◌+◌, ◌-◌, ◌<◌, ◌≤◌, Bool, true, false, cond, not, nat_lt, List, [], ◌∷◌, length, take, drop, refl, sym, ◌∙◌, ap, subst, arith, length-drop, Option, Some, None}
 use Rattle.std.specs.Prelude.{◌==◌, if◌then◌else◌}
 use Rattle.std.specs.List.{position, position_or_len}
 use Rattle.std.proofs.lemmas.Bool.{cases_lt}
@@ -113,13 +113,13 @@ past_word at (b ∷ text) some =
     let l = letters text in
     let end : suc at + l ≡ at + suc l = omega arith in
     let long : 0 < l → onto_word at (words_from (suc at) text) ≡ (at, at + suc l) ∷ words_from (at + suc l) (drop l text) = λ more.
-        ap (onto_word at) (past_word (suc at) text more)
-        ∙ ap (λ c. cond c ((at, suc at + l) ∷ words_from (suc at + l) (drop l text)) ((at, suc at) ∷ (suc at, suc at + l) ∷ words_from (suc at + l) (drop l text))) (equals (suc at) (suc at) refl)
-        ∙ ap (λ n. (at, n) ∷ words_from n (drop l text)) end in
+    ap (onto_word at) (past_word (suc at) text more)
+    ∙ ap (λ c. cond c ((at, suc at + l) ∷ words_from (suc at + l) (drop l text)) ((at, suc at) ∷ (suc at, suc at + l) ∷ words_from (suc at + l) (drop l text))) (equals (suc at) (suc at) refl)
+    ∙ ap (λ n. (at, n) ∷ words_from n (drop l text)) end in
     let short : l ≤ 0 → onto_word at (words_from (suc at) text) ≡ (at, at + suc l) ∷ words_from (at + suc l) (drop l text) = λ none.
-        let zero_is : l ≡ 0 = omega (arith, none) in
-        let next_is : suc at ≡ at + suc l = omega (arith, zero_is) in
-        alone at (words_from (suc at) text) (no_letters (suc at) text zero_is) ∙ ap (λ n. (at, n) ∷ words_from n text) next_is ∙ ap (λ n. (at, at + suc l) ∷ words_from (at + suc l) (drop n text)) (sym zero_is) in
+    let zero_is : l ≡ 0 = omega (arith, none) in
+    let next_is : suc at ≡ at + suc l = omega (arith, zero_is) in
+    alone at (words_from (suc at) text) (no_letters (suc at) text zero_is) ∙ ap (λ n. (at, n) ∷ words_from n text) next_is ∙ ap (λ n. (at, at + suc l) ∷ words_from (at + suc l) (drop n text)) (sym zero_is) in
     let is : onto_word at (words_from (suc at) text) ≡ (at, at + suc l) ∷ words_from (at + suc l) (drop l text) = ⊎_elim long short (cases_lt 0 l) in
     (elim (b == 32) as (λ c. (b == 32) ≡ c → 0 < cond (not c) (1 + l) 0 → cond c (words_from (suc at) text) (onto_word at (words_from (suc at) text)) ≡ (at, at + cond (not c) (1 + l) 0) ∷ words_from (at + cond (not c) (1 + l) 0) (drop (cond (not c) (1 + l) 0) (b ∷ text))) [
       | true ↦ λ e z. absurd (omega (arith, z))
@@ -142,9 +142,9 @@ one_word at text =
     let word = drop (blanks text) text in
     let place : at + blanks text + letters word ≡ at + word_len text = omega arith in
     ap (drop 1) (past_blanks at text) ∙ ⊎_elim
-        (λ none. ap (λ l. drop 1 (words_from (at + blanks text) l)) none ∙ sym (ap (λ l. words_from (at + word_len text) (drop (letters l) l)) none))
-        (λ some. ap (drop 1) (past_word (at + blanks text) word some) ∙ ap (λ n. words_from n (drop (letters word) word)) place)
-        (is_word text)
+    (λ none. ap (λ l. drop 1 (words_from (at + blanks text) l)) none ∙ sym (ap (λ l. words_from (at + word_len text) (drop (letters l) l)) none))
+    (λ some. ap (drop 1) (past_word (at + blanks text) word some) ∙ ap (λ n. words_from n (drop (letters word) word)) place)
+    (is_word text)
 
 -- as many as there are bytes, or fewer
 length-onto : (at : ℕ) (ws : List Place) → length (onto_word at ws) ≤ suc (length ws)
@@ -235,19 +235,19 @@ front_word i text rest word new front trimmed word_is new_is some some_text =
     let m = length text - length new in
     let next : n + word_len rest ≡ m = omega (arith, size, front.0) in
     let words : (at : ℕ) → drop (i + 1) (words_from at text) ≡ words_from (at + m) new = λ at.
-        let place : (at + n) + word_len rest ≡ at + m = omega (arith, next) in
-        sym (drop-drop 1 i (words_from at text)) ∙ ap (drop 1) (front.1 at) ∙ one_word (at + n) rest ∙ ap (λ l. words_from ((at + n) + word_len rest) l) (sym new_of) ∙ ap (λ k. words_from k new) place in
+    let place : (at + n) + word_len rest ≡ at + m = omega (arith, next) in
+    sym (drop-drop 1 i (words_from at text)) ∙ ap (drop 1) (front.1 at) ∙ one_word (at + n) rest ∙ ap (λ l. words_from ((at + n) + word_len rest) l) (sym new_of) ∙ ap (λ k. words_from k new) place in
     let span : (at : ℕ) (rec : List ℕ) → text ≡ drop at rec → words_spanned (take (i + 1) (words_from at text)) rec ≡ take m text = λ at rec is.
-        let ws = words_from at text in
-        let begin = (at + n) + blanks rest in
-        let here : drop i ws ≡ (begin, begin + letters word) ∷ words_from (begin + letters word) (drop (letters word) word) =
-            front.1 at ∙ past_blanks (at + n) rest ∙ ap (words_from begin) (sym word_is) ∙ past_word begin word some in
-        let letters_are : letters word ≡ letters (drop (blanks rest) rest) = ap letters word_is in
-        let wide : (begin + letters word) - at ≡ m = omega (arith, next, letters_are) in
-        let more : i + 1 ≡ suc i = omega arith in
-        ap (λ k. words_spanned (take k ws) rec) more ∙ head_spanned at i (at, at + letters text) ws (words_from (at + letters text) (drop (letters text) text)) rec (past_word at text some_text) refl
-        ∙ spanned-take at i (begin, begin + letters word) (words_from (begin + letters word) (drop (letters word) word)) ws rec here
-        ∙ ap (λ k. take k (drop at rec)) wide ∙ ap (take m) (sym is) in
+    let ws = words_from at text in
+    let begin = (at + n) + blanks rest in
+    let here : drop i ws ≡ (begin, begin + letters word) ∷ words_from (begin + letters word) (drop (letters word) word) =
+    front.1 at ∙ past_blanks (at + n) rest ∙ ap (words_from begin) (sym word_is) ∙ past_word begin word some in
+    let letters_are : letters word ≡ letters (drop (blanks rest) rest) = ap letters word_is in
+    let wide : (begin + letters word) - at ≡ m = omega (arith, next, letters_are) in
+    let more : i + 1 ≡ suc i = omega arith in
+    ap (λ k. words_spanned (take k ws) rec) more ∙ head_spanned at i (at, at + letters text) ws (words_from (at + letters text) (drop (letters text) text)) rec (past_word at text some_text) refl
+    ∙ spanned-take at i (begin, begin + letters word) (words_from (begin + letters word) (drop (letters word) word)) ws rec here
+    ∙ ap (λ k. take k (drop at rec)) wide ∙ ap (take m) (sym is) in
     (omega (arith, size, front.0), words, span)
 
 has_letters : (text : List ℕ) → blanks text ≡ 0 → text ≢ [] → 0 < letters text
@@ -266,9 +266,9 @@ pub front_goes : (i : ℕ) (text rest word new : List ℕ) (empty : Bool) → Ar
 front_goes i text rest word new empty front trimmed word_is e f new_is =
     let some : word ≢ [] = filled_of word empty e f in
     let rest_some : text ≢ [] = λ none.
-        let no_text : length text ≡ 0 = ap length none in
-        let no_word : length word ≡ 0 = omega (arith, ap length word_is, length-drop (blanks rest) rest, front.0, no_text) in
-        some (empty_of word true (sym (equals (length word) 0 no_word)) refl) in
+    let no_text : length text ≡ 0 = ap length none in
+    let no_word : length word ≡ 0 = omega (arith, ap length word_is, length-drop (blanks rest) rest, front.0, no_text) in
+    some (empty_of word true (sym (equals (length word) 0 no_word)) refl) in
     front_word i text rest word new front trimmed word_is new_is (has_letters word (blanks_gone rest word word_is) some) (has_letters text trimmed rest_some)
 
 -- the words from one on, as many as are wanted

@@ -1,7 +1,7 @@
 -- What a stage's coroutine promises: it asks for what its strand wants.
-use Rattle.std.specs.Prelude.{◌≡◌, ℕ, ◌<◌, Bool, true, false, List, [], ◌∷◌, length}
+use Rattle.std.specs.Prelude.{◌≡◌, ℕ, ◌<◌, Bool, true, List, [], ◌∷◌, length}
 use Rattle.std.specs.declared.option.Option.{Option}
-use Rattle.std.specs.declared.option.Option.TheVariants.{Some, None}
+use Rattle.std.specs.declared.option.Option.TheVariants.{Some}
 use Rattle.pipe_model.specs.declared.net.Strand.{Strand}
 use Rattle.pipe_model.specs.declared.step.Want.{Want as Asked}
 use Rattle.pipe_model.specs.declared.step.Want.TheVariants as Ask
@@ -13,7 +13,7 @@ use Rattle.pipe_model.specs.Event.{Event, Want, answers, last_seen_on, taken_fro
 use Rattle.pipe_model.specs.Event.Event.{Up, Saw, SawEnd, SawAllEnd, Took, Put, Refused, Primed, Opened, Joined, Severed, Ended}
 use Rattle.pipe_model.specs.Event.Want.{Commit, Read, Any, Gate, Take, Write, Prime, Issue, Join, Sever, Done}
 use Rattle.pipe_model.specs.Records.{text}
-use Rattle.pipe_model.specs.Table.{Keeping, form}
+use Rattle.pipe_model.specs.Table.{Keeping}
 use Rattle.pipe_model.specs.Table.Keeping.{Nothing, Console, File}
 use Rattle.pipe_model.specs.Next.{next}
 

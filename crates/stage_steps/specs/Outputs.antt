@@ -1,5 +1,5 @@
 -- The outputs of a strand that are open: connected, and not refused.
-use Rattle.std.specs.Prelude.{ℕ, suc, Bool, false, ◌&&◌, not, ◌==◌, List, [], ◌∷◌, filter}
+use Rattle.std.specs.Prelude.{ℕ, suc, Bool, ◌&&◌, not, ◌==◌, List, [], ◌∷◌, filter}
 use Rattle.std.specs.List.{list_any}
 use Rattle.pipe_model.specs.declared.step.Seen.{Seen}
 use Rattle.pipe_model.specs.declared.step.Seen.TheVariants.{Refused}

@@ -15,7 +15,7 @@ use Rattle.pipe_model.specs.Next.{Phase, Past, past_by, flag_at}
 use Rattle.pipe_model.specs.Next.Phase.{Doing}
 use Rattle.pipe_model.specs.Next.Phase.{Starting as Reaching}
 use Rattle.stage_steps.specs.declared.place.Place.{Place}
-use Rattle.stage_steps.specs.declared.place.Place.TheVariants.{Starting, Committing, Looking, Writing, Taking, Ending, Over}
+use Rattle.stage_steps.specs.declared.place.Place.TheVariants.{Starting, Committing, Writing, Ending}
 use Rattle.stage_steps.specs.Walk.{asked_at}
 
 -- the lines of the bytes from a place on are written

@@ -13,7 +13,7 @@ use Rattle.pipe_model.specs.Records.{text}
 use Rattle.pipe_model.specs.Table.{Keeping, form}
 use Rattle.pipe_model.specs.Next.{Past, past_by}
 use Rattle.stage_steps.specs.declared.place.Place.{Place}
-use Rattle.stage_steps.specs.declared.place.Place.TheVariants.{Starting, Committing, Looking, Writing, Taking, Ending, Over}
+use Rattle.stage_steps.specs.declared.place.Place.TheVariants.{Starting, Committing, Looking, Writing, Taking}
 use Rattle.stage_steps.specs.declared.outputs.Pair.{Pair}
 use Rattle.stage_steps.specs.Coroutine.{last_seen, bytes_with, kept_by}
 use Rattle.stage_steps.specs.KeptText.{KeptText}

@@ -1,13 +1,12 @@
 -- What a walk of pairs stands for: a strand's own past, by a row that tells the pairs of each record.
 use Rattle.std.specs.Prelude.{◌≡◌, ℕ, Bool, true, false, ◌&&◌, List, [], ◌∷◌, ◌++◌, pos, negsuc, map}
-use Rattle.std.specs.declared.option.Option.TheVariants.{Some, None}
+use Rattle.std.specs.declared.option.Option.TheVariants.{None}
 use Rattle.pipe_model.specs.declared.step.Seen.{Seen}
-use Rattle.pipe_model.specs.declared.step.Seen.TheVariants.{Saw, Refused}
+use Rattle.pipe_model.specs.declared.step.Seen.TheVariants.{Refused}
 use Rattle.pipe_model.specs.declared.step.Want.{Want as Asked}
 use Rattle.pipe_model.specs.declared.step.Want.TheVariants as Ask
-use Rattle.pipe_model.specs.Event.{Event}
 use Rattle.pipe_model.specs.Event.Want.{Read}
-use Rattle.pipe_model.specs.Row.{Pair as RowPair, Act, Goal, Row, writes, through_plan, each_record}
+use Rattle.pipe_model.specs.Row.{Pair as RowPair, Act, Row, writes, through_plan, each_record}
 use Rattle.pipe_model.specs.Row.Act.{Writes, Takes}
 use Rattle.pipe_model.specs.Row.Goal.{Asks, Ends}
 use Rattle.pipe_model.specs.Next.{Phase, Past}
@@ -16,7 +15,7 @@ use Rattle.pipe_model.specs.Next.Phase.{Starting as Reaching}
 use Rattle.stage_steps.specs.declared.place.Place.{Place}
 use Rattle.stage_steps.specs.declared.place.Place.TheVariants.{Starting, Committing, Looking, Writing, Taking, Ending, Over}
 use Rattle.stage_steps.specs.declared.outputs.Pair.{Pair}
-use Rattle.stage_steps.specs.Coroutine.{written, last_seen, bytes_with}
+use Rattle.stage_steps.specs.Coroutine.{written}
 use Rattle.stage_steps.specs.Outputs.{live, none_left}
 
 -- Through and Sink: each record's pairs are written before it is taken, and where it yields, refusals end it

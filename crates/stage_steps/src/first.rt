@@ -62,6 +62,8 @@ fn copy_of(alloc: Global, text: &Option<Rec>) -> Result<Option<Rec>, NoMemory>
 }
 
 impl Stage for FirstStage {
+    ghost use Rattle.std.specs.Prelude.{◌≡◌, IfOk};
+    ghost use Rattle.stage_steps.specs.Coroutine.{Resumes};
     ghost use Rattle.stage_steps.specs.First.{FirstStands, first_looks};
 
     ghost stands = { λ x s h. FirstStands x s h };
@@ -76,7 +78,11 @@ impl Stage for FirstStage {
         }
     }
 
-    fn resume(&mut self, alloc: Global, seen: Seen, bytes: &[u8]) -> Result<Want, NoMemory> {
+    // It may be told any event; what isn't answered ends it.
+    fn resume(&mut self, alloc: Global, seen: Seen, bytes: &[u8]) -> Result<Want, NoMemory>
+        ensures looks_same { first_looks self.new ≡ first_looks self.old }
+        ensures resumes { IfOk result (λ asked. Resumes (λ x s h. FirstStands x s h) (first_looks self.old) self.old self.new seen bytes.now asked) }
+    {
         match self {
             FirstStage::Source(stage) => stage.resume(alloc, seen, bytes),
             FirstStage::Sink(stage) => stage.resume(alloc, seen, bytes),

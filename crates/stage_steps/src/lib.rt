@@ -23,3 +23,6 @@ pub use sink::Copies;
 pub use source::Source;
 pub use stage::Stage;
 pub use through::Through;
+
+#[cfg(test)]
+mod tests;

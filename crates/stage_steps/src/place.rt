@@ -36,7 +36,11 @@ pub(crate) fn place_after(place: Place, seen: Seen, begins: Place, gives_up: boo
         (Place::Looking, Seen::Saw(_)) => Place::Writing,
         (Place::Looking, Seen::SawEnd(_)) => Place::Ending,
         (Place::Writing, Seen::Put(_)) => Place::Writing,
-        (Place::Writing, Seen::Refused(_)) => if gives_up { Place::Ending } else { Place::Writing },
+        (Place::Writing, Seen::Refused(_)) => if gives_up {
+            Place::Ending
+        } else {
+            Place::Writing
+        },
         (Place::Taking, Seen::Took(_)) => Place::Looking,
         _ => Place::Over,
     }

@@ -50,7 +50,11 @@ fn front_fields(rec: &[u8], count: usize) -> &[u8]
             None => return rec,
         }
     }
-    if count == 0 { &[] } else { front(rec, rec.len() - rest.len() - 1) }
+    if count == 0 {
+        &[]
+    } else {
+        front(rec, rec.len() - rest.len() - 1)
+    }
 }
 
 // The fields of a record.

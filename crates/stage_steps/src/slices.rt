@@ -4,12 +4,20 @@ ghost use Rattle.std.specs.Prelude.{◌≡◌, drop, take};
 pub(crate) fn behind(rec: &[u8], count: usize) -> &[u8]
     ensures { result.now ≡ drop count rec.now }
 {
-    if count < rec.len() { &rec[count..] } else { &[] }
+    if count < rec.len() {
+        &rec[count..]
+    } else {
+        &[]
+    }
 }
 
 // Its first bytes.
 pub(crate) fn front(rec: &[u8], count: usize) -> &[u8]
     ensures { result.now ≡ take count rec.now }
 {
-    if count < rec.len() { &rec[..count] } else { rec }
+    if count < rec.len() {
+        &rec[..count]
+    } else {
+        rec
+    }
 }

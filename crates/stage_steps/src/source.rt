@@ -100,11 +100,16 @@ fn is_open(outputs: &[bool]) -> bool
 fn beginning(is_open: bool) -> Place
     ensures { result ≡ (if is_open then Writing else Ending) }
 {
-    if is_open { Place::Writing } else { Place::Ending }
+    if is_open {
+        Place::Writing
+    } else {
+        Place::Ending
+    }
 }
 
 impl Stage for Source {
-    ghost use Rattle.std.specs.Prelude.{true, false};
+    ghost use Rattle.stage_steps.specs.Coroutine.{Resumes};
+    ghost use Rattle.std.specs.Prelude.{◌≡◌, IfOk, true, false};
     ghost use Rattle.stage_steps.specs.Source.{SourceIs};
 
     ghost stands = { λ x s h. SourceIs true x.bytes x.at x.place x.is_open s h };
@@ -115,7 +120,11 @@ impl Stage for Source {
         Want::Commit(-1)
     }
 
-    fn resume(&mut self, alloc: Global, seen: Seen, _bytes: &[u8]) -> Result<Want, NoMemory> {
+    // It may be told any event; what isn't answered ends it.
+    fn resume(&mut self, alloc: Global, seen: Seen, _bytes: &[u8]) -> Result<Want, NoMemory>
+        ensures looks_same { false ≡ false }
+        ensures resumes { IfOk result (λ asked. Resumes (λ x s h. SourceIs true x.bytes x.at x.place x.is_open s h) (false) self.old self.new seen _bytes.now asked) }
+    {
         self.place = place_after(self.place, seen, beginning(self.is_open), true);
         self.ask(alloc)
     }

@@ -72,7 +72,8 @@ fn give<L: Lists>(
 }
 
 impl<L: Lists> Stage for Through<L> {
-    ghost use Rattle.std.specs.Prelude.{true};
+    ghost use Rattle.stage_steps.specs.Coroutine.{Resumes};
+    ghost use Rattle.std.specs.Prelude.{◌≡◌, IfOk, true};
     ghost use Rattle.stage_steps.specs.Through.{ThroughIs};
 
     ghost stands = { λ x s h. ThroughIs L.gives (L.is_looking x.lists) true x.lists x.walk.place x.walk.left x.walk.outputs.connected x.walk.outputs.flags.items x.kept s h };
@@ -83,7 +84,11 @@ impl<L: Lists> Stage for Through<L> {
         Want::Commit(-1)
     }
 
-    fn resume(&mut self, alloc: Global, seen: Seen, bytes: &[u8]) -> Result<Want, NoMemory> {
+    // It may be told any event; what isn't answered ends it.
+    fn resume(&mut self, alloc: Global, seen: Seen, bytes: &[u8]) -> Result<Want, NoMemory>
+        ensures looks_same { L.is_looking self.new.lists ≡ L.is_looking self.old.lists }
+        ensures resumes { IfOk result (λ asked. Resumes (λ x s h. ThroughIs L.gives (L.is_looking x.lists) true x.lists x.walk.place x.walk.left x.walk.outputs.connected x.walk.outputs.flags.items x.kept s h) (L.is_looking self.old.lists) self.old self.new seen bytes.now asked) }
+    {
         give(&mut self.lists, alloc, seen, bytes, &mut self.walk.left)?;
         self.walk.go(seen, self.kept.is_none());
         note_kept(&mut self.kept, seen, bytes)?;

@@ -1,4 +1,4 @@
-use Rattle.std.proofs.Common.{arith, ◌+◌, ◌-◌, length, take, drop, length-take, length-drop}
+use Rattle.std.proofs.Common.{arith, ◌+◌, ◌-◌, length, drop, length-take, length-drop}
 use Rattle.stage_steps.proofs.Fields.{drop_field, behind_last}
 use Rattle.stage_steps.proofs.ranges.behind_fields.Goals as goal
 

@@ -1,8 +1,8 @@
-use Rattle.std.proofs.Common.{◌≡◌, ◌∙◌, sym, ap, drop, subst, ◌-◌}
+use Rattle.std.proofs.Common.{◌∙◌, sym, ap, drop}
 use Rattle.std.specs.Prelude.{◌==◌}
 use Rattle.std.specs.List.{slice_split, join_with_byte}
 use Rattle.pipe_model.specs.Ranges.{between}
-use Rattle.stage_steps.proofs.Fields.{behind_is, taken_is}
+use Rattle.stage_steps.proofs.Fields.{behind_is}
 use Rattle.stage_steps.proofs.ranges.fields.Goals as goal
 
 pub returns-in-None : goal.returns-in-None

@@ -1,4 +1,4 @@
-use Rattle.std.proofs.Common.{rules, ◌≡◌, ◌∙◌, subst, ap, arith, ◌+◌, ◌-◌, ◌<◌, length, take, drop, length-take, length-drop}
+use Rattle.std.proofs.Common.{rules, ◌≡◌, ◌∙◌, subst, arith, ◌+◌, ◌-◌, ◌<◌, length, drop, length-take, length-drop}
 use Rattle.std.specs.Prelude.{◌==◌}
 use Rattle.std.specs.List.{slice_split}
 use Rattle.stage_steps.proofs.Fields.{drop_field, front_last, fields_size, front_is}

@@ -9,4 +9,4 @@ returns-then-is_empty c = λ at rec is.
 pub loop-preserved : goal.loop-preserved
 loop-preserved c =
     front_goes c.loop.counter c.args.text.now c.loop.rest.now c.from_word-word.result.now c.behind_word-rest.result.now c.is_empty.result c.loop.invariant c.requires c.from_word-word.ensures c.is_empty.ensures c.if-is_empty.false
-        c.behind_word-rest.ensures
+    c.behind_word-rest.ensures

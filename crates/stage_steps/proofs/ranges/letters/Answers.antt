@@ -1,4 +1,4 @@
-use Rattle.std.proofs.Common.{◌≡◌, ◌∙◌, sym}
+use Rattle.std.proofs.Common.{sym}
 use Rattle.std.specs.Prelude.{◌==◌}
 use Rattle.stage_steps.proofs.Words.{position_some, position_none}
 use Rattle.stage_steps.proofs.ranges.letters.Goals as goal

@@ -1,4 +1,4 @@
-use Rattle.std.proofs.Common.{◌≡◌, ◌∙◌, sym, ap, ◌+◌, ◌-◌, length, take, drop, Some}
+use Rattle.std.proofs.Common.{◌∙◌, sym, ap, ◌+◌, ◌-◌, length, take, drop}
 use Rattle.pipe_model.specs.Ranges.{between, words_from, words_spanned}
 use Rattle.stage_steps.proofs.Words.{text_trimmed, words_are, all_words}
 use Rattle.stage_steps.proofs.ranges.words.Goals as goal

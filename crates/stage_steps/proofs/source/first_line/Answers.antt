@@ -1,4 +1,4 @@
-use Rattle.std.proofs.Common.{◌≡◌, ◌∙◌, sym, Option, Some, None, MatchOption}
+use Rattle.std.proofs.Common.{◌∙◌, sym, Option, Some, None, MatchOption}
 use Rattle.stage_steps.proofs.Cuts.{first_line}
 use Rattle.stage_steps.proofs.source.first_line.Goals as goal
 

@@ -1,4 +1,4 @@
-use Rattle.std.proofs.Common.{refl, arith}
+use Rattle.std.proofs.Common.{arith}
 use Rattle.stage_steps.proofs.Flags.{closed-set, closed-beyond}
 use Rattle.stage_steps.proofs.outputs.Outputs.close.Goals as goal
 
