@@ -1,0 +1,11 @@
+pub mod Coroutine
+pub mod First
+pub mod Kept
+pub mod KeptText
+pub mod Lines
+pub mod Outputs
+pub mod Parts
+pub mod Place
+pub mod Source
+pub mod Through
+pub mod Walk

@@ -1,0 +1,108 @@
+ghost use Rattle.std.specs.Prelude.{◌≡◌, IfOk};
+
+use crate::locate::Selects;
+use crate::sink::Copies;
+use crate::source::Source;
+use crate::stage::Stage;
+use crate::through::Through;
+use pipe_model::{Kind, NoMemory, Rec, Seen, Strand, Want};
+use std::alloc::Global;
+
+/// A stage of one of the first kinds: CONSOLE first in its pipeline or not, and LOCATE.
+#[derive(Drop)]
+pub enum FirstStage {
+    Source(Source),
+    Sink(Through<Copies>),
+    Locating(Through<Selects>),
+}
+
+impl FirstStage {
+    ghost use Rattle.std.specs.Prelude.{◌≡◌, [], IfOk};
+    ghost use Rattle.stage_steps.specs.First.{IsFirstKind, FirstStands};
+
+    /// The stage of a strand, before its first event. `outputs` tells which of its outputs are connected.
+    pub fn new(alloc: Global, strand: &Strand, outputs: &[bool]) -> Result<FirstStage, NoMemory>
+        requires kind { IsFirstKind strand.now.kind }
+        requires outputs { outputs.now ≡ strand.now.ports.has_output }
+        ensures { IfOk result (λ stage. FirstStands stage strand.now []) }
+    {
+        match &strand.kind {
+            Kind::ConsoleIn { bytes } => {
+                let source = Source::new(alloc, bytes.bytes(), outputs)?;
+                Ok(FirstStage::Source(source))
+            }
+            Kind::ConsoleOut => {
+                let sink = Through::new(alloc, Copies, outputs, true)?;
+                Ok(FirstStage::Sink(sink))
+            }
+            Kind::Locate { range, text } => {
+                let lists = Selects {
+                    range: *range,
+                    text: copy_of(alloc, text)?,
+                };
+                let locating = Through::new(alloc, lists, outputs, false)?;
+                Ok(FirstStage::Locating(locating))
+            }
+            _ => unreachable!(),
+        }
+    }
+}
+
+// A copy of a string that may be there.
+fn copy_of(alloc: Global, text: &Option<Rec>) -> Result<Option<Rec>, NoMemory>
+    ensures { IfOk result (λ copy. copy ≡ text.now) }
+{
+    match text {
+        None => Ok(None),
+        Some(text) => {
+            let copy = Rec::from_slice(alloc, text.bytes())?;
+            Ok(Some(copy))
+        }
+    }
+}
+
+impl Stage for FirstStage {
+    ghost use Rattle.std.specs.Prelude.{◌≡◌, IfOk};
+    ghost use Rattle.stage_steps.specs.Coroutine.{Resumes};
+    ghost use Rattle.stage_steps.specs.First.{FirstStands, first_looks};
+
+    ghost stands = { λ x s h. FirstStands x s h };
+
+    ghost is_looking = { λ x. first_looks x };
+
+    fn first(&self) -> Want {
+        match self {
+            FirstStage::Source(stage) => stage.first(),
+            FirstStage::Sink(stage) => stage.first(),
+            FirstStage::Locating(stage) => stage.first(),
+        }
+    }
+
+    // It may be told any event; what isn't answered ends it.
+    fn resume(&mut self, alloc: Global, seen: Seen, bytes: &[u8]) -> Result<Want, NoMemory>
+        ensures looks_same { first_looks self.new ≡ first_looks self.old }
+        ensures resumes { IfOk result (λ asked. Resumes (λ x s h. FirstStands x s h) (first_looks self.old) self.old self.new seen bytes.now asked) }
+    {
+        match self {
+            FirstStage::Source(stage) => stage.resume(alloc, seen, bytes),
+            FirstStage::Sink(stage) => stage.resume(alloc, seen, bytes),
+            FirstStage::Locating(stage) => stage.resume(alloc, seen, bytes),
+        }
+    }
+
+    fn looks(&self) -> bool {
+        match self {
+            FirstStage::Source(stage) => stage.looks(),
+            FirstStage::Sink(stage) => stage.looks(),
+            FirstStage::Locating(stage) => stage.looks(),
+        }
+    }
+
+    fn kept(&self) -> &[u8] {
+        match self {
+            FirstStage::Source(stage) => stage.kept(),
+            FirstStage::Sink(stage) => stage.kept(),
+            FirstStage::Locating(stage) => stage.kept(),
+        }
+    }
+}

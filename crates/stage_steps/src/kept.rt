@@ -1,0 +1,75 @@
+ghost use Rattle.std.specs.Prelude.{◌≡◌, IfOk, [], vec_len};
+ghost use Rattle.std.specs.Option.{option_map};
+ghost use Rattle.stage_steps.specs.Kept.{kept_after, nothing_kept};
+
+use pipe_model::{NoMemory, Seen};
+use std::alloc::Global;
+use std::marker::Model;
+
+/// The text of the records that a stage took, and behind it that of the record which it saw and hasn't taken.
+#[derive(Drop)]
+pub(crate) struct Kept {
+    bytes: Vec<u8>,
+    taken: usize,
+}
+
+impl Model for Kept {
+    ghost use Rattle.std.specs.Prelude.{◌≤◌, vec_len, take};
+    ghost use Rattle.stage_steps.specs.KeptText.{KeptText};
+
+    ghost Value = { KeptText };
+
+    ghost view = { λ kept. record { all = kept.bytes.items; taken = take kept.taken kept.bytes.items } };
+
+    ghost invariant = { λ kept. kept.taken ≤ vec_len kept.bytes };
+}
+
+impl Kept {
+    pub(crate) fn new(alloc: Global) -> Kept
+        ensures { result ≡ nothing_kept }
+    {
+        Kept {
+            bytes: Vec::new(alloc),
+            taken: 0,
+        }
+    }
+
+    // Adds a record that is seen, and counts it as taken when it is.
+    fn note(&mut self, seen: Seen, bytes: &[u8]) -> Result<(), NoMemory>
+        ensures { IfOk result (λ _. self.new ≡ kept_after seen bytes.now self.old) }
+    {
+        match seen {
+            Seen::Saw(_) => self.add(bytes),
+            Seen::Took(_) => {
+                self.taken = self.bytes.len();
+                Ok(())
+            }
+            _ => Ok(()),
+        }
+    }
+
+    fn add(&mut self, bytes: &[u8]) -> Result<(), NoMemory>
+        ensures { IfOk result (λ _. self.new ≡ kept_after (Seen.Saw 0) bytes.now self.old) }
+    {
+        self.bytes.extend_from_slice(bytes)?;
+        self.bytes.push(b'\n')?;
+        Ok(())
+    }
+
+    // The text of the records that were taken.
+    pub(crate) fn text(&self) -> &[u8]
+        ensures { result.now ≡ self.now.taken }
+    {
+        &self.bytes[..self.taken]
+    }
+}
+
+// What is kept after an event, where something is.
+pub(crate) fn note_kept(kept: &mut Option<Kept>, seen: Seen, bytes: &[u8]) -> Result<(), NoMemory>
+    ensures { IfOk result (λ _. kept.new ≡ option_map (kept_after seen bytes.now) kept.old) }
+{
+    match kept {
+        Some(kept) => kept.note(seen, bytes),
+        None => Ok(()),
+    }
+}

@@ -1,0 +1,158 @@
+ghost use Rattle.std.specs.Prelude.{◌≡◌, ◌==◌, ◌+◌, ◌-◌, ◌≤◌, ◌<◌, Option, ℕ, List, drop, take, length, not};
+ghost use Rattle.std.specs.List.{slice_split, join_with_byte, position, position_or_len};
+ghost use Rattle.pipe_model.specs.Ranges.{between, cut_by, words_from, words_spanned};
+ghost use Rattle.pipe_model.specs.declared.kind.Span.TheVariants.{Words, Fields};
+ghost use Rattle.stage_steps.specs.Parts.{AreBehind, WordsBehind};
+
+use crate::slices::{behind, front};
+use bstr::ByteSlice;
+
+// How many members a range has, which may be more than there are.
+fn width(first: u32, last: u32) -> usize
+    ensures { result ≡ last + 1 - first }
+{
+    (last as usize + 1).saturating_sub(first as usize)
+}
+
+// The columns of a record.
+pub(crate) fn columns(rec: &[u8], first: u32, last: Option<u32>) -> &[u8]
+    ensures { result.now ≡ between first last rec.now }
+{
+    let rest = behind(rec, first.saturating_sub(1) as usize);
+    match last {
+        None => rest,
+        Some(last) => front(rest, width(first, last)),
+    }
+}
+
+// What stands behind the first fields.
+fn behind_fields(rec: &[u8], count: usize) -> &[u8]
+    ensures { AreBehind count rec.now result.now }
+{
+    let mut rest = rec;
+    for _ in 0..count {
+        match rest.find_byte(b'\t') {
+            Some(tab) => rest = &rest[tab + 1..],
+            None => return &[],
+        }
+    }
+    rest
+}
+
+// The first fields, with the tabs between them.
+fn front_fields(rec: &[u8], count: usize) -> &[u8]
+    ensures { result.now ≡ join_with_byte 9 (take count (slice_split (λ b. b == 9) rec.now)) }
+{
+    let mut rest = rec;
+    for _ in 0..count {
+        match rest.find_byte(b'\t') {
+            Some(tab) => rest = &rest[tab + 1..],
+            None => return rec,
+        }
+    }
+    if count == 0 {
+        &[]
+    } else {
+        front(rec, rec.len() - rest.len() - 1)
+    }
+}
+
+// The fields of a record.
+pub(crate) fn fields(rec: &[u8], first: u32, last: Option<u32>) -> &[u8]
+    ensures { result.now ≡ cut_by Fields first last rec.now }
+{
+    let rest = behind_fields(rec, first.saturating_sub(1) as usize);
+    match last {
+        None => rest,
+        Some(last) => front_fields(rest, width(first, last)),
+    }
+}
+
+// Where its first byte is that is no blank.
+fn first_letter(text: &[u8]) -> Option<usize>
+    ensures { result ≡ position (λ b. not (b == 32)) text.now }
+{
+    text.iter().position(|b| *b != b' ')
+}
+
+// How many blanks it begins with.
+fn blanks(text: &[u8]) -> usize
+    ensures { result ≡ position_or_len (λ b. not (b == 32)) text.now }
+{
+    match first_letter(text) {
+        Some(k) => k,
+        None => text.len(),
+    }
+}
+
+// Where its first blank is.
+fn first_blank(text: &[u8]) -> Option<usize>
+    ensures { result ≡ position (λ b. b == 32) text.now }
+{
+    text.iter().position(|b| *b == b' ')
+}
+
+// How many other bytes it begins with.
+fn letters(text: &[u8]) -> usize
+    ensures { result ≡ position_or_len (λ b. b == 32) text.now }
+{
+    match first_blank(text) {
+        Some(k) => k,
+        None => text.len(),
+    }
+}
+
+// From its first word on.
+fn from_word(text: &[u8]) -> &[u8]
+    ensures { result.now ≡ drop (position_or_len (λ b. not (b == 32)) text.now) text.now }
+{
+    behind(text, blanks(text))
+}
+
+// What stands behind a word that it begins with.
+fn behind_word(text: &[u8]) -> &[u8]
+    ensures { result.now ≡ drop (position_or_len (λ b. b == 32) text.now) text.now }
+{
+    behind(text, letters(text))
+}
+
+// What stands behind the first words.
+fn behind_words(rec: &[u8], count: usize) -> &[u8]
+    ensures { WordsBehind count rec.now result.now }
+{
+    let mut rest = rec;
+    for _ in 0..count {
+        if rest.is_empty() {
+            return rest;
+        }
+        rest = behind_word(from_word(rest));
+    }
+    rest
+}
+
+// From the front of a text, which is that of a word, to the end of its last word of so many.
+fn front_words(text: &[u8], count: usize) -> &[u8]
+    requires { position_or_len (λ b. not (b == 32)) text.now ≡ 0 }
+    ensures { (at : ℕ) (rec : List ℕ) → text.now ≡ drop at rec → result.now ≡ words_spanned (take count (words_from at text.now)) rec }
+{
+    let mut rest = text;
+    for _ in 0..count {
+        let word = from_word(rest);
+        if word.is_empty() {
+            return front(text, text.len() - rest.len());
+        }
+        rest = behind_word(word);
+    }
+    front(text, text.len() - rest.len())
+}
+
+// The words of a record.
+pub(crate) fn words(rec: &[u8], first: u32, last: Option<u32>) -> &[u8]
+    ensures { result.now ≡ cut_by Words first last rec.now }
+{
+    let text = from_word(behind_words(rec, first.saturating_sub(1) as usize));
+    match last {
+        None => front_words(text, text.len()),
+        Some(last) => front_words(text, width(first, last)),
+    }
+}

@@ -1,0 +1,37 @@
+ghost use Rattle.std.specs.Prelude.{◌≡◌, ℕ, List, [], Bool, IfOk, Some};
+ghost use Rattle.pipe_model.specs.declared.net.Strand.{Strand};
+ghost use Rattle.pipe_model.specs.Event.{Event};
+ghost use Rattle.pipe_model.specs.Next.{next};
+ghost use Rattle.pipe_model.specs.Table.{form};
+ghost use Rattle.stage_steps.specs.Coroutine.{meaning, last_seen, kept_by, CanResume, Resumes};
+
+use pipe_model::{NoMemory, Seen, Want};
+use std::alloc::Global;
+
+/// The sequential part of a stage, as a coroutine: it is told an event, and asks for the next.
+pub trait Stage: Sized + Drop {
+    /// The value stands for this history of this strand.
+    ghost stands: { Self → Strand → List Event → Type 0 };
+
+    /// It is given the bytes of the records that it sees.
+    ghost is_looking: { Self → Bool };
+
+    /// The first want of a fresh value.
+    fn first(&self) -> Want
+        ensures { (s : Strand) → stands self.now s [] → Some (meaning result (last_seen [])) ≡ next s [] };
+
+    /// The want after an event that answers the last one, and after `Ended(code)` `Done(code)`. `bytes` is the record
+    /// where the event is a `Saw` and the stage looks, else empty. After want of memory the value isn't resumed again.
+    fn resume(&mut self, alloc: Global, seen: Seen, bytes: &[u8]) -> Result<Want, NoMemory>
+        requires { CanResume stands (is_looking self.old) self.old seen bytes.now }
+        ensures looks_same { is_looking self.new ≡ is_looking self.old }
+        ensures resumes { IfOk result (λ asked. Resumes stands (is_looking self.old) self.old self.new seen bytes.now asked) };
+
+    /// Whether it is given the bytes of the records that it sees.
+    fn looks(&self) -> bool
+        ensures { result ≡ is_looking self.now };
+
+    /// The text of the records taken, where the stage keeps it, else nothing.
+    fn kept(&self) -> &[u8]
+        ensures { (s : Strand) (h : List Event) → stands self.now s h → result.now ≡ kept_by (form s).keeping h };
+}

@@ -1,0 +1,77 @@
+ghost use Rattle.std.specs.Prelude.{◌≡◌};
+ghost use Rattle.stage_steps.specs.Outputs.{open_after};
+ghost use Rattle.stage_steps.specs.Place.{place_after};
+ghost use Rattle.stage_steps.specs.Walk.{gives_up, AsksFrom, AsksPair};
+
+use crate::outputs::{Outputs, Pairs, next_pair};
+use crate::place::{Place, place_after};
+use pipe_model::{Seen, Want};
+
+/// A walk of the pairs that each record causes.
+#[derive(Drop)]
+pub(crate) struct Walk {
+    pub(crate) place: Place,
+    /// The pairs that aren't written yet. Those whose output isn't open are passed over.
+    pub(crate) left: Pairs,
+    pub(crate) outputs: Outputs,
+}
+
+impl Walk {
+    ghost use Rattle.std.specs.Prelude.{◌≡◌};
+    ghost use Rattle.stage_steps.specs.declared.place.Place.TheVariants.{Looking};
+    ghost use Rattle.stage_steps.specs.Outputs.{open_after};
+    ghost use Rattle.stage_steps.specs.Place.{place_after};
+    ghost use Rattle.stage_steps.specs.Walk.{gives_up, AsksFrom, AsksPair};
+
+    // The walk after an event. Where it yields, it ends when the last open output refuses.
+    pub(crate) fn go(&mut self, seen: Seen, yields: bool)
+        ensures flags { self.new.outputs.flags.items ≡ open_after seen self.old.outputs.flags.items }
+        ensures connected { self.new.outputs.connected ≡ self.old.outputs.connected }
+        ensures left { self.new.left ≡ self.old.left }
+        ensures place { self.new.place ≡ place_after self.old.place seen Looking (gives_up seen yields self.new.outputs.connected self.new.outputs.flags.items) }
+    {
+        self.outputs.note(seen);
+        let ends = self.gives_up(seen, yields);
+        self.place = place_after(self.place, seen, Place::Looking, ends);
+    }
+
+    fn gives_up(&self, seen: Seen, yields: bool) -> bool
+        ensures { result ≡ gives_up seen yields self.now.outputs.connected self.now.outputs.flags.items }
+    {
+        match seen {
+            Seen::Refused(_) => yields && self.outputs.none_left(),
+            _ => false,
+        }
+    }
+
+    // What it asks for where it stands.
+    pub(crate) fn ask(&mut self) -> Want
+        ensures flags { self.new.outputs.flags.items ≡ self.old.outputs.flags.items }
+        ensures connected { self.new.outputs.connected ≡ self.old.outputs.connected }
+        ensures asks { AsksFrom self.old.place self.old.outputs.flags.items self.old.left self.new.place self.new.left result }
+    {
+        match self.place {
+            Place::Starting => Want::Commit(-1),
+            Place::Committing => Want::Commit(0),
+            Place::Looking => Want::Read(0),
+            Place::Writing => self.ask_pair(),
+            Place::Taking => Want::Take(0),
+            Place::Ending | Place::Over => Want::Done(0),
+        }
+    }
+
+    fn ask_pair(&mut self) -> Want
+        requires { self.old.place ≡ Place.Writing }
+        ensures flags { self.new.outputs.flags.items ≡ self.old.outputs.flags.items }
+        ensures connected { self.new.outputs.connected ≡ self.old.outputs.connected }
+        ensures asks { AsksPair self.old.outputs.flags.items self.old.left self.new.place self.new.left result }
+    {
+        match next_pair(&mut self.left, &self.outputs) {
+            Some(pair) => Want::Write(pair.output, pair.out),
+            None => {
+                self.place = Place::Taking;
+                Want::Take(0)
+            }
+        }
+    }
+}
