@@ -1,0 +1,211 @@
+ghost use Rattle.std.specs.Prelude.{◌≡◌, ◌+◌, ◌<◌, ◌≤◌, ◌^◌, ◌∷◌, ◌++◌, [], Some, None, IsSome, IfOk, OnOk, OnErr, MatchResult, length, vec_len, vec_capacity};
+ghost use Rattle.record_pool.specs.Places.{record_at, IsHeld, holders_at, bytes_at, with_record, shared, given, one_more, one_less, fresh, OthersStay};
+ghost use Rattle.record_pool.specs.Blocks.{blocks_of, blocks_at, blocks_in};
+ghost use Rattle.record_pool.specs.Kept.{IsKept};
+
+use pipe_model::{NoMemory, Rec};
+use std::alloc::Global;
+use std::marker::Model;
+
+/// One hold on a record, seen as the number of the record's place. It is used only with the pool that made it, and
+/// is given back to it.
+pub struct Grip {
+    place: usize,
+}
+
+impl Model for Grip {
+    ghost use Rattle.std.specs.Prelude.{ℕ};
+
+    ghost Value = { ℕ };
+
+    ghost view = { λ grip. grip.place };
+}
+
+/// Records with their holders, seen as a list of places, each empty or a record. A place that was left empty is used
+/// again.
+#[derive(Drop)]
+pub struct Pool {
+    alloc: Global,
+    places: Vec<Option<Held>>,
+    // The empty places, with room for all of them, so that `give` takes no memory.
+    free: Vec<usize>,
+    blocks: u64,
+}
+
+// A record and the number of grips on it.
+#[derive(Drop)]
+struct Held {
+    bytes: Rec,
+    holders: u32,
+}
+
+impl Model for Pool {
+    ghost use Rattle.std.specs.Prelude.{◌≡◌, List, Option, vec_capacity};
+    ghost use Rattle.record_pool.specs.declared.pool.Held.{Held};
+
+    ghost Value = { List (Option Held) };
+
+    ghost use Rattle.record_pool.specs.Blocks.{blocks_in};
+    ghost use Rattle.record_pool.specs.Kept.{IsKept};
+
+    ghost view = { λ pool. pool.places.items };
+
+    ghost invariant = { λ pool. IsKept pool.places.items pool.free.items (vec_capacity pool.free) × (pool.blocks ≡ blocks_in pool.places.items) };
+}
+
+impl Pool {
+    /// A pool with no record.
+    pub fn new(alloc: Global) -> Pool
+        ensures { result ≡ [] }
+    {
+        Pool {
+            alloc,
+            places: Vec::new(alloc),
+            free: Vec::new(alloc),
+            blocks: 0,
+        }
+    }
+
+    /// Copies the bytes into the pool, at a place that was empty. It wants memory too where the count of blocks would
+    /// pass 64 bits.
+    pub fn put(&mut self, bytes: &[u8]) -> Result<Grip, NoMemory>
+        ensures vacant { IfOk result (λ grip. record_at self.old grip ≡ None) }
+        ensures held { IfOk result (λ grip. record_at self.new grip ≡ Some (fresh bytes.now)) }
+        ensures others { IfOk result (λ grip. OthersStay self.old self.new grip) }
+        ensures put { IfOk result (λ grip. self.new ≡ with_record self.old grip (Some (fresh bytes.now))) }
+        ensures err { OnErr result (self.new ≡ self.old) }
+    {
+        let Some(blocks) = self.blocks.checked_add(count_blocks(bytes.len())) else {
+            return Err(NoMemory);
+        };
+        let held = Held {
+            bytes: Rec::from_slice(self.alloc, bytes)?,
+            holders: 1,
+        };
+        let place = fill(&mut self.places, &mut self.free, held)?;
+        self.blocks = blocks;
+        Ok(Grip { place })
+    }
+
+    /// One more hold on the same record. It takes no memory.
+    pub fn share(&mut self, grip: &Grip) -> Grip
+        requires held { IsHeld self.old grip.now }
+        requires holders { holders_at self.old grip.now < 4294967295 }
+        ensures same { result ≡ grip.now }
+        ensures more { record_at self.new grip.now ≡ one_more (record_at self.old grip.now) }
+        ensures others { OthersStay self.old self.new grip.now }
+        ensures shared { self.new ≡ shared self.old grip.now }
+    {
+        add_holder(&mut self.places[grip.place]);
+        Grip { place: grip.place }
+    }
+
+    /// Gives a hold back. With the last one the record goes, its place is empty, and its memory is freed. It takes no
+    /// memory.
+    pub fn give(&mut self, grip: Grip)
+        requires { IsHeld self.old grip }
+        ensures less { record_at self.new grip ≡ one_less (record_at self.old grip) }
+        ensures others { OthersStay self.old self.new grip }
+        ensures given { self.new ≡ given self.old grip }
+    {
+        let Grip { place } = grip;
+        let freed = let_go(&mut self.places[place]);
+        if freed > 0 {
+            self.blocks -= freed;
+            self.free.push_reserved(place);
+        }
+    }
+
+    /// The number of bytes of the record.
+    pub fn len_of(&self, grip: &Grip) -> usize
+        requires { IsHeld self.now grip.now }
+        ensures { result ≡ length (bytes_at self.now grip.now) }
+    {
+        self.bytes_of(grip).len()
+    }
+
+    /// The bytes of the record.
+    pub fn bytes_of<'a>(&'a self, grip: &Grip) -> &'a [u8]
+        requires { IsHeld self.now grip.now }
+        ensures { result.now ≡ bytes_at self.now grip.now }
+    {
+        match &self.places[grip.place] {
+            Some(held) => held.bytes.bytes(),
+            None => &[],
+        }
+    }
+
+    /// Puts the bytes of the record in place of what `room` holds. It takes no memory.
+    pub fn copy_out(&self, grip: &Grip, room: &mut Vec<u8>)
+        requires held { IsHeld self.now grip.now }
+        requires room { length (bytes_at self.now grip.now) ≤ vec_capacity room.old }
+        ensures bytes { room.new.items ≡ bytes_at self.now grip.now }
+        ensures capacity { vec_capacity room.old ≤ vec_capacity room.new }
+    {
+        room.clear();
+        room.extend_from_slice(self.bytes_of(grip)).unwrap();
+    }
+
+    /// The blocks of 256 bytes that the records hold, each at least one.
+    pub fn in_use(&self) -> u64
+        ensures { result ≡ blocks_in self.now }
+    {
+        self.blocks
+    }
+}
+
+// The blocks that a record of this length holds.
+fn count_blocks(len: usize) -> u64
+    ensures { result ≡ blocks_of len }
+{
+    len.div_ceil(256).max(1) as u64
+}
+
+// Puts the record at an empty place, or at a new one where none is empty.
+fn fill(
+    places: &mut Vec<Option<Held>>,
+    free: &mut Vec<usize>,
+    held: Held,
+) -> Result<usize, NoMemory>
+    requires { IsKept places.old.items free.old.items (vec_capacity free.old) }
+    ensures kept { IsKept places.new.items free.new.items (vec_capacity free.new) }
+    ensures vacant { IfOk result (λ place. record_at places.old.items place ≡ None) }
+    ensures put { IfOk result (λ place. places.new.items ≡ with_record places.old.items place (Some held)) }
+    ensures err { OnErr result (places.new.items ≡ places.old.items) }
+{
+    if let Some(place) = free.pop() {
+        places[place] = Some(held);
+        return Ok(place);
+    }
+    let place = places.len();
+    free.reserve(place + 1)?;
+    places.push(Some(held))?;
+    Ok(place)
+}
+
+// Counts one holder more.
+fn add_holder(place: &mut Option<Held>)
+    requires held { IsSome place.old }
+    requires holders { holders_at (place.old ∷ []) 0 < 4294967295 }
+    ensures { place.new ≡ one_more place.old }
+{
+    if let Some(held) = place {
+        held.holders += 1;
+    }
+}
+
+// Counts one holder less, and empties the place where it was the last. Answers how many blocks that freed.
+fn let_go(place: &mut Option<Held>) -> u64
+    ensures after { place.new ≡ one_less place.old }
+    ensures freed { result + blocks_at place.new ≡ blocks_at place.old }
+{
+    let Some(mut held) = place.take() else {
+        return 0;
+    };
+    if held.holders > 1 {
+        held.holders -= 1;
+        *place = Some(held);
+        return 0;
+    }
+    count_blocks(held.bytes.bytes().len())
+}
