@@ -1,0 +1,8 @@
+//! The core of a run: what is kept of each strand and connector, so that a step's questions are answered in constant
+//! time, and the set of the strands that may be ready.
+#![tactic(auto)]
+
+mod bits;
+mod ready;
+
+pub use ready::Ready;
