@@ -3,6 +3,10 @@
 #![tactic(auto)]
 
 mod bits;
+mod desk;
 mod ready;
+mod seat;
 
+pub use desk::{Desk, Doors};
 pub use ready::Ready;
+pub use seat::{Ask, Level, Seat};
