@@ -1,3 +1,4 @@
 pub mod BitSets
-pub mod Summaries
+pub mod Sees
 pub mod Streams
+pub mod Summaries

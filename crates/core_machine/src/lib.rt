@@ -4,9 +4,11 @@
 
 mod bits;
 mod desk;
+mod laws;
 mod ready;
 mod seat;
 
 pub use desk::{Desk, Doors};
+pub use laws::tells_the_licence;
 pub use ready::Ready;
 pub use seat::{Ask, Level, Seat};
