@@ -1,0 +1,4 @@
+pub mod BitSets
+pub mod Sees
+pub mod Streams
+pub mod Summaries

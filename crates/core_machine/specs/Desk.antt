@@ -1,0 +1,19 @@
+-- What a desk stands for: lists by strand and by link.
+use Rattle.std.specs.Prelude.{ℕ, List, Option}
+use Rattle.connectors.specs.WireState.{WireState}
+use Rattle.core_machine.specs.declared.seat.Seat.{Seat}
+use Rattle.core_machine.specs.declared.seat.Level.{Level}
+
+-- the number of the link at each input and output of a strand, and the first strand of its stage
+pub record DoorsState : Type 0 where
+  pub inputs : List (Option ℕ)
+  pub outputs : List (Option ℕ)
+  pub first : ℕ
+
+-- seats and doors by strand, wires by link, and the commit levels -1 and 0
+pub record DeskState : Type 0 where
+  pub seats : List Seat
+  pub wires : List WireState
+  pub doors : List DoorsState
+  pub low : Level
+  pub zero : Level

@@ -1,0 +1,5 @@
+pub mod Desk
+pub mod Kept
+pub mod Members
+pub mod Pure
+pub mod Told

@@ -1,0 +1,101 @@
+ghost use Rattle.std.specs.Prelude.{◌≡◌, ◌≢◌, ◌<◌, ◌^◌, ◌/◌, ◌*◌, ◌==◌, ℕ, length, replicate, MatchOption, IfSome, IfOk};
+ghost use Rattle.core_machine.specs.Members.{has, word_at, IsLeastBit};
+
+use pipe_model::NoMemory;
+use std::alloc::Global;
+use std::marker::Model;
+
+/// Numbers as the bits of words, 64 in each.
+#[derive(Drop)]
+pub struct Bits {
+    words: Vec<u64>,
+}
+
+impl Model for Bits {
+    ghost use Rattle.std.specs.Prelude.{ℕ, ◌<◌, List, length};
+
+    ghost Value = { List ℕ };
+
+    ghost view = { λ bits. bits.words.items };
+
+    ghost invariant = { λ bits. length bits.words.items < 67108864 };
+}
+
+impl Bits {
+    /// No number, with so many words.
+    pub fn new(alloc: Global, count: usize) -> Result<Bits, NoMemory>
+        requires { count < 67108864 }
+        ensures { IfOk result (λ bits. bits ≡ replicate count 0) }
+    {
+        Ok(Bits {
+            words: vec![in alloc; 0u64; count]?,
+        })
+    }
+
+    /// A word by its number, which is 0 behind the end.
+    pub fn word(&self, k: usize) -> u64
+        ensures { result ≡ word_at self.now k }
+    {
+        match self.words.get(k) {
+            None => 0,
+            Some(word) => *word,
+        }
+    }
+
+    /// Puts a number in.
+    pub fn insert(&mut self, s: u32)
+        requires { s / 64 < length self.old }
+        ensures here { has self.new s ≡ 1 }
+        ensures others { (t : ℕ) → t ≢ s → has self.new t ≡ has self.old t }
+        ensures apart { (k : ℕ) → k ≢ s / 64 → word_at self.new k ≡ word_at self.old k }
+        ensures size { length self.new ≡ length self.old }
+    {
+        let k = (s / 64) as usize;
+        let word = self.word(k);
+        self.words[k] = word | bit(s % 64);
+    }
+
+    /// Takes a number out.
+    pub fn remove(&mut self, s: u32)
+        requires { s / 64 < length self.old }
+        ensures here { has self.new s ≡ 0 }
+        ensures others { (t : ℕ) → t ≢ s → has self.new t ≡ has self.old t }
+        ensures apart { (k : ℕ) → k ≢ s / 64 → word_at self.new k ≡ word_at self.old k }
+        ensures size { length self.new ≡ length self.old }
+    {
+        let k = (s / 64) as usize;
+        let word = self.word(k);
+        self.words[k] = word & !bit(s % 64);
+    }
+
+    /// Whether a number is in.
+    pub fn has(&self, s: u32) -> bool
+        ensures { result ≡ (has self.now s == 1) }
+    {
+        self.word((s / 64) as usize) >> (s % 64) & 1 == 1
+    }
+
+    /// The least number, by a walk along the words.
+    pub fn least(&self) -> Option<u32>
+        ensures inside { IfSome result (λ s. s < 64 * length self.now) }
+        ensures least { MatchOption result ((t : ℕ) → has self.now t ≡ 0) (λ s. IsLeastBit self.now s) }
+    {
+        let mut k = 0;
+        while k < self.words.len() {
+            let word = self.word(k);
+            if word != 0 {
+                return Some((64 * (k as u64) + word.trailing_zeros() as u64) as u32);
+            }
+            k += 1;
+        }
+        None
+    }
+}
+
+// The word whose one bit is the k-th.
+fn bit(k: u32) -> u64
+    requires { k < 64 }
+    ensures { result ≡ 2 ^ k }
+{
+    1 << k
+}

@@ -1,0 +1,436 @@
+ghost use Rattle.std.specs.Prelude.{◌≡◌, ◌<◌, ◌&&◌, ◌==◌, length, slice_get, true};
+ghost use Rattle.std.specs.List.{list_all};
+ghost use Rattle.core_machine.specs.Desk.{DoorsState, DeskState};
+ghost use Rattle.core_machine.specs.Pure as Pure;
+
+use crate::seat::{Ask, Level, Seat};
+use connectors::Wire;
+use pipe_model::Seen;
+use std::marker::Model;
+
+/// The numbers of the links at a strand's inputs and outputs, and the first strand of its stage.
+#[derive(Drop)]
+pub struct Doors {
+    inputs: Vec<Option<u32>>,
+    outputs: Vec<Option<u32>>,
+    first: u32,
+}
+
+impl Model for Doors {
+    ghost use Rattle.std.specs.Prelude.{◌<◌, length};
+    ghost use Rattle.core_machine.specs.Desk.{DoorsState};
+
+    ghost Value = { DoorsState };
+
+    ghost view = { λ doors. record { inputs = doors.inputs.items; outputs = doors.outputs.items; first = doors.first } };
+
+    ghost invariant = { λ doors. length doors.inputs.items < 65536 };
+}
+
+impl Doors {
+    /// The doors of a strand, which takes no memory.
+    pub fn new(inputs: Vec<Option<u32>>, outputs: Vec<Option<u32>>, first: u32) -> Doors
+        requires { length inputs.items < 65536 }
+        ensures { result ≡ record { inputs = inputs.items; outputs = outputs.items; first = first } }
+    {
+        Doors {
+            inputs,
+            outputs,
+            first,
+        }
+    }
+
+    fn input(&self, i: u16) -> Option<u32>
+        ensures { result ≡ Pure.joined (slice_get self.now.inputs i) }
+    {
+        self.inputs.get(i as usize).copied()?
+    }
+
+    fn output(&self, o: u16) -> Option<u32>
+        ensures { result ≡ Pure.joined (slice_get self.now.outputs o) }
+    {
+        self.outputs.get(o as usize).copied()?
+    }
+
+    fn input_count(&self) -> u16
+        ensures { result ≡ length self.now.inputs }
+    {
+        self.inputs.len() as u16
+    }
+
+    fn first(&self) -> u32
+        ensures { result ≡ self.now.first }
+    {
+        self.first
+    }
+
+    // Whether nothing will come any more on any input.
+    fn all_over(&self, wires: &[Wire]) -> bool
+        ensures { result ≡ list_all (λ door. Pure.is_over (Pure.through wires.now door)) self.now.inputs }
+    {
+        self.inputs.iter().all(|door| is_over(wires, *door))
+    }
+}
+
+/// What is kept of a run, and all that a licence rests on: the seats and doors of the strands, the wires of the links,
+/// and the commit levels -1 and 0.
+pub struct Desk {
+    seats: Vec<Seat>,
+    wires: Vec<Wire>,
+    doors: Vec<Doors>,
+    low: Level,
+    zero: Level,
+}
+
+impl Model for Desk {
+    ghost use Rattle.core_machine.specs.Desk.{DeskState};
+
+    ghost Value = { DeskState };
+
+    ghost view = { λ desk. record {
+      seats = desk.seats.items;
+      wires = desk.wires.items;
+      doors = desk.doors.items;
+      low = desk.low;
+      zero = desk.zero;
+    } };
+}
+
+impl Desk {
+    /// A desk of these lists, which takes no memory: seats and doors by strand, wires by link.
+    pub fn new(
+        seats: Vec<Seat>,
+        wires: Vec<Wire>,
+        doors: Vec<Doors>,
+        low: Level,
+        zero: Level,
+    ) -> Desk
+        ensures { result ≡ record { seats = seats.items; wires = wires.items; doors = doors.items; low = low; zero = zero } }
+    {
+        Desk {
+            seats,
+            wires,
+            doors,
+            low,
+            zero,
+        }
+    }
+
+    /// Ends the desk at the end of a run. The wires are the caller's to drain.
+    pub fn into_wires(self) -> Vec<Wire>
+        ensures { result.items ≡ self.wires }
+    {
+        let Desk {
+            seats: _,
+            wires,
+            doors: _,
+            low: _,
+            zero: _,
+        } = self;
+        wires
+    }
+
+    /// What a strand would be told on a stream, and None where it may not go on there. The cost is constant, but for a
+    /// look at all inputs of a strand that asks for any.
+    pub fn seen_at(&self, strand: u32, stream: u16) -> Option<Seen>
+        ensures { result ≡ Pure.seen_at self.now strand stream }
+    {
+        self.seen_by(strand, stream, self.ask_of(strand))
+    }
+
+    /// The least stream on which a strand may go on.
+    #[tactic(auto, using(crate::proofs::Streams::only_there, crate::proofs::Streams::only_below))]
+    pub fn ready_stream(&self, strand: u32) -> Option<u16>
+        ensures { Pure.IsFirst self.now strand result }
+    {
+        let ask = self.ask_of(strand);
+        if is_wide(ask) {
+            return self.wide_stream(strand);
+        }
+        let stream = stream_of(ask);
+        self.seen_at(strand, stream)?;
+        Some(stream)
+    }
+
+    // The same for a strand that may go on on several.
+    #[tactic(auto, using(crate::proofs::Streams::wide_none, crate::proofs::Streams::next_none))]
+    fn wide_stream(&self, strand: u32) -> Option<u16>
+        requires { Pure.is_wide (Pure.ask_at self.now strand) ≡ true }
+        ensures { Pure.IsFirst self.now strand result }
+    {
+        let count = self.input_count(strand);
+        if self.seen_at(strand, 0).is_some() {
+            return Some(0);
+        }
+        let mut k = 1;
+        while k < count {
+            if self.seen_at(strand, k).is_some() {
+                return Some(k);
+            }
+            k += 1;
+        }
+        None
+    }
+
+    fn seen_by(&self, strand: u32, stream: u16, ask: Ask) -> Option<Seen>
+        ensures { result ≡ Pure.seen_by self.now strand stream ask }
+    {
+        match ask {
+            Ask::Nothing | Ask::Issue | Ask::Join(_) => None,
+            Ask::Commit(level) if stream == 0 => up_seen(level, self.level_code(level)),
+            Ask::Read(i) if stream == i => self.read_seen(strand, i),
+            Ask::Any => self.any_seen(strand, stream),
+            Ask::Gate => self.gate_seen(strand, stream),
+            Ask::Take(i) if stream == i => Some(Seen::Took(i)),
+            Ask::Write(o) if stream == o => self.write_seen(strand, o),
+            Ask::Primed if stream == 0 => primed_seen(self.primed(strand)),
+            Ask::Cut(i) if stream == i => Some(Seen::Cut(i)),
+            Ask::Done(code) if stream == 0 => Some(Seen::Ended(code)),
+            _ => None,
+        }
+    }
+
+    fn read_seen(&self, strand: u32, i: u16) -> Option<Seen>
+        ensures { result ≡ Pure.read_seen i (Pure.shows (Pure.wire_in self.now strand i)) (Pure.is_over (Pure.wire_in self.now strand i)) }
+    {
+        let door = self.in_door(strand, i);
+        if self.shows(door) {
+            Some(Seen::Saw(i))
+        } else if self.is_over(door) {
+            Some(Seen::SawEnd(i))
+        } else {
+            None
+        }
+    }
+
+    fn any_seen(&self, strand: u32, i: u16) -> Option<Seen>
+        ensures { result ≡ Pure.any_seen i (Pure.shows (Pure.wire_in self.now strand i)) ((i == 0) && Pure.all_over self.now strand) }
+    {
+        if self.shows(self.in_door(strand, i)) {
+            Some(Seen::Saw(i))
+        } else if i == 0 && self.all_over(strand) {
+            Some(Seen::SawAllEnd)
+        } else {
+            None
+        }
+    }
+
+    fn gate_seen(&self, strand: u32, i: u16) -> Option<Seen>
+        ensures { result ≡ Pure.read_seen i (Pure.shows (Pure.wire_in self.now strand i)) ((i == 0) && Pure.is_over (Pure.wire_in self.now strand i)) }
+    {
+        let door = self.in_door(strand, i);
+        if self.shows(door) {
+            Some(Seen::Saw(i))
+        } else if i == 0 && self.is_over(door) {
+            Some(Seen::SawEnd(i))
+        } else {
+            None
+        }
+    }
+
+    fn write_seen(&self, strand: u32, o: u16) -> Option<Seen>
+        ensures { result ≡ Pure.write_seen o (Pure.can_put (Pure.wire_out self.now strand o)) (Pure.can_refuse (Pure.wire_out self.now strand o)) }
+    {
+        let door = self.out_door(strand, o);
+        if self.can_put(door) {
+            Some(Seen::Put(o))
+        } else if self.can_refuse(door) {
+            Some(Seen::Refused(o))
+        } else {
+            None
+        }
+    }
+
+    fn shows(&self, door: Option<u32>) -> bool
+        ensures { result ≡ Pure.shows (Pure.through self.now.wires door) }
+    {
+        shows(&self.wires, door)
+    }
+
+    fn is_over(&self, door: Option<u32>) -> bool
+        ensures { result ≡ Pure.is_over (Pure.through self.now.wires door) }
+    {
+        is_over(&self.wires, door)
+    }
+
+    fn can_put(&self, door: Option<u32>) -> bool
+        ensures { result ≡ Pure.can_put (Pure.through self.now.wires door) }
+    {
+        can_put(&self.wires, door)
+    }
+
+    fn can_refuse(&self, door: Option<u32>) -> bool
+        ensures { result ≡ Pure.can_refuse (Pure.through self.now.wires door) }
+    {
+        can_refuse(&self.wires, door)
+    }
+
+    fn all_over(&self, strand: u32) -> bool
+        ensures { result ≡ Pure.all_over self.now strand }
+    {
+        match self.doors.get(strand as usize) {
+            None => true,
+            Some(doors) => doors.all_over(&self.wires),
+        }
+    }
+
+    fn in_door(&self, strand: u32, i: u16) -> Option<u32>
+        ensures { result ≡ Pure.in_door self.now strand i }
+    {
+        match self.doors.get(strand as usize) {
+            None => None,
+            Some(doors) => doors.input(i),
+        }
+    }
+
+    fn out_door(&self, strand: u32, o: u16) -> Option<u32>
+        ensures { result ≡ Pure.out_door self.now strand o }
+    {
+        match self.doors.get(strand as usize) {
+            None => None,
+            Some(doors) => doors.output(o),
+        }
+    }
+
+    fn input_count(&self, strand: u32) -> u16
+        ensures { result ≡ length (Pure.inputs_of (slice_get self.now.doors strand)) }
+    {
+        match self.doors.get(strand as usize) {
+            None => 0,
+            Some(doors) => doors.input_count(),
+        }
+    }
+
+    fn first_of(&self, strand: u32) -> u32
+        ensures { result ≡ Pure.first_of strand (slice_get self.now.doors strand) }
+    {
+        match self.doors.get(strand as usize) {
+            None => strand,
+            Some(doors) => doors.first(),
+        }
+    }
+
+    fn seat(&self, strand: u32) -> Option<Seat>
+        ensures { result ≡ slice_get self.now.seats strand }
+    {
+        self.seats.get(strand as usize).copied()
+    }
+
+    fn ask_of(&self, strand: u32) -> Ask
+        ensures { result ≡ Pure.ask_at self.now strand }
+    {
+        match self.seat(strand) {
+            None => Ask::Nothing,
+            Some(seat) => seat.ask,
+        }
+    }
+
+    // Whether the first strand of the strand's stage has seen a record, once that is settled.
+    fn primed(&self, strand: u32) -> Option<bool>
+        ensures { result ≡ Pure.primed_at self.now strand }
+    {
+        let seat = self.seat(self.first_of(strand))?;
+        if seat.has_seen {
+            Some(true)
+        } else if seat.has_ended {
+            Some(false)
+        } else {
+            None
+        }
+    }
+
+    fn level_code(&self, level: i32) -> Option<i32>
+        ensures { result ≡ Pure.level_code self.now level }
+    {
+        match level {
+            -1 => level_answer(self.seats.len(), self.low),
+            0 => level_answer(self.seats.len(), self.zero),
+            _ => None,
+        }
+    }
+}
+
+fn shows(wires: &[Wire], door: Option<u32>) -> bool
+    ensures { result ≡ Pure.shows (Pure.through wires.now door) }
+{
+    match door {
+        None => false,
+        Some(j) => match wires.get(j as usize) {
+            None => false,
+            Some(wire) => wire.at_hand().is_some(),
+        },
+    }
+}
+
+fn is_over(wires: &[Wire], door: Option<u32>) -> bool
+    ensures { result ≡ Pure.is_over (Pure.through wires.now door) }
+{
+    match door {
+        None => true,
+        Some(j) => match wires.get(j as usize) {
+            None => true,
+            Some(wire) => wire.out_closed() && wire.puts() == wire.tooks(),
+        },
+    }
+}
+
+fn can_put(wires: &[Wire], door: Option<u32>) -> bool
+    ensures { result ≡ Pure.can_put (Pure.through wires.now door) }
+{
+    match door {
+        None => false,
+        Some(j) => match wires.get(j as usize) {
+            None => false,
+            Some(wire) => wire.puts() < wire.tooks(),
+        },
+    }
+}
+
+fn can_refuse(wires: &[Wire], door: Option<u32>) -> bool
+    ensures { result ≡ Pure.can_refuse (Pure.through wires.now door) }
+{
+    match door {
+        None => false,
+        Some(j) => match wires.get(j as usize) {
+            None => false,
+            Some(wire) => wire.in_closed() && wire.puts() == wire.tooks(),
+        },
+    }
+}
+
+fn level_answer(strands: usize, level: Level) -> Option<i32>
+    ensures { result ≡ Pure.level_answer strands level }
+{
+    if level.standing as usize == strands {
+        Some(level.worst)
+    } else {
+        None
+    }
+}
+
+fn up_seen(level: i32, code: Option<i32>) -> Option<Seen>
+    ensures { result ≡ Pure.up_seen level code }
+{
+    Some(Seen::Up(level, code?))
+}
+
+fn primed_seen(primed: Option<bool>) -> Option<Seen>
+    ensures { result ≡ Pure.primed_seen primed }
+{
+    Some(Seen::Primed(primed?))
+}
+
+fn is_wide(ask: Ask) -> bool
+    ensures { result ≡ Pure.is_wide ask }
+{
+    matches!(ask, Ask::Any | Ask::Gate)
+}
+
+fn stream_of(ask: Ask) -> u16
+    ensures { result ≡ Pure.stream_of ask }
+{
+    match ask {
+        Ask::Read(i) | Ask::Take(i) | Ask::Write(i) | Ask::Cut(i) => i,
+        _ => 0,
+    }
+}

@@ -1,0 +1,16 @@
+//! The core of a run: what is kept of each strand and connector, so that a step's questions are answered in constant
+//! time, and the set of the strands that may be ready.
+#![tactic(auto)]
+
+mod bits;
+mod desk;
+mod laws;
+mod ready;
+mod seat;
+#[cfg(test)]
+mod tests;
+
+pub use desk::{Desk, Doors};
+pub use laws::tells_the_licence;
+pub use ready::Ready;
+pub use seat::{Ask, Level, Seat};

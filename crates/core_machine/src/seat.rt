@@ -1,0 +1,44 @@
+/// What a strand asks for, without the record that it writes.
+#[derive(Clone, Copy, Debug, PartialEq, Eq)]
+pub enum Ask {
+    /// It is out, or has ended.
+    Nothing,
+    /// To reach a commit level.
+    Commit(i32),
+    /// To look at the record at hand on an input.
+    Read(u16),
+    /// To look at any input.
+    Any,
+    /// GATE's look.
+    Gate,
+    /// To consume the record seen on an input.
+    Take(u16),
+    /// To write a record on an output.
+    Write(u16),
+    /// DAM's wait for its first strand.
+    Primed,
+    /// To issue a pipeline command.
+    Issue,
+    /// To wait for an issued unit.
+    Join(u32),
+    /// To sever a stream.
+    Cut(u16),
+    /// To end with a return code.
+    Done(i32),
+}
+
+/// What is kept of a strand.
+#[derive(Clone, Copy, Debug, PartialEq, Eq)]
+pub struct Seat {
+    pub ask: Ask,
+    pub has_ended: bool,
+    /// Whether it has seen a record.
+    pub has_seen: bool,
+}
+
+/// How many strands stand at a commit level, and the worst code of those that ended before it.
+#[derive(Clone, Copy, Debug, PartialEq, Eq)]
+pub struct Level {
+    pub standing: u32,
+    pub worst: i32,
+}
