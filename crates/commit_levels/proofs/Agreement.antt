@@ -1,0 +1,145 @@
+-- A unit whose members are strands answers as a licence says.
+use Rattle.std.proofs.Common.{rules, ◌≡◌, ◌≢◌, ◌⊎◌, inl, inr, suc, ◌<◌, Bool, true, false, cond, ◌||◌, List, [], ◌∷◌, length, refl, sym, ◌∙◌, ap, subst, arith, lit<, ℤ, pos, negsuc, Option, Some, None}
+use Rattle.std.specs.List.{list_all}
+use Rattle.std.proofs.lemmas.Bool.Decides.{Decides-int_eq}
+use Rattle.std.proofs.lemmas.Grind.{common_steps}
+use Rattle.std.proofs.lemmas.List.{length-set}
+use Rattle.pipe_model.specs.declared.net.Net.{Net}
+use Rattle.pipe_model.specs.Code.{worst_of}
+use Rattle.pipe_model.specs.Event.{Event, Want, has_ended}
+use Rattle.pipe_model.specs.Event.Event.{Up, Saw, SawEnd, SawAllEnd, Took, Put, Refused, Primed, Opened, Joined, Severed, Ended}
+use Rattle.pipe_model.specs.Event.Want.{Commit}
+use Rattle.pipe_model.specs.Event as event
+use Rattle.pipe_model.specs.Licence.{Left, want_at, commits_to, level_of}
+use Rattle.pipe_model.specs.Licence as licence
+use Rattle.pipe_model.specs.State.{Who, State, past, members}
+use Rattle.commit_levels.specs.declared.member.Progress.{Progress}
+use Rattle.commit_levels.specs.declared.member.Progress.TheVariants.{NotAsked, Asked, Reached}
+use Rattle.commit_levels.specs.UnitState.{Member, IsLevel, level_count, place_of, progress_at, has_asked, has_reached, stands_at, early_code, worst_early, answer, moved, ended_with}
+use Rattle.commit_levels.specs.Licensed.{progress_of, IsStrand, AreStrands, WantsNoLevel}
+use Rattle.commit_levels.proofs.Calls.{progress_here, progress_there}
+
+-- The answer
+
+no_code : (h : List Event) → has_ended h ≡ false → event.code_of h ≡ pos 0
+no_code [] e = refl
+no_code (Up l c ∷ h) e = no_code h e
+no_code (Saw i r ∷ h) e = no_code h e
+no_code (SawEnd i ∷ h) e = no_code h e
+no_code (SawAllEnd ∷ h) e = no_code h e
+no_code (Took i ∷ h) e = no_code h e
+no_code (Put o r ∷ h) e = no_code h e
+no_code (Refused o ∷ h) e = no_code h e
+no_code (Primed b ∷ h) e = no_code h e
+no_code (Opened k ∷ h) e = no_code h e
+no_code (Joined k c ∷ h) e = no_code h e
+no_code (Severed s ∷ h) e = no_code h e
+no_code (Ended c ∷ h) e = cc
+
+asked_where : (reached commits : Bool) → has_asked (cond reached Reached (cond commits Asked NotAsked)) ≡ (reached || commits)
+asked_where true c = refl
+asked_where false true = refl
+asked_where false false = refl
+
+reached_where : (reached commits : Bool) → has_reached (cond reached Reached (cond commits Asked NotAsked)) ≡ reached
+reached_where true c = refl
+reached_where false true = refl
+reached_where false false = refl
+
+module _ (level : ℤ) (is : IsLevel level) where
+  stands_as : (h : List Event) (want : Option Want) (m : Member) → IsStrand h want m →
+      stands_at (place_of level) m ≡ (has_ended h || (event.has_reached level h || commits_to level want))
+  stands_as h want m s =
+      let asked : has_asked (progress_at (place_of level) m) ≡ (event.has_reached level h || commits_to level want) =
+      ap has_asked (s.progress level is) ∙ asked_where (event.has_reached level h) (commits_to level want) in
+      grind (arith, common_steps, s.ended, asked)
+
+  early_as : (h : List Event) (want : Option Want) (m : Member) → IsStrand h want m → early_code (place_of level) m ≡ licence.early_code level h
+  early_as h want m s =
+      let reached : has_reached (progress_at (place_of level) m) ≡ event.has_reached level h =
+      ap has_reached (s.progress level is) ∙ reached_where (event.has_reached level h) (commits_to level want) in
+      grind (arith, common_steps, s.ended, reached, no_code h)
+
+  module _ (net : Net) (st : State) (left : Left) where
+    rest : (t : Who) (m : Member) (ts : List Who) (ms : List Member) → AreStrands net st left (t ∷ ts) (m ∷ ms) → AreStrands net st left ts ms
+    rest t m ts ms are = record { count = omega (arith, are.count); each = λ k s n s_at n_at. are.each (suc k) s n s_at n_at }
+
+    all_as : (ts : List Who) (ms : List Member) → AreStrands net st left ts ms → list_all (stands_at (place_of level)) ms ≡ list_all (licence.stands_at net st left level) ts
+    all_as [] [] are = refl
+    all_as [] (m ∷ ms) are = absurd (omega (arith, are.count))
+    all_as (t ∷ ts) [] are = absurd (omega (arith, are.count))
+    all_as (t ∷ ts) (m ∷ ms) are =
+        let here = stands_as (past st t) (want_at net st left t) m (are.each 0 t m refl refl) in
+        let there = all_as ts ms (rest t m ts ms are) in
+        grind (arith, common_steps, here, there)
+
+    worst_as : (ts : List Who) (ms : List Member) → AreStrands net st left ts ms → worst_early (place_of level) ms ≡ licence.worst_early st level ts
+    worst_as [] [] are = refl
+    worst_as [] (m ∷ ms) are = absurd (omega (arith, are.count))
+    worst_as (t ∷ ts) [] are = absurd (omega (arith, are.count))
+    worst_as (t ∷ ts) (m ∷ ms) are =
+        ap (λ code. worst_of code (worst_early (place_of level) ms)) (early_as (past st t) (want_at net st left t) m (are.each 0 t m refl refl))
+        ∙ ap (worst_of (licence.early_code level (past st t))) (worst_as ts ms (rest t m ts ms are))
+
+pub answers_as : (net : Net) (st : State) (left : Left) (s : Who) (unit : List Member) (level : ℤ) → IsLevel level → AreStrands net st left (members net st s) unit → answer unit level ≡ level_of net st left s level
+answers_as net st left s unit level is are =
+    ap (λ all. cond all (Some (worst_early (place_of level) unit)) None) (all_as level is net st left (members net st s) unit are)
+    ∙ ap (λ code. cond (list_all (licence.stands_at net st left level) (members net st s)) (Some code) None) (worst_as level is net st left (members net st s) unit are)
+
+-- Calls
+
+one_place : (a b : ℤ) → IsLevel a → IsLevel b → place_of a ≡ place_of b → a ≡ b
+one_place (pos a) (pos b) p q e = ap pos (omega (arith, e))
+one_place (pos a) (negsuc b) p q e = absurd (omega (arith, e))
+one_place (negsuc a) (pos b) p q e = absurd (omega (arith, e))
+one_place (negsuc a) (negsuc b) p q e = grind (arith, common_steps)
+
+int_same_or_not : (a b : ℤ) → (a ≡ b) ⊎ (a ≢ b)
+int_same_or_not a b = search rules
+
+place_within : (level : ℤ) → IsLevel level → place_of level < level_count
+unfolding level_count
+place_within (pos n) is = grind (arith, common_steps)
+place_within (negsuc n) is = lit< tt
+
+module _ (h : List Event) (m : Member) (level : ℤ) (is : IsLevel level) where
+  -- the level is another one or not
+  at_each : (progress : Progress) (after : List Event) (want then : Option Want) → IsStrand h want m → progress_of after then level ≡ progress →
+      ((other : ℤ) → other ≢ level → progress_of after then other ≡ progress_of h want other) →
+      (other : ℤ) → IsLevel other → progress_at (place_of other) (moved (place_of level) progress m) ≡ progress_of after then other
+  at_each progress after want then s here there other other_is = by (int_same_or_not other level)
+    where
+      by : (other ≡ level) ⊎ (other ≢ level) → progress_at (place_of other) (moved (place_of level) progress m) ≡ progress_of after then other
+      by (inl e) =
+          let P : ℤ → Type 0 = λ l. progress_at (place_of l) (moved (place_of level) progress m) ≡ progress_of after then l in
+          let long : place_of level < length m.progress = rw s.count (place_within level is) in
+          subst P (sym e) (progress_here (place_of level) progress m long ∙ sym here)
+      by (inr apart) =
+          progress_there (place_of level) (place_of other) progress m (λ e. apart (one_place other level other_is is e))
+          ∙ s.progress other other_is ∙ sym (there other apart)
+
+  pub asks_as : (want : Option Want) → WantsNoLevel want → event.has_reached level h ≡ false → IsStrand h want m →
+      IsStrand h (Some (Commit level)) (moved (place_of level) Asked m)
+  asks_as want no_commit not_reached s = record {
+    count = length-set m.progress (place_of level) Asked ∙ s.count;
+    progress = at_each Asked h want (Some (Commit level)) s (grind (arith, common_steps, not_reached, Decides-int_eq level level))
+        (λ other apart. grind (arith, common_steps, no_commit other, Decides-int_eq level other, apart));
+    ended = s.ended;
+  }
+
+  pub reaches_as : (code : ℤ) (then : Option Want) → WantsNoLevel then → IsStrand h (Some (Commit level)) m →
+      IsStrand (Up level code ∷ h) then (moved (place_of level) Reached m)
+  reaches_as code then no_commit s = record {
+    count = length-set m.progress (place_of level) Reached ∙ s.count;
+    progress = at_each Reached (Up level code ∷ h) (Some (Commit level)) then s (grind (arith, common_steps, Decides-int_eq level level))
+        (λ other apart. grind (arith, common_steps, no_commit other, Decides-int_eq level other, apart));
+    ended = s.ended;
+  }
+
+pub ends_as : (h : List Event) (m : Member) (code : ℤ) (want then : Option Want) → WantsNoLevel want → WantsNoLevel then → IsStrand h want m →
+    IsStrand (Ended code ∷ h) then (ended_with code m)
+ends_as h m code want then no_commit none_then s = record {
+  count = s.count;
+  progress = λ level is. s.progress level is ∙ ap (λ b. cond (event.has_reached level h) Reached (cond b Asked NotAsked)) (no_commit level ∙ sym (none_then level));
+  ended = refl;
+}

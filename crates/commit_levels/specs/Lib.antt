@@ -1,0 +1,3 @@
+pub mod UnitState
+pub mod Kept
+pub mod Licensed
