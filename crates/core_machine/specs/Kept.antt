@@ -1,17 +1,18 @@
 -- For which net, state and strands left out a desk stands.
-use Rattle.std.specs.Prelude.{◌≡◌, ◌⊎◌, ℕ, Bool, false, List, [], ◌∷◌, ℤ, pos, negsuc, slice_get, length, Option, Some, None}
+use Rattle.std.specs.Prelude.{◌≡◌, ℕ, false, List, [], ℤ, slice_get, length, Option, Some, None}
 use Rattle.std.specs.Option.{option_map}
 use Rattle.pipe_model.specs.declared.net.Net.{Net}
 use Rattle.pipe_model.specs.declared.net.Link.{Link}
-use Rattle.pipe_model.specs.Event.{Want, has_ended, has_seen, one_more}
+use Rattle.pipe_model.specs.Event.{Want, has_ended, has_seen}
 use Rattle.pipe_model.specs.Event.Want.{Commit, Read, Any, Gate, Take, Write, Prime, Issue, Join, Sever, Done}
 use Rattle.pipe_model.specs.State.{Who, State, past, below, link_in, link_out}
-use Rattle.pipe_model.specs.Licence.{Left, want_at, puts, tooks, out_closed, in_closed, offered, stands_at, worst_early, first_part}
+use Rattle.pipe_model.specs.Licence.{Left, want_at, puts, tooks, out_closed, in_closed, offered, first_part}
+use Rattle.commit_levels.specs.UnitState.{IsLevel}
+use Rattle.commit_levels.specs.Licensed.{AreStrands}
 use Rattle.connectors.specs.WireState.{WireState}
 use Rattle.core_machine.specs.declared.seat.Ask.{Ask}
 use Rattle.core_machine.specs.declared.seat.Ask.TheVariants as Now
 use Rattle.core_machine.specs.declared.seat.Seat.{Seat}
-use Rattle.core_machine.specs.declared.seat.Level.{Level}
 use Rattle.core_machine.specs.Desk.{DeskState}
 use Rattle.core_machine.specs.Pure.{in_door, out_door, first_of}
 
@@ -44,16 +45,6 @@ pub record IsWire (net : Net) (texts : ℕ → List ℕ) (st : State) (left : Le
   pub out_closed : wire.out_closed ≡ out_closed st link
   pub in_closed : wire.in_closed ≡ in_closed st link
 
--- how many of a list pass a test
-abbrev pub tally : {A : Type 0} → (A → Bool) → List A → ℕ
-tally p [] = 0
-tally p (x ∷ xs) = one_more (p x) (tally p xs)
-
--- the counts of a commit level: how many strands stand there, and the worst code of those that ended before it
-pub record IsLevel (net : Net) (st : State) (left : Left) (code : ℤ) (level : Level) : Type 0 where
-  pub standing : level.standing ≡ tally (stands_at net st left code) (below (length net.strands))
-  pub worst : level.worst ≡ worst_early st code (below (length net.strands))
-
 -- the link of a number
 abbrev pub link_through : List Link → Option ℕ → Option Link
 link_through links None = None
@@ -75,7 +66,6 @@ pub record IsKept (net : Net) (texts : ℕ → List ℕ) (st : State) (left : Le
   -- who has no seat has no history
   pub nobody : (s : Who) → slice_get d.seats s ≡ None → past st s ≡ []
   pub wires : (j : ℕ) (link : Link) (wire : WireState) → slice_get net.links j ≡ Some link → slice_get d.wires j ≡ Some wire → IsWire net texts st left link wire
-  pub low : IsLevel net st left (negsuc 0) d.low
-  pub zero : IsLevel net st left (pos 0) d.zero
-  -- a strand wants no other commit level
-  pub early : (s : Who) (level : ℤ) → want_at net st left s ≡ Some (Commit level) → (level ≡ negsuc 0) ⊎ (level ≡ pos 0)
+  pub unit : AreStrands net st left (below (length net.strands)) d.unit
+  -- a strand wants a commit level only where it is one
+  pub early : (s : Who) (level : ℤ) → want_at net st left s ≡ Some (Commit level) → IsLevel level

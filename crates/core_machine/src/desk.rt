@@ -3,7 +3,8 @@ ghost use Rattle.std.specs.List.{list_all};
 ghost use Rattle.core_machine.specs.Desk.{DoorsState, DeskState};
 ghost use Rattle.core_machine.specs.Pure as Pure;
 
-use crate::seat::{Ask, Level, Seat};
+use crate::seat::{Ask, Seat};
+use commit_levels::Unit;
 use connectors::Wire;
 use pipe_model::Seen;
 use std::marker::Model;
@@ -73,13 +74,12 @@ impl Doors {
 }
 
 /// What is kept of a run, and all that a licence rests on: the seats and doors of the strands, the wires of the links,
-/// and the commit levels -1 and 0.
+/// and how far each strand is at each commit level.
 pub struct Desk {
     seats: Vec<Seat>,
     wires: Vec<Wire>,
     doors: Vec<Doors>,
-    low: Level,
-    zero: Level,
+    unit: Unit,
 }
 
 impl Model for Desk {
@@ -91,28 +91,20 @@ impl Model for Desk {
       seats = desk.seats.items;
       wires = desk.wires.items;
       doors = desk.doors.items;
-      low = desk.low;
-      zero = desk.zero;
+      unit = desk.unit;
     } };
 }
 
 impl Desk {
-    /// A desk of these lists, which takes no memory: seats and doors by strand, wires by link.
-    pub fn new(
-        seats: Vec<Seat>,
-        wires: Vec<Wire>,
-        doors: Vec<Doors>,
-        low: Level,
-        zero: Level,
-    ) -> Desk
-        ensures { result ≡ record { seats = seats.items; wires = wires.items; doors = doors.items; low = low; zero = zero } }
+    /// A desk of these lists, which takes no memory: seats, doors and members by strand, wires by link.
+    pub fn new(seats: Vec<Seat>, wires: Vec<Wire>, doors: Vec<Doors>, unit: Unit) -> Desk
+        ensures { result ≡ record { seats = seats.items; wires = wires.items; doors = doors.items; unit = unit } }
     {
         Desk {
             seats,
             wires,
             doors,
-            low,
-            zero,
+            unit,
         }
     }
 
@@ -124,8 +116,7 @@ impl Desk {
             seats: _,
             wires,
             doors: _,
-            low: _,
-            zero: _,
+            unit: _,
         } = self;
         wires
     }
@@ -342,10 +333,10 @@ impl Desk {
     fn level_code(&self, level: i32) -> Option<i32>
         ensures { result ≡ Pure.level_code self.now level }
     {
-        match level {
-            -1 => level_answer(self.seats.len(), self.low),
-            0 => level_answer(self.seats.len(), self.zero),
-            _ => None,
+        if -1 <= level && level <= 1_000 {
+            self.unit.answer(level)
+        } else {
+            None
         }
     }
 }
@@ -395,16 +386,6 @@ fn can_refuse(wires: &[Wire], door: Option<u32>) -> bool
             None => false,
             Some(wire) => wire.in_closed() && wire.puts() == wire.tooks(),
         },
-    }
-}
-
-fn level_answer(strands: usize, level: Level) -> Option<i32>
-    ensures { result ≡ Pure.level_answer strands level }
-{
-    if level.standing as usize == strands {
-        Some(level.worst)
-    } else {
-        None
     }
 }
 

@@ -11,4 +11,4 @@ mod seat;
 pub use desk::{Desk, Doors};
 pub use laws::tells_the_licence;
 pub use ready::Ready;
-pub use seat::{Ask, Level, Seat};
+pub use seat::{Ask, Seat};
