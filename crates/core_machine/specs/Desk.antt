@@ -10,9 +10,10 @@ pub record DoorsState : Type 0 where
   pub outputs : List (Option ℕ)
   pub first : ℕ
 
--- seats, doors and the members of the unit by strand, wires by link
+-- seats, doors and the members of the unit by strand, wires by link, and by link too the place of the record that its consumer saw last
 pub record DeskState : Type 0 where
   pub seats : List Seat
   pub wires : List WireState
+  pub sights : List (Option ℕ)
   pub doors : List DoorsState
   pub unit : List Member

@@ -1,12 +1,18 @@
-ghost use Rattle.std.specs.Prelude.{◌≡◌, ◌<◌, ◌&&◌, ◌==◌, length, slice_get, true};
+ghost use Rattle.std.specs.Prelude.{◌≡◌, ◌<◌, ◌&&◌, ◌==◌, length, slice_get, true, Some};
 ghost use Rattle.std.specs.List.{list_all};
 ghost use Rattle.core_machine.specs.Desk.{DoorsState, DeskState};
+ghost use Rattle.core_machine.specs.Moves.{seat_after, changed, moved, made, pool_moved, CanMove, closed, ended, CanForget, pool_without};
+ghost use Rattle.commit_levels.specs.UnitState.{IsLive};
+ghost use Rattle.core_machine.specs.declared.seat.Seat.{Seat as SeatIs};
 ghost use Rattle.core_machine.specs.Pure as Pure;
 
 use crate::seat::{Ask, Seat};
+use crate::sights::{forget, see_at};
+use crate::wires::{close_ins, close_outs, settle_at, take_at, withdraw_at};
 use commit_levels::Unit;
 use connectors::Wire;
 use pipe_model::Seen;
+use record_pool::{Grip, Pool};
 use std::marker::Model;
 
 /// The numbers of the links at a strand's inputs and outputs, and the first strand of its stage.
@@ -73,11 +79,12 @@ impl Doors {
     }
 }
 
-/// What is kept of a run, and all that a licence rests on: the seats and doors of the strands, the wires of the links,
-/// and how far each strand is at each commit level.
+/// What is kept of a run, and all that a licence rests on: the seats and doors of the strands, the wires of the links
+/// with what their consumers saw last, and how far each strand is at each commit level.
 pub struct Desk {
     seats: Vec<Seat>,
     wires: Vec<Wire>,
+    sights: Vec<Option<Grip>>,
     doors: Vec<Doors>,
     unit: Unit,
 }
@@ -90,35 +97,108 @@ impl Model for Desk {
     ghost view = { λ desk. record {
       seats = desk.seats.items;
       wires = desk.wires.items;
+      sights = desk.sights.items;
       doors = desk.doors.items;
       unit = desk.unit;
     } };
 }
 
 impl Desk {
-    /// A desk of these lists, which takes no memory: seats, doors and members by strand, wires by link.
-    pub fn new(seats: Vec<Seat>, wires: Vec<Wire>, doors: Vec<Doors>, unit: Unit) -> Desk
-        ensures { result ≡ record { seats = seats.items; wires = wires.items; doors = doors.items; unit = unit } }
+    /// A desk of these lists, which takes no memory: seats, doors and members by strand, wires and sights by link.
+    pub fn new(
+        seats: Vec<Seat>,
+        wires: Vec<Wire>,
+        sights: Vec<Option<Grip>>,
+        doors: Vec<Doors>,
+        unit: Unit,
+    ) -> Desk
+        ensures { result ≡ record { seats = seats.items; wires = wires.items; sights = sights.items; doors = doors.items; unit = unit } }
     {
         Desk {
             seats,
             wires,
+            sights,
             doors,
             unit,
         }
     }
 
-    /// Ends the desk at the end of a run. The wires are the caller's to drain.
-    pub fn into_wires(self) -> Vec<Wire>
-        ensures { result.items ≡ self.wires }
+    /// Ends the desk at the end of a run. The wires are the caller's to drain, and the sights to give back.
+    pub fn into_holders(self) -> (Vec<Wire>, Vec<Option<Grip>>)
+        ensures wires { result.0.items ≡ self.wires }
+        ensures sights { result.1.items ≡ self.sights }
     {
         let Desk {
             seats: _,
             wires,
+            sights,
             doors: _,
             unit: _,
         } = self;
-        wires
+        (wires, sights)
+    }
+
+    /// What a turn does where a strand is told this: the strand is out then, and asks for nothing. It takes no memory.
+    pub fn make(&mut self, pool: &mut Pool, strand: u32, seen: Seen)
+        requires { CanMove self.old pool.old strand seen }
+        ensures desk { self.new ≡ made self.old strand seen }
+        ensures pool { pool.new ≡ pool_moved self.old pool.old strand seen }
+    {
+        self.move_on(pool, strand, seen);
+        change_seat(&mut self.seats, strand, seen);
+    }
+
+    // The same, but for the seat.
+    fn move_on(&mut self, pool: &mut Pool, strand: u32, seen: Seen)
+        requires { CanMove self.old pool.old strand seen }
+        ensures desk { self.new ≡ moved self.old strand seen }
+        ensures pool { pool.new ≡ pool_moved self.old pool.old strand seen }
+    {
+        match seen {
+            Seen::Up(level, _) => self.unit.reach(strand, level),
+            Seen::Saw(i) => {
+                let door = self.in_door(strand, i);
+                see_at(&self.wires, &mut self.sights, pool, door);
+            }
+            Seen::Took(i) => {
+                let door = self.in_door(strand, i);
+                take_at(&mut self.wires, pool, door);
+            }
+            Seen::Put(o) => {
+                let door = self.out_door(strand, o);
+                settle_at(&mut self.wires, pool, door);
+            }
+            Seen::Refused(o) => {
+                let door = self.out_door(strand, o);
+                withdraw_at(&mut self.wires, pool, door);
+            }
+            Seen::Ended(code) => self.end(pool, strand, code),
+            _ => {}
+        }
+    }
+
+    fn end(&mut self, pool: &mut Pool, strand: u32, code: i32)
+        requires member { strand < length self.old.unit }
+        requires live { IsLive self.old.unit strand }
+        requires sights { CanForget (Pure.inputs_of (slice_get self.old.doors strand)) self.old.sights pool.old }
+        ensures desk { self.new ≡ ended self.old strand code }
+        ensures pool { pool.new ≡ pool_without (Pure.inputs_of (slice_get self.old.doors strand)) self.old.sights pool.old }
+    {
+        self.close(pool, strand);
+        self.unit.ended(strand, code);
+    }
+
+    // The ends of the wires that the strand holds are closed, and what it saw is given back.
+    fn close(&mut self, pool: &mut Pool, strand: u32)
+        requires { CanForget (Pure.inputs_of (slice_get self.old.doors strand)) self.old.sights pool.old }
+        ensures desk { self.new ≡ closed self.old strand }
+        ensures pool { pool.new ≡ pool_without (Pure.inputs_of (slice_get self.old.doors strand)) self.old.sights pool.old }
+    {
+        if let Some(doors) = self.doors.get(strand as usize) {
+            close_outs(&mut self.wires, &doors.outputs);
+            close_ins(&mut self.wires, &doors.inputs);
+            forget(&mut self.sights, pool, &doors.inputs);
+        }
     }
 
     /// What a strand would be told on a stream, and None where it may not go on there. The cost is constant, but for a
@@ -338,6 +418,24 @@ impl Desk {
         } else {
             None
         }
+    }
+}
+
+fn change_seat(seats: &mut Vec<Seat>, strand: u32, seen: Seen)
+    ensures { seats.new.items ≡ changed seats.old.items (seat_after seen) (Some strand) }
+{
+    if let Some(seat) = seats.get_mut(strand as usize) {
+        *seat = seat_after(seen, *seat);
+    }
+}
+
+fn seat_after(seen: Seen, seat: Seat) -> Seat
+    ensures { result ≡ seat_after seen seat }
+{
+    Seat {
+        ask: Ask::Nothing,
+        has_ended: seat.has_ended || matches!(seen, Seen::Ended(_)),
+        has_seen: seat.has_seen || matches!(seen, Seen::Saw(_)),
     }
 }
 

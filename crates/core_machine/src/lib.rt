@@ -7,6 +7,8 @@ mod desk;
 mod laws;
 mod ready;
 mod seat;
+mod sights;
+mod wires;
 
 pub use desk::{Desk, Doors};
 pub use laws::tells_the_licence;
