@@ -1,13 +1,18 @@
--- What a turn does to a desk and its pool.
+-- What a turn does to a desk and its pool, and what a strand that comes home.
 use Rattle.std.specs.Prelude.{◌≡◌, ◌<◌, ◌+◌, ◌-◌, ◌^◌, ℕ, Bool, true, false, ◌||◌, List, [], ◌∷◌, length, ℤ, slice_get, slice_set, Option, Some, None, IsSome}
+use Rattle.pipe_model.specs.declared.step.Out.{Out}
+use Rattle.pipe_model.specs.declared.step.Out.TheVariants.{Same, Fresh}
 use Rattle.pipe_model.specs.declared.step.Seen.{Seen}
 use Rattle.pipe_model.specs.declared.step.Seen.TheVariants.{Up, Saw, Took, Put, Refused, Ended}
+use Rattle.pipe_model.specs.declared.step.Want.{Want}
+use Rattle.pipe_model.specs.declared.step.Want.TheVariants as want
 use Rattle.record_pool.specs.declared.pool.Held.{Held}
-use Rattle.record_pool.specs.Places.{IsHeld, holders_at, shared}
-use Rattle.connectors.specs.WireState.{WireState, at_hand, taken, settled, cleared, IsHeldIn, given_in}
-use Rattle.commit_levels.specs.UnitState.{IsLevel, IsLive, IsAt, reached_by, ended_by}
-use Rattle.commit_levels.specs.declared.member.Progress.TheVariants.{Asked}
-use Rattle.core_machine.specs.declared.seat.Ask.TheVariants.{Nothing}
+use Rattle.record_pool.specs.Places.{IsHeld, holders_at, record_at, with_record, fresh, shared}
+use Rattle.connectors.specs.WireState.{WireState, at_hand, taken, settled, cleared, offered, IsHeldIn, given_in}
+use Rattle.commit_levels.specs.UnitState.{IsLevel, IsLive, IsAt, reached_by, ended_by, asked_by, Member}
+use Rattle.commit_levels.specs.declared.member.Progress.TheVariants.{NotAsked, Asked}
+use Rattle.core_machine.specs.declared.seat.Ask.{Ask}
+use Rattle.core_machine.specs.declared.seat.Ask.TheVariants.{Nothing, Commit, Read, Any, Gate, Take, Write, Primed, Issue, Join, Cut, Done}
 use Rattle.core_machine.specs.declared.seat.Seat.{Seat}
 use Rattle.core_machine.specs.Desk.{DeskState}
 use Rattle.core_machine.specs.Pure.{joined, inputs_of, outputs_of, in_door, out_door, through, wire_in, wire_out}
@@ -158,3 +163,78 @@ CanMove d places s (Refused o) =
     × Behind (λ wire. IsHeldIn places wire.offer) d.wires (out_door d s o)
 CanMove d places s (Ended code) = (s < length d.unit) × IsLive d.unit s × CanForget (inputs_of (slice_get d.doors s)) d.sights places
 CanMove d places s _ = Unit {0}
+
+-- Coming home
+
+-- a record is offered
+abbrev pub offers : ℕ → WireState → WireState
+offers grip wire = offered wire grip
+
+-- the grip is the only hold on a new record of these bytes
+abbrev pub IsFresh : List (Option Held) → List ℕ → ℕ → List (Option Held) → Type 0
+IsFresh places bytes grip after = (record_at places grip ≡ None) × (after ≡ with_record places grip (Some (fresh bytes)))
+
+-- the grip is one more hold on the record that was seen, or on an empty one where none was
+abbrev pub IsShare : List (Option Held) → Option ℕ → ℕ → List (Option Held) → Type 0
+IsShare places None grip after = IsFresh places [] grip after
+IsShare places (Some seen) grip after = (grip ≡ seen) × (after ≡ shared places seen)
+
+-- the grip holds what is to be written
+abbrev pub IsHold : DeskState → List (Option Held) → ℕ → Out → ℕ → List (Option Held) → Type 0
+IsHold d places s (Same i) grip after = IsShare places (sight_through d.sights (in_door d s i)) grip after
+IsHold d places s (Fresh bytes) grip after = IsFresh places bytes grip after
+
+-- the seat of a strand that asks for this
+abbrev pub asking : Ask → Seat → Seat
+asking ask seat = record seat { ask = ask }
+
+-- the unit after a strand that asks for this came home
+abbrev pub unit_home : List Member → ℕ → Ask → List Member
+unit_home unit s (Commit level) = asked_by unit s level
+unit_home unit s _ = unit
+
+-- the desk after a strand that writes nothing came home
+abbrev pub home : DeskState → ℕ → Ask → DeskState
+home d s ask = record d { seats = changed d.seats (asking ask) (Some s); unit = unit_home d.unit s ask }
+
+-- and after one that writes the record of this grip
+abbrev pub home_writing : DeskState → ℕ → ℕ → ℕ → DeskState
+home_writing d s o grip = record (home d s (Write o)) { wires = changed d.wires (offers grip) (out_door d s o) }
+
+-- what home asks of the desk and the pool: a level that the strand hasn't asked for, or a connected output with no offer, and a sight that can be shared
+abbrev pub CanAsk : DeskState → ℕ → Ask → Type 0
+CanAsk d s (Commit level) = (s < length d.unit) × IsLive d.unit s × IsLevel level × IsAt d.unit s level NotAsked
+CanAsk d s (Write o) =
+    IsSome (wire_out d s o)
+    × Behind (λ wire. wire.offer ≡ None) d.wires (out_door d s o)
+    × Behind (λ wire. wire.out_closed ≡ false) d.wires (out_door d s o)
+CanAsk d s _ = Unit {0}
+
+abbrev pub CanHold : DeskState → List (Option Held) → ℕ → Out → Type 0
+CanHold d places s (Same i) =
+    IsHeldIn places (sight_through d.sights (in_door d s i))
+    × ((grip : ℕ) → sight_through d.sights (in_door d s i) ≡ Some grip → holders_at places grip < 4294967295)
+CanHold d places s (Fresh bytes) = Unit {0}
+
+-- a want, without the record that it writes
+abbrev pub ask_for : Want → Ask
+ask_for (want.Commit level) = Commit level
+ask_for (want.Read i) = Read i
+ask_for want.Any = Any
+ask_for want.Gate = Gate
+ask_for (want.Take i) = Take i
+ask_for (want.Write o out) = Write o
+ask_for want.Primed = Primed
+ask_for (want.Issue text) = Issue
+ask_for (want.Join unit) = Join unit
+ask_for (want.Cut i) = Cut i
+ask_for (want.Done code) = Done code
+
+abbrev pub CanCome : DeskState → List (Option Held) → ℕ → Want → Type 0
+CanCome d places s (want.Write o out) = CanAsk d s (Write o) × CanHold d places s out
+CanCome d places s w = CanAsk d s (ask_for w)
+
+-- the desk and the pool after the strand came home with this want
+abbrev pub HasCome : DeskState → List (Option Held) → ℕ → Want → DeskState → List (Option Held) → Type 0
+HasCome d places s (want.Write o out) new after = (grip : ℕ) × IsHold d places s out grip after × (new ≡ home_writing d s o grip)
+HasCome d places s w new after = (new ≡ home d s (ask_for w)) × (after ≡ places)

@@ -1,17 +1,18 @@
-ghost use Rattle.std.specs.Prelude.{◌≡◌, ◌<◌, ◌&&◌, ◌==◌, length, slice_get, true, Some};
+ghost use Rattle.std.specs.Prelude.{◌≡◌, ◌<◌, ◌&&◌, ◌==◌, length, slice_get, true, Some, ℕ, IfOk, OnErr};
 ghost use Rattle.std.specs.List.{list_all};
 ghost use Rattle.core_machine.specs.Desk.{DoorsState, DeskState};
-ghost use Rattle.core_machine.specs.Moves.{seat_after, changed, moved, made, pool_moved, CanMove, closed, ended, CanForget, pool_without};
+ghost use Rattle.core_machine.specs.declared.seat.Ask.TheVariants as Now;
+ghost use Rattle.core_machine.specs.Moves.{seat_after, changed, moved, made, pool_moved, CanMove, closed, ended, CanForget, pool_without, asking, home, home_writing, unit_home, CanAsk, CanHold, IsHold, CanCome, HasCome};
 ghost use Rattle.commit_levels.specs.UnitState.{IsLive};
 ghost use Rattle.core_machine.specs.declared.seat.Seat.{Seat as SeatIs};
 ghost use Rattle.core_machine.specs.Pure as Pure;
 
 use crate::seat::{Ask, Seat};
-use crate::sights::{forget, see_at};
-use crate::wires::{close_ins, close_outs, settle_at, take_at, withdraw_at};
+use crate::sights::{forget, hold_of, see_at};
+use crate::wires::{close_ins, close_outs, offer_at, settle_at, take_at, withdraw_at};
 use commit_levels::Unit;
 use connectors::Wire;
-use pipe_model::Seen;
+use pipe_model::{NoMemory, Out, Seen, Want};
 use record_pool::{Grip, Pool};
 use std::marker::Model;
 
@@ -174,6 +175,81 @@ impl Desk {
             }
             Seen::Ended(code) => self.end(pool, strand, code),
             _ => {}
+        }
+    }
+
+    /// A strand comes home with what it wants next. Where it writes, it offers the record that it saw last on an
+    /// input, which is empty where it saw none, or new bytes. Out of memory leaves all as it was.
+    pub fn come_home(&mut self, pool: &mut Pool, strand: u32, want: Want) -> Result<(), NoMemory>
+        requires { CanCome self.old pool.old strand want }
+        ensures home { IfOk result (λ done. HasCome self.old pool.old strand want self.new pool.new) }
+        ensures err { OnErr result (self.new ≡ self.old) }
+        ensures err_pool { OnErr result (pool.new ≡ pool.old) }
+    {
+        match want {
+            Want::Write(o, out) => return self.write(pool, strand, o, out),
+            Want::Commit(level) => self.ask(strand, Ask::Commit(level)),
+            Want::Read(i) => self.ask(strand, Ask::Read(i)),
+            Want::Any => self.ask(strand, Ask::Any),
+            Want::Gate => self.ask(strand, Ask::Gate),
+            Want::Take(i) => self.ask(strand, Ask::Take(i)),
+            Want::Primed => self.ask(strand, Ask::Primed),
+            Want::Issue(_) => self.ask(strand, Ask::Issue),
+            Want::Join(unit) => self.ask(strand, Ask::Join(unit)),
+            Want::Cut(i) => self.ask(strand, Ask::Cut(i)),
+            Want::Done(code) => self.ask(strand, Ask::Done(code)),
+        }
+        Ok(())
+    }
+
+    // A strand that writes nothing.
+    fn ask(&mut self, strand: u32, ask: Ask)
+        requires { CanAsk self.old strand ask }
+        ensures { self.new ≡ home self.old strand ask }
+    {
+        self.ask_unit(strand, ask);
+        ask_seat(&mut self.seats, strand, ask);
+    }
+
+    // One that writes a record on an output.
+    fn write(&mut self, pool: &mut Pool, strand: u32, o: u16, out: Out) -> Result<(), NoMemory>
+        requires ask { CanAsk self.old strand (Now.Write o) }
+        requires hold { CanHold self.old pool.old strand out }
+        ensures ok { IfOk result (λ done. (grip : ℕ) × IsHold self.old pool.old strand out grip pool.new × (self.new ≡ home_writing self.old strand o grip)) }
+        ensures err { OnErr result (self.new ≡ self.old) }
+        ensures err_pool { OnErr result (pool.new ≡ pool.old) }
+    {
+        let grip = self.hold(pool, strand, out)?;
+        self.offer(strand, o, grip);
+        Ok(())
+    }
+
+    fn hold(&self, pool: &mut Pool, strand: u32, out: Out) -> Result<Grip, NoMemory>
+        requires { CanHold self.now pool.old strand out }
+        ensures hold { IfOk result (λ grip. IsHold self.now pool.old strand out grip pool.new) }
+        ensures err { OnErr result (pool.new ≡ pool.old) }
+    {
+        match out {
+            Out::Same(i) => hold_of(&self.sights, pool, self.in_door(strand, i)),
+            Out::Fresh(rec) => pool.put(rec.bytes()),
+        }
+    }
+
+    fn offer(&mut self, strand: u32, o: u16, grip: Grip)
+        requires { CanAsk self.old strand (Now.Write o) }
+        ensures { self.new ≡ home_writing self.old strand o grip }
+    {
+        let door = self.out_door(strand, o);
+        offer_at(&mut self.wires, grip, door);
+        ask_seat(&mut self.seats, strand, Ask::Write(o));
+    }
+
+    fn ask_unit(&mut self, strand: u32, ask: Ask)
+        requires { CanAsk self.old strand ask }
+        ensures { self.new ≡ record self.old { unit = unit_home self.old.unit strand ask } }
+    {
+        if let Ask::Commit(level) = ask {
+            self.unit.ask(strand, level);
         }
     }
 
@@ -418,6 +494,14 @@ impl Desk {
         } else {
             None
         }
+    }
+}
+
+fn ask_seat(seats: &mut Vec<Seat>, strand: u32, ask: Ask)
+    ensures { seats.new.items ≡ changed seats.old.items (asking ask) (Some strand) }
+{
+    if let Some(seat) = seats.get_mut(strand as usize) {
+        seat.ask = ask;
     }
 }
 

@@ -1,10 +1,11 @@
-ghost use Rattle.std.specs.Prelude.{◌≡◌, ◌<◌, ℕ, Some, None, length};
+ghost use Rattle.std.specs.Prelude.{◌≡◌, ◌<◌, ℕ, Some, None, length, IfOk, OnErr};
 ghost use Rattle.record_pool.specs.Places.{IsHeld, holders_at, shared};
 ghost use Rattle.connectors.specs.WireState.{IsHeldIn, given_in};
 ghost use Rattle.core_machine.specs.Pure.{through};
-ghost use Rattle.core_machine.specs.Moves.{changed, hand_on, sight_through, sights_seen, pool_seen, unseen, sights_without, pool_without, CanForget};
+ghost use Rattle.core_machine.specs.Moves.{changed, hand_on, sight_through, sights_seen, pool_seen, unseen, sights_without, pool_without, CanForget, IsShare};
 
 use connectors::Wire;
+use pipe_model::NoMemory;
 use record_pool::{Grip, Pool};
 
 // The record at hand behind a door is seen: a hold on it takes the place of the one on the record seen before.
@@ -68,5 +69,25 @@ fn forget_at(sights: &mut Vec<Option<Grip>>, pool: &mut Pool, door: Option<u32>)
                 pool.give(grip);
             }
         }
+    }
+}
+
+// A hold on the record that is to be written: the one in sight, or an empty one where nothing was seen, or new bytes.
+pub(crate) fn hold_of(
+    sights: &[Option<Grip>],
+    pool: &mut Pool,
+    door: Option<u32>,
+) -> Result<Grip, NoMemory>
+    requires held { IsHeldIn pool.old (sight_through sights.now door) }
+    requires room { (grip : ℕ) → sight_through sights.now door ≡ Some grip → holders_at pool.old grip < 4294967295 }
+    ensures hold { IfOk result (λ grip. IsShare pool.old (sight_through sights.now door) grip pool.new) }
+    ensures err { OnErr result (pool.new ≡ pool.old) }
+{
+    match door {
+        None => pool.put(&[]),
+        Some(j) => match sights.get(j as usize) {
+            Some(Some(grip)) => Ok(pool.share(grip)),
+            _ => pool.put(&[]),
+        },
     }
 }

@@ -2,7 +2,7 @@ ghost use Rattle.std.specs.Prelude.{◌≡◌, ◌+◌, ◌-◌, ◌<◌, ◌^�
 ghost use Rattle.record_pool.specs.Places.{IsHeld, holders_at};
 ghost use Rattle.connectors.specs.WireState.{WireState, IsHeldIn, at_hand, taken, settled, cleared, offered, given_in};
 ghost use Rattle.core_machine.specs.Pure.{through};
-ghost use Rattle.core_machine.specs.Moves.{changed, offer_on, out_shut, in_shut, all_changed};
+ghost use Rattle.core_machine.specs.Moves.{offers, changed, offer_on, out_shut, in_shut, all_changed};
 
 use connectors::Wire;
 use record_pool::{Grip, Pool};
@@ -48,6 +48,22 @@ pub(crate) fn withdraw_at(wires: &mut Vec<Wire>, pool: &mut Pool, door: Option<u
         if let Some(wire) = wires.get_mut(j as usize) {
             wire.withdraw(pool);
         }
+    }
+}
+
+// A record is offered behind a door, which leads to a wire.
+pub(crate) fn offer_at(wires: &mut Vec<Wire>, grip: Grip, door: Option<u32>)
+    requires leads { IsSome (through wires.old.items door) }
+    requires free { (wire : WireState) → through wires.old.items door ≡ Some wire → wire.offer ≡ None }
+    requires open { (wire : WireState) → through wires.old.items door ≡ Some wire → wire.out_closed ≡ false }
+    ensures { wires.new.items ≡ changed wires.old.items (offers grip) door }
+{
+    match door {
+        None => unreachable!(),
+        Some(j) => match wires.get_mut(j as usize) {
+            None => unreachable!(),
+            Some(wire) => wire.offer(grip),
+        },
     }
 }
 
