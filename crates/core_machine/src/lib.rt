@@ -11,6 +11,6 @@ mod seat;
 mod tests;
 
 pub use desk::{Desk, Doors};
-pub use laws::tells_the_licence;
+pub use laws::{tells_the_licence, wants_early_levels};
 pub use ready::Ready;
 pub use seat::{Ask, Level, Seat};

@@ -1,6 +1,6 @@
 ghost use Rattle.std.specs.Prelude.{◌≡◌, ◌∷◌, [], MatchResult};
 
-use crate::{Ask, Desk, Doors, Level, Ready, Seat, tells_the_licence};
+use crate::{Ask, Desk, Doors, Level, Ready, Seat, tells_the_licence, wants_early_levels};
 use connectors::Wire;
 use pipe_model::{NoMemory, Seen};
 use record_pool::Pool;
@@ -133,5 +133,6 @@ fn strands_go_on_alone(rt: HostRuntime) -> Result<(), Fail> {
 #[test]
 fn laws_can_be_called(_rt: HostRuntime) -> Result<(), Fail> {
     tells_the_licence();
+    wants_early_levels();
     Ok(())
 }
