@@ -8,9 +8,11 @@ mod laws;
 mod ready;
 mod seat;
 mod sights;
+#[cfg(test)]
+mod tests;
 mod wires;
 
 pub use desk::{Desk, Doors};
-pub use laws::tells_the_licence;
+pub use laws::{tells_the_licence, wants_early_levels};
 pub use ready::Ready;
 pub use seat::{Ask, Seat};
