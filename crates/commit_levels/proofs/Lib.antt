@@ -1,3 +1,3 @@
 mod Calls
 mod Tallies
-mod Agreement
+pub mod Agreement

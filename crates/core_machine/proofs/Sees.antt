@@ -1,56 +1,28 @@
 -- A desk tells what the licence's event does.
-use Rattle.std.proofs.Common.{◌≡◌, ◌⊎◌, inl, inr, ℕ, zero, suc, ◌≤◌, Bool, true, false, cond, ◌&&◌, ◌||◌, not, ◌==◌, List, [], ◌∷◌, length, refl, sym, ◌∙◌, ap, subst, arith, Option, Some, None, is_some, slice_get, ℤ, pos, negsuc, nat_lt}
+use Rattle.std.proofs.Common.{◌≡◌, ℕ, zero, suc, Bool, true, false, cond, ◌&&◌, ◌||◌, not, ◌==◌, List, [], ◌∷◌, length, refl, sym, ◌∙◌, ap, subst, arith, Option, Some, None, is_some, slice_get, ℤ, nat_lt}
 use Rattle.std.specs.Option.{option_map}
 use Rattle.std.specs.List.{list_all}
-use Rattle.std.proofs.lemmas.Bool.Decides.{nat_tests}
+use Rattle.std.proofs.lemmas.Grind.{common_steps}
 use Rattle.pipe_model.specs.declared.net.Net.{Net}
 use Rattle.pipe_model.specs.declared.net.Link.{Link}
 use Rattle.pipe_model.specs.declared.step.Seen.{Seen}
 use Rattle.pipe_model.specs.declared.step.Seen.TheVariants as Told
-use Rattle.pipe_model.specs.Event.{Event, Want, one_more, has_seen, records_on}
+use Rattle.pipe_model.specs.Event.{Event, Want, has_seen, records_on}
 use Rattle.pipe_model.specs.Event.Event.{Took, Severed, Ended}
 use Rattle.pipe_model.specs.Event.Want.{Commit, Read, Any, Gate, Take, Write, Prime, Issue, Join, Sever, Done}
-use Rattle.pipe_model.specs.State.{Who, State, past, same, below, link_in, link_out}
-use Rattle.pipe_model.specs.Licence.{Left, want_after, want_at, puts, tooks, is_level, out_closed, in_closed, offered, at_hand, is_over, all_over, may_put, may_refuse, stands_at, level_of, first_part, primed_by, up_answer, read_answer, any_answer, write_answer, primed_answer, answer, sight_of, licence}
+use Rattle.pipe_model.specs.State.{Who, State, past, same, link_in, link_out}
+use Rattle.pipe_model.specs.Licence.{Left, want_after, want_at, puts, tooks, is_level, out_closed, in_closed, offered, at_hand, is_over, all_over, may_put, may_refuse, level_of, first_part, primed_by, up_answer, read_answer, any_answer, write_answer, primed_answer, answer, sight_of, licence}
 use Rattle.pipe_model.specs.WellFormed.{IsWellFormed}
 use Rattle.confluence_laws.proofs.Basics.{both, same_number, test_same, found_at, finds, all_at}
+use Rattle.commit_levels.specs.UnitState.{IsLevel}
+use Rattle.commit_levels.specs.UnitState as levels
+use Rattle.commit_levels.proofs.Agreement.{answers_as}
 use Rattle.connectors.specs.WireState.{WireState}
 use Rattle.core_machine.specs.declared.seat.Seat.{Seat}
-use Rattle.core_machine.specs.declared.seat.Level.{Level}
 use Rattle.core_machine.specs.Desk.{DeskState}
 use Rattle.core_machine.specs.Pure as Pure
 use Rattle.core_machine.specs.Told.{told}
-use Rattle.core_machine.specs.Kept.{asked, IsWire, tally, IsLevel, link_through, IsKept}
-
--- Counts
-
-tally_most : {A : Type 0} (p : A → Bool) (xs : List A) → tally p xs ≤ length xs
-tally_most p [] = omega arith
-tally_most p (x ∷ xs) = go (p x) (tally_most p xs)
-  where
-    go : (b : Bool) → tally p xs ≤ length xs → one_more b (tally p xs) ≤ suc (length xs)
-    go true m = omega arith
-    go false m = omega arith
-
-suc_test : (a b : ℕ) → (suc a == suc b) ≡ (a == b)
-suc_test a b = go (a == b) refl
-  where
-    go : (q : Bool) → (a == b) ≡ q → (suc a == suc b) ≡ q
-    go true e = grind (arith, nat_tests)
-    go false e = grind (arith, nat_tests)
-
--- all of a list pass where as many pass as there are
-tally_all : {A : Type 0} (p : A → Bool) (xs : List A) → (tally p xs == length xs) ≡ list_all p xs
-tally_all p [] = refl
-tally_all p (x ∷ xs) = go (p x) (tally_all p xs) (tally_most p xs)
-  where
-    go : (b : Bool) → (tally p xs == length xs) ≡ list_all p xs → tally p xs ≤ length xs → (one_more b (tally p xs) == suc (length xs)) ≡ (b && list_all p xs)
-    go true e m = suc_test (tally p xs) (length xs) ∙ e
-    go false e m = grind (arith, nat_tests)
-
-below_length : (n : ℕ) → length (below n) ≡ n
-below_length zero = refl
-below_length (suc n) = ap suc (below_length n)
+use Rattle.core_machine.specs.Kept.{asked, IsWire, link_through, IsKept}
 
 -- Lists
 
@@ -81,6 +53,10 @@ same_bool false false f g = refl
 joined_some : (x : Option (Option ℕ)) (j : ℕ) → Pure.joined x ≡ Some j → x ≡ Some (Some j)
 joined_some None j e = cc
 joined_some (Some y) j e = ap Some e
+
+-- the test of a level holds of a level
+level_test : (l : ℤ) → IsLevel l → Pure.is_level l ≡ true
+level_test l is = grind (arith, common_steps, is.0, is.1)
 
 -- The answers
 
@@ -191,17 +167,8 @@ module _ (net : Net) (texts : ℕ → List ℕ) (st : State) (left : Left) (d : 
 
   -- Commit levels and DAM
 
-  level_is : (s : Who) (code : ℤ) (v : Level) → IsLevel net st left code v → Pure.level_answer (length d.seats) v ≡ level_of net st left s code
-  level_is s code v is =
-      let all = below (length net.strands) in
-      ap (λ z. cond (v.standing == z) (Some v.worst) None) (kept.laid.seat_count ∙ sym (below_length (length net.strands)))
-      ∙ ap (λ z. cond (z == length all) (Some v.worst) None) is.standing
-      ∙ ap (λ z. cond z (Some v.worst) None) (tally_all (stands_at net st left code) all)
-      ∙ ap (λ z. cond (list_all (stands_at net st left code) all) (Some z) None) is.worst
-
-  code_is : (s : Who) (l : ℤ) → (l ≡ negsuc 0) ⊎ (l ≡ pos 0) → Pure.level_code d l ≡ level_of net st left s l
-  code_is s l (inl e) = subst (λ z. Pure.level_code d z ≡ level_of net st left s z) (sym e) (level_is s (negsuc 0) d.low kept.low)
-  code_is s l (inr e) = subst (λ z. Pure.level_code d z ≡ level_of net st left s z) (sym e) (level_is s (pos 0) d.zero kept.zero)
+  code_is : (s : Who) (l : ℤ) → IsLevel l → Pure.level_code d l ≡ level_of net st left s l
+  code_is s l is = ap (λ b. cond b (levels.answer d.unit l) None) (level_test l is) ∙ answers_as net st left s d.unit l is kept.unit
 
   primed_is : (s : Who) → Pure.primed_at d s ≡ primed_by (past st (first_part net st s))
   primed_is s = ap (λ z. Pure.primed_of (slice_get d.seats z)) (kept.laid.firsts s) ∙ go (first_part net st s) (slice_get d.seats (first_part net st s)) refl
@@ -271,7 +238,7 @@ module _ (net : Net) (texts : ℕ → List ℕ) (st : State) (left : Left) (d : 
 
   -- What the want's answer tells
 
-  by_want : (s : Who) (k : ℕ) (w : Option Want) → ((l : ℤ) → w ≡ Some (Commit l) → (l ≡ negsuc 0) ⊎ (l ≡ pos 0)) →
+  by_want : (s : Who) (k : ℕ) (w : Option Want) → ((l : ℤ) → w ≡ Some (Commit l) → IsLevel l) →
       Pure.seen_by d s k (asked w) ≡ option_map told (answer (sight_of net st left s) k w)
   by_want s k None levels = refl
   by_want s k (Some (Commit l)) levels = told_if (k == 0) (Pure.up_seen l (Pure.level_code d l)) (up_answer l (level_of net st left s l)) (ap (Pure.up_seen l) (code_is s l (levels l refl)) ∙ told_up l (level_of net st left s l))

@@ -2,7 +2,7 @@
 use Rattle.std.specs.Prelude.{ℕ, List, Option}
 use Rattle.connectors.specs.WireState.{WireState}
 use Rattle.core_machine.specs.declared.seat.Seat.{Seat}
-use Rattle.core_machine.specs.declared.seat.Level.{Level}
+use Rattle.commit_levels.specs.UnitState.{Member}
 
 -- the number of the link at each input and output of a strand, and the first strand of its stage
 pub record DoorsState : Type 0 where
@@ -10,10 +10,10 @@ pub record DoorsState : Type 0 where
   pub outputs : List (Option ℕ)
   pub first : ℕ
 
--- seats and doors by strand, wires by link, and the commit levels -1 and 0
+-- seats, doors and the members of the unit by strand, wires by link, and by link too the place of the record that its consumer saw last
 pub record DeskState : Type 0 where
   pub seats : List Seat
   pub wires : List WireState
+  pub sights : List (Option ℕ)
   pub doors : List DoorsState
-  pub low : Level
-  pub zero : Level
+  pub unit : List Member

@@ -1,17 +1,18 @@
 -- For which net, state and strands left out a desk stands.
-use Rattle.std.specs.Prelude.{◌≡◌, ◌⊎◌, ℕ, Bool, false, List, [], ◌∷◌, ℤ, pos, negsuc, slice_get, length, Option, Some, None}
-use Rattle.std.specs.Option.{option_map}
+use Rattle.std.specs.Prelude.{◌≡◌, ℕ, false, List, [], ℤ, slice_get, length, Option, Some, None}
+use Rattle.std.specs.Option.{option_map, option_map_or}
 use Rattle.pipe_model.specs.declared.net.Net.{Net}
 use Rattle.pipe_model.specs.declared.net.Link.{Link}
-use Rattle.pipe_model.specs.Event.{Want, has_ended, has_seen, one_more}
+use Rattle.pipe_model.specs.Event.{Want, has_ended, has_seen, last_seen_on}
 use Rattle.pipe_model.specs.Event.Want.{Commit, Read, Any, Gate, Take, Write, Prime, Issue, Join, Sever, Done}
 use Rattle.pipe_model.specs.State.{Who, State, past, below, link_in, link_out}
-use Rattle.pipe_model.specs.Licence.{Left, want_at, puts, tooks, out_closed, in_closed, offered, stands_at, worst_early, first_part}
+use Rattle.pipe_model.specs.Licence.{Left, want_at, puts, tooks, out_closed, in_closed, offered, first_part}
+use Rattle.commit_levels.specs.UnitState.{IsLevel}
+use Rattle.commit_levels.specs.Licensed.{AreStrands}
 use Rattle.connectors.specs.WireState.{WireState}
 use Rattle.core_machine.specs.declared.seat.Ask.{Ask}
 use Rattle.core_machine.specs.declared.seat.Ask.TheVariants as Now
 use Rattle.core_machine.specs.declared.seat.Seat.{Seat}
-use Rattle.core_machine.specs.declared.seat.Level.{Level}
 use Rattle.core_machine.specs.Desk.{DeskState}
 use Rattle.core_machine.specs.Pure.{in_door, out_door, first_of}
 
@@ -44,15 +45,9 @@ pub record IsWire (net : Net) (texts : ℕ → List ℕ) (st : State) (left : Le
   pub out_closed : wire.out_closed ≡ out_closed st link
   pub in_closed : wire.in_closed ≡ in_closed st link
 
--- how many of a list pass a test
-abbrev pub tally : {A : Type 0} → (A → Bool) → List A → ℕ
-tally p [] = 0
-tally p (x ∷ xs) = one_more (p x) (tally p xs)
-
--- the counts of a commit level: how many strands stand there, and the worst code of those that ended before it
-pub record IsLevel (net : Net) (st : State) (left : Left) (code : ℤ) (level : Level) : Type 0 where
-  pub standing : level.standing ≡ tally (stands_at net st left code) (below (length net.strands))
-  pub worst : level.worst ≡ worst_early st code (below (length net.strands))
+-- the sight holds the record that the link's consumer saw last, until that strand ends
+abbrev pub IsSight : (ℕ → List ℕ) → State → Link → Option ℕ → Type 0
+IsSight texts st link sight = has_ended (past st link.to) ≡ false → option_map_or texts sight [] ≡ last_seen_on link.input (past st link.to)
 
 -- the link of a number
 abbrev pub link_through : List Link → Option ℕ → Option Link
@@ -63,6 +58,7 @@ link_through links (Some j) = slice_get links j
 pub record IsLaid (net : Net) (st : State) (d : DeskState) : Type 0 where
   pub seat_count : length d.seats ≡ length net.strands
   pub wire_count : length d.wires ≡ length net.links
+  pub sight_count : length d.sights ≡ length net.links
   pub in_doors : (s : Who) (i : ℕ) → link_in net st s i ≡ link_through net.links (in_door d s i)
   pub out_doors : (s : Who) (o : ℕ) → link_out net st s o ≡ link_through net.links (out_door d s o)
   pub firsts : (s : Who) → first_of s (slice_get d.doors s) ≡ first_part net st s
@@ -75,7 +71,9 @@ pub record IsKept (net : Net) (texts : ℕ → List ℕ) (st : State) (left : Le
   -- who has no seat has no history
   pub nobody : (s : Who) → slice_get d.seats s ≡ None → past st s ≡ []
   pub wires : (j : ℕ) (link : Link) (wire : WireState) → slice_get net.links j ≡ Some link → slice_get d.wires j ≡ Some wire → IsWire net texts st left link wire
-  pub low : IsLevel net st left (negsuc 0) d.low
-  pub zero : IsLevel net st left (pos 0) d.zero
-  -- a strand wants no other commit level
-  pub early : (s : Who) (level : ℤ) → want_at net st left s ≡ Some (Commit level) → (level ≡ negsuc 0) ⊎ (level ≡ pos 0)
+  pub sights : (j : ℕ) (link : Link) (sight : Option ℕ) → slice_get net.links j ≡ Some link → slice_get d.sights j ≡ Some sight → IsSight texts st link sight
+  -- nothing was seen where there is no link
+  pub unseen : (s : Who) (i : ℕ) → link_in net st s i ≡ None → last_seen_on i (past st s) ≡ []
+  pub unit : AreStrands net st left (below (length net.strands)) d.unit
+  -- a strand wants a commit level only where it is one
+  pub early : (s : Who) (level : ℤ) → want_at net st left s ≡ Some (Commit level) → IsLevel level

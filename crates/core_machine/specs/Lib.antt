@@ -1,5 +1,6 @@
 pub mod Desk
 pub mod Kept
 pub mod Members
+pub mod Moves
 pub mod Pure
 pub mod Told

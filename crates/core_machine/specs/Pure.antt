@@ -1,14 +1,13 @@
 -- What a strand would be told, read off the plain data of a desk.
-use Rattle.std.specs.Prelude.{◌≡◌, ◌<◌, ℕ, Bool, true, false, ◌&&◌, ◌==◌, nat_lt, if◌then◌else◌, List, [], ℤ, pos, negsuc, slice_get, length, Option, Some, None, is_some}
+use Rattle.std.specs.Prelude.{◌≡◌, ◌<◌, ℕ, Bool, true, false, ◌&&◌, ◌==◌, nat_lt, int_le, if◌then◌else◌, List, [], ℤ, pos, negsuc, slice_get, Option, Some, None, is_some}
 use Rattle.std.specs.List.{list_all}
-use Rattle.std.specs.Ordering.{int_eq}
 use Rattle.pipe_model.specs.declared.step.Seen.{Seen}
 use Rattle.pipe_model.specs.declared.step.Seen.TheVariants.{Up, Saw, SawEnd, SawAllEnd, Took, Put, Refused, Cut, Primed, Ended}
+use Rattle.commit_levels.specs.UnitState.{answer}
 use Rattle.connectors.specs.WireState.{WireState, at_hand}
 use Rattle.core_machine.specs.declared.seat.Ask.{Ask}
 use Rattle.core_machine.specs.declared.seat.Ask.TheVariants as Now
 use Rattle.core_machine.specs.declared.seat.Seat.{Seat}
-use Rattle.core_machine.specs.declared.seat.Level.{Level}
 use Rattle.core_machine.specs.Desk.{DoorsState, DeskState}
 
 -- Doors
@@ -80,15 +79,13 @@ all_over d s = list_all (λ door. is_over (through d.wires door)) (inputs_of (sl
 
 -- Commit levels and DAM
 
--- the answer of a level, once all strands stand there
-abbrev pub level_answer : ℕ → Level → Option ℤ
-level_answer count level = if level.standing == count then Some level.worst else None
+-- the number is a commit level
+abbrev pub is_level : ℤ → Bool
+is_level level = int_le (negsuc 0) level && int_le level (pos 1000)
 
+-- the answer of a level, once all strands stand there
 abbrev pub level_code : DeskState → ℤ → Option ℤ
-level_code d level =
-    if int_eq level (negsuc 0) then level_answer (length d.seats) d.low
-    else if int_eq level (pos 0) then level_answer (length d.seats) d.zero
-    else None
+level_code d level = if is_level level then answer d.unit level else None
 
 -- yes where the strand has seen a record, no where it ended without one
 abbrev pub primed_of : Option Seat → Option Bool

@@ -1,11 +1,19 @@
-ghost use Rattle.std.specs.Prelude.{◌≡◌, ◌<◌, ◌&&◌, ◌==◌, length, slice_get, true};
+ghost use Rattle.std.specs.Prelude.{◌≡◌, ◌<◌, ◌&&◌, ◌==◌, length, slice_get, true, Some, ℕ, IfOk, OnErr};
 ghost use Rattle.std.specs.List.{list_all};
 ghost use Rattle.core_machine.specs.Desk.{DoorsState, DeskState};
+ghost use Rattle.core_machine.specs.declared.seat.Ask.TheVariants as Now;
+ghost use Rattle.core_machine.specs.Moves.{seat_after, changed, moved, made, pool_moved, CanMove, closed, ended, CanForget, pool_without, asking, home, home_writing, unit_home, CanAsk, CanHold, IsHold, CanCome, HasCome};
+ghost use Rattle.commit_levels.specs.UnitState.{IsLive};
+ghost use Rattle.core_machine.specs.declared.seat.Seat.{Seat as SeatIs};
 ghost use Rattle.core_machine.specs.Pure as Pure;
 
-use crate::seat::{Ask, Level, Seat};
+use crate::seat::{Ask, Seat};
+use crate::sights::{forget, hold_of, see_at};
+use crate::wires::{close_ins, close_outs, offer_at, settle_at, take_at, withdraw_at};
+use commit_levels::Unit;
 use connectors::Wire;
-use pipe_model::Seen;
+use pipe_model::{NoMemory, Out, Seen, Want};
+use record_pool::{Grip, Pool};
 use std::marker::Model;
 
 /// The numbers of the links at a strand's inputs and outputs, and the first strand of its stage.
@@ -72,14 +80,14 @@ impl Doors {
     }
 }
 
-/// What is kept of a run, and all that a licence rests on: the seats and doors of the strands, the wires of the links,
-/// and the commit levels -1 and 0.
+/// What is kept of a run, and all that a licence rests on: the seats and doors of the strands, the wires of the links
+/// with what their consumers saw last, and how far each strand is at each commit level.
 pub struct Desk {
     seats: Vec<Seat>,
     wires: Vec<Wire>,
+    sights: Vec<Option<Grip>>,
     doors: Vec<Doors>,
-    low: Level,
-    zero: Level,
+    unit: Unit,
 }
 
 impl Model for Desk {
@@ -90,44 +98,183 @@ impl Model for Desk {
     ghost view = { λ desk. record {
       seats = desk.seats.items;
       wires = desk.wires.items;
+      sights = desk.sights.items;
       doors = desk.doors.items;
-      low = desk.low;
-      zero = desk.zero;
+      unit = desk.unit;
     } };
 }
 
 impl Desk {
-    /// A desk of these lists, which takes no memory: seats and doors by strand, wires by link.
+    /// A desk of these lists, which takes no memory: seats, doors and members by strand, wires and sights by link.
     pub fn new(
         seats: Vec<Seat>,
         wires: Vec<Wire>,
+        sights: Vec<Option<Grip>>,
         doors: Vec<Doors>,
-        low: Level,
-        zero: Level,
+        unit: Unit,
     ) -> Desk
-        ensures { result ≡ record { seats = seats.items; wires = wires.items; doors = doors.items; low = low; zero = zero } }
+        ensures { result ≡ record { seats = seats.items; wires = wires.items; sights = sights.items; doors = doors.items; unit = unit } }
     {
         Desk {
             seats,
             wires,
+            sights,
             doors,
-            low,
-            zero,
+            unit,
         }
     }
 
-    /// Ends the desk at the end of a run. The wires are the caller's to drain.
-    pub fn into_wires(self) -> Vec<Wire>
-        ensures { result.items ≡ self.wires }
+    /// Ends the desk at the end of a run. The wires are the caller's to drain, and the sights to give back.
+    pub fn into_holders(self) -> (Vec<Wire>, Vec<Option<Grip>>)
+        ensures wires { result.0.items ≡ self.wires }
+        ensures sights { result.1.items ≡ self.sights }
     {
         let Desk {
             seats: _,
             wires,
+            sights,
             doors: _,
-            low: _,
-            zero: _,
+            unit: _,
         } = self;
-        wires
+        (wires, sights)
+    }
+
+    /// What a turn does where a strand is told this: the strand is out then, and asks for nothing. It takes no memory.
+    pub fn make(&mut self, pool: &mut Pool, strand: u32, seen: Seen)
+        requires { CanMove self.old pool.old strand seen }
+        ensures desk { self.new ≡ made self.old strand seen }
+        ensures pool { pool.new ≡ pool_moved self.old pool.old strand seen }
+    {
+        self.move_on(pool, strand, seen);
+        change_seat(&mut self.seats, strand, seen);
+    }
+
+    // The same, but for the seat.
+    fn move_on(&mut self, pool: &mut Pool, strand: u32, seen: Seen)
+        requires { CanMove self.old pool.old strand seen }
+        ensures desk { self.new ≡ moved self.old strand seen }
+        ensures pool { pool.new ≡ pool_moved self.old pool.old strand seen }
+    {
+        match seen {
+            Seen::Up(level, _) => self.unit.reach(strand, level),
+            Seen::Saw(i) => {
+                let door = self.in_door(strand, i);
+                see_at(&self.wires, &mut self.sights, pool, door);
+            }
+            Seen::Took(i) => {
+                let door = self.in_door(strand, i);
+                take_at(&mut self.wires, pool, door);
+            }
+            Seen::Put(o) => {
+                let door = self.out_door(strand, o);
+                settle_at(&mut self.wires, pool, door);
+            }
+            Seen::Refused(o) => {
+                let door = self.out_door(strand, o);
+                withdraw_at(&mut self.wires, pool, door);
+            }
+            Seen::Ended(code) => self.end(pool, strand, code),
+            _ => {}
+        }
+    }
+
+    /// A strand comes home with what it wants next. Where it writes, it offers the record that it saw last on an
+    /// input, which is empty where it saw none, or new bytes. Out of memory leaves all as it was.
+    pub fn come_home(&mut self, pool: &mut Pool, strand: u32, want: Want) -> Result<(), NoMemory>
+        requires { CanCome self.old pool.old strand want }
+        ensures home { IfOk result (λ done. HasCome self.old pool.old strand want self.new pool.new) }
+        ensures err { OnErr result (self.new ≡ self.old) }
+        ensures err_pool { OnErr result (pool.new ≡ pool.old) }
+    {
+        match want {
+            Want::Write(o, out) => return self.write(pool, strand, o, out),
+            Want::Commit(level) => self.ask(strand, Ask::Commit(level)),
+            Want::Read(i) => self.ask(strand, Ask::Read(i)),
+            Want::Any => self.ask(strand, Ask::Any),
+            Want::Gate => self.ask(strand, Ask::Gate),
+            Want::Take(i) => self.ask(strand, Ask::Take(i)),
+            Want::Primed => self.ask(strand, Ask::Primed),
+            Want::Issue(_) => self.ask(strand, Ask::Issue),
+            Want::Join(unit) => self.ask(strand, Ask::Join(unit)),
+            Want::Cut(i) => self.ask(strand, Ask::Cut(i)),
+            Want::Done(code) => self.ask(strand, Ask::Done(code)),
+        }
+        Ok(())
+    }
+
+    // A strand that writes nothing.
+    fn ask(&mut self, strand: u32, ask: Ask)
+        requires { CanAsk self.old strand ask }
+        ensures { self.new ≡ home self.old strand ask }
+    {
+        self.ask_unit(strand, ask);
+        ask_seat(&mut self.seats, strand, ask);
+    }
+
+    // One that writes a record on an output.
+    fn write(&mut self, pool: &mut Pool, strand: u32, o: u16, out: Out) -> Result<(), NoMemory>
+        requires ask { CanAsk self.old strand (Now.Write o) }
+        requires hold { CanHold self.old pool.old strand out }
+        ensures ok { IfOk result (λ done. (grip : ℕ) × IsHold self.old pool.old strand out grip pool.new × (self.new ≡ home_writing self.old strand o grip)) }
+        ensures err { OnErr result (self.new ≡ self.old) }
+        ensures err_pool { OnErr result (pool.new ≡ pool.old) }
+    {
+        let grip = self.hold(pool, strand, out)?;
+        self.offer(strand, o, grip);
+        Ok(())
+    }
+
+    fn hold(&self, pool: &mut Pool, strand: u32, out: Out) -> Result<Grip, NoMemory>
+        requires { CanHold self.now pool.old strand out }
+        ensures hold { IfOk result (λ grip. IsHold self.now pool.old strand out grip pool.new) }
+        ensures err { OnErr result (pool.new ≡ pool.old) }
+    {
+        match out {
+            Out::Same(i) => hold_of(&self.sights, pool, self.in_door(strand, i)),
+            Out::Fresh(rec) => pool.put(rec.bytes()),
+        }
+    }
+
+    fn offer(&mut self, strand: u32, o: u16, grip: Grip)
+        requires { CanAsk self.old strand (Now.Write o) }
+        ensures { self.new ≡ home_writing self.old strand o grip }
+    {
+        let door = self.out_door(strand, o);
+        offer_at(&mut self.wires, grip, door);
+        ask_seat(&mut self.seats, strand, Ask::Write(o));
+    }
+
+    fn ask_unit(&mut self, strand: u32, ask: Ask)
+        requires { CanAsk self.old strand ask }
+        ensures { self.new ≡ record self.old { unit = unit_home self.old.unit strand ask } }
+    {
+        if let Ask::Commit(level) = ask {
+            self.unit.ask(strand, level);
+        }
+    }
+
+    fn end(&mut self, pool: &mut Pool, strand: u32, code: i32)
+        requires member { strand < length self.old.unit }
+        requires live { IsLive self.old.unit strand }
+        requires sights { CanForget (Pure.inputs_of (slice_get self.old.doors strand)) self.old.sights pool.old }
+        ensures desk { self.new ≡ ended self.old strand code }
+        ensures pool { pool.new ≡ pool_without (Pure.inputs_of (slice_get self.old.doors strand)) self.old.sights pool.old }
+    {
+        self.close(pool, strand);
+        self.unit.ended(strand, code);
+    }
+
+    // The ends of the wires that the strand holds are closed, and what it saw is given back.
+    fn close(&mut self, pool: &mut Pool, strand: u32)
+        requires { CanForget (Pure.inputs_of (slice_get self.old.doors strand)) self.old.sights pool.old }
+        ensures desk { self.new ≡ closed self.old strand }
+        ensures pool { pool.new ≡ pool_without (Pure.inputs_of (slice_get self.old.doors strand)) self.old.sights pool.old }
+    {
+        if let Some(doors) = self.doors.get(strand as usize) {
+            close_outs(&mut self.wires, &doors.outputs);
+            close_ins(&mut self.wires, &doors.inputs);
+            forget(&mut self.sights, pool, &doors.inputs);
+        }
     }
 
     /// What a strand would be told on a stream, and None where it may not go on there. The cost is constant, but for a
@@ -342,11 +489,37 @@ impl Desk {
     fn level_code(&self, level: i32) -> Option<i32>
         ensures { result ≡ Pure.level_code self.now level }
     {
-        match level {
-            -1 => level_answer(self.seats.len(), self.low),
-            0 => level_answer(self.seats.len(), self.zero),
-            _ => None,
+        if -1 <= level && level <= 1_000 {
+            self.unit.answer(level)
+        } else {
+            None
         }
+    }
+}
+
+fn ask_seat(seats: &mut Vec<Seat>, strand: u32, ask: Ask)
+    ensures { seats.new.items ≡ changed seats.old.items (asking ask) (Some strand) }
+{
+    if let Some(seat) = seats.get_mut(strand as usize) {
+        seat.ask = ask;
+    }
+}
+
+fn change_seat(seats: &mut Vec<Seat>, strand: u32, seen: Seen)
+    ensures { seats.new.items ≡ changed seats.old.items (seat_after seen) (Some strand) }
+{
+    if let Some(seat) = seats.get_mut(strand as usize) {
+        *seat = seat_after(seen, *seat);
+    }
+}
+
+fn seat_after(seen: Seen, seat: Seat) -> Seat
+    ensures { result ≡ seat_after seen seat }
+{
+    Seat {
+        ask: Ask::Nothing,
+        has_ended: seat.has_ended || matches!(seen, Seen::Ended(_)),
+        has_seen: seat.has_seen || matches!(seen, Seen::Saw(_)),
     }
 }
 
@@ -395,16 +568,6 @@ fn can_refuse(wires: &[Wire], door: Option<u32>) -> bool
             None => false,
             Some(wire) => wire.in_closed() && wire.puts() == wire.tooks(),
         },
-    }
-}
-
-fn level_answer(strands: usize, level: Level) -> Option<i32>
-    ensures { result ≡ Pure.level_answer strands level }
-{
-    if level.standing as usize == strands {
-        Some(level.worst)
-    } else {
-        None
     }
 }
 

@@ -7,10 +7,12 @@ mod desk;
 mod laws;
 mod ready;
 mod seat;
+mod sights;
 #[cfg(test)]
 mod tests;
+mod wires;
 
 pub use desk::{Desk, Doors};
-pub use laws::tells_the_licence;
+pub use laws::{tells_the_licence, wants_early_levels};
 pub use ready::Ready;
-pub use seat::{Ask, Level, Seat};
+pub use seat::{Ask, Seat};

@@ -35,10 +35,3 @@ pub struct Seat {
     /// Whether it has seen a record.
     pub has_seen: bool,
 }
-
-/// How many strands stand at a commit level, and the worst code of those that ended before it.
-#[derive(Clone, Copy, Debug, PartialEq, Eq)]
-pub struct Level {
-    pub standing: u32,
-    pub worst: i32,
-}

@@ -1,8 +1,9 @@
 ghost use Rattle.std.specs.Prelude.{◌≡◌, ◌∷◌, [], MatchResult};
 
-use crate::{Ask, Desk, Doors, Level, Ready, Seat, tells_the_licence};
+use crate::{Ask, Desk, Doors, Ready, Seat, tells_the_licence, wants_early_levels};
+use commit_levels::Unit;
 use connectors::Wire;
-use pipe_model::{NoMemory, Seen};
+use pipe_model::{NoMemory, Seen, Want};
 use record_pool::Pool;
 use std::alloc::Global;
 use std::test::Fail;
@@ -13,10 +14,6 @@ const fn seat(ask: Ask) -> Seat {
         has_ended: false,
         has_seen: false,
     }
-}
-
-const fn level(standing: u32) -> Level {
-    Level { standing, worst: 0 }
 }
 
 #[test]
@@ -47,6 +44,7 @@ fn doors(alloc: Global, input: Option<u32>, output: Option<u32>) -> Result<Doors
 fn told_over(alloc: Global, is_taken: bool) -> Result<[Option<Seen>; 2], NoMemory> {
     let seats = vec![in alloc; seat(Ask::Write(0)), seat(Ask::Any)]?;
     let doors = vec![in alloc; doors(alloc, None, Some(0))?, doors(alloc, Some(0), None)?]?;
+    let unit = Unit::new(alloc, 0)?;
     let mut pool = Pool::new(alloc);
     let grip = pool.put(b"one")?;
     let mut wire = Wire::new(false);
@@ -61,9 +59,10 @@ fn told_over(alloc: Global, is_taken: bool) -> Result<[Option<Seen>; 2], NoMemor
             return Err(NoMemory);
         }
     };
-    let desk = Desk::new(seats, wires, doors, level(2), level(2));
+    let desk = Desk::new(seats, wires, Vec::new(alloc), doors, unit);
     let told = [desk.seen_at(0, 0), desk.seen_at(1, 0)];
-    let mut wires = desk.into_wires();
+    let (mut wires, sights) = desk.into_holders();
+    sights.destroy_empty();
     if let Some(wire) = wires.pop() {
         wire.drain(&mut pool);
     }
@@ -91,19 +90,27 @@ fn a_record_goes_over(rt: HostRuntime) -> Result<(), Fail> {
     Ok(())
 }
 
-// No strand stands at a level, and nothing is joined: only what needs neither can go on.
+// Nobody is waited for at a level, and nothing is joined: only what is no level and what waits for a record can't go
+// on.
 #[test]
 fn strands_go_on_alone(rt: HostRuntime) -> Result<(), Fail> {
     let alloc = rt.alloc();
     let seats = vec![in alloc;
         seat(Ask::Commit(-1)),
-        seat(Ask::Commit(0)),
+        seat(Ask::Commit(1_001)),
         seat(Ask::Read(0)),
         seat(Ask::Any),
         seat(Ask::Done(4)),
         seat(Ask::Nothing),
     ]?;
-    let desk = Desk::new(seats, Vec::new(alloc), Vec::new(alloc), level(6), level(5));
+    let unit = Unit::new(alloc, 0)?;
+    let desk = Desk::new(
+        seats,
+        Vec::new(alloc),
+        Vec::new(alloc),
+        Vec::new(alloc),
+        unit,
+    );
     assert_eq!(rt;
         [
             desk.seen_at(0, 0),
@@ -126,12 +133,45 @@ fn strands_go_on_alone(rt: HostRuntime) -> Result<(), Fail> {
         [desk.ready_stream(0), desk.ready_stream(1)],
         [Some(0), None]
     );
-    desk.into_wires().destroy_empty();
+    let (wires, sights) = desk.into_holders();
+    wires.destroy_empty();
+    sights.destroy_empty();
+    Ok(())
+}
+
+// What a strand with no input is told before it has seen its end, while it is out, and once it is home.
+#[test]
+fn a_strand_goes_out_and_comes_home(rt: HostRuntime) -> Result<(), Fail> {
+    let alloc = rt.alloc();
+    let seats = vec![in alloc; seat(Ask::Read(0))]?;
+    let unit = Unit::new(alloc, 1)?;
+    let mut pool = Pool::new(alloc);
+    let mut desk = Desk::new(
+        seats,
+        Vec::new(alloc),
+        Vec::new(alloc),
+        Vec::new(alloc),
+        unit,
+    );
+    let first = desk.seen_at(0, 0);
+    desk.make(&mut pool, 0, Seen::SawEnd(0));
+    let out = desk.seen_at(0, 0);
+    let came = desk.come_home(&mut pool, 0, Want::Done(4));
+    let home = desk.seen_at(0, 0);
+    let (wires, sights) = desk.into_holders();
+    wires.destroy_empty();
+    sights.destroy_empty();
+    came?;
+    assert_eq!(rt;
+        [first, out, home],
+        [Some(Seen::SawEnd(0)), None, Some(Seen::Ended(4))]
+    );
     Ok(())
 }
 
 #[test]
 fn laws_can_be_called(_rt: HostRuntime) -> Result<(), Fail> {
     tells_the_licence();
+    wants_early_levels();
     Ok(())
 }
