@@ -21,7 +21,7 @@ use Rattle.connectors.specs.WireState.{WireState}
 use Rattle.core_machine.specs.declared.seat.Seat.{Seat}
 use Rattle.core_machine.specs.Desk.{DeskState}
 use Rattle.core_machine.specs.Pure as Pure
-use Rattle.core_machine.specs.Told.{told}
+use Rattle.stage_steps.specs.Coroutine.{told}
 use Rattle.core_machine.specs.Kept.{asked, IsWire, link_through, IsKept}
 
 -- Lists

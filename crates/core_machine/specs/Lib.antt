@@ -3,4 +3,3 @@ pub mod Kept
 pub mod Members
 pub mod Moves
 pub mod Pure
-pub mod Told

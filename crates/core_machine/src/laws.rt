@@ -9,7 +9,7 @@ ghost use Rattle.pipe_model.specs.Licence.{Left, licence, want_at};
 ghost use Rattle.pipe_model.specs.WellFormed.{IsWellFormed};
 ghost use Rattle.core_machine.specs.Desk.{DeskState};
 ghost use Rattle.core_machine.specs.Kept.{IsKept};
-ghost use Rattle.core_machine.specs.Told.{told};
+ghost use Rattle.stage_steps.specs.Coroutine.{told};
 ghost use Rattle.core_machine.specs.Pure as Pure;
 
 /// A desk that stands for a state tells each strand, on each stream, what the event would that may happen there, and
