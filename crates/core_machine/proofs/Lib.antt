@@ -1,6 +1,2 @@
 pub mod BitSets
-pub mod Early
-pub mod Holds
-pub mod Sees
-pub mod Streams
 pub mod Summaries

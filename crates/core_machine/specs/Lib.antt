@@ -1,5 +1,1 @@
-pub mod Desk
-pub mod Kept
 pub mod Members
-pub mod Moves
-pub mod Pure

@@ -1,0 +1,4 @@
+pub mod Early
+pub mod Holds
+pub mod Sees
+pub mod Streams

@@ -1,0 +1,19 @@
+-- What a desk stands for: lists by strand and by link.
+use Rattle.std.specs.Prelude.{ℕ, List, Option}
+use Rattle.connectors.specs.WireState.{WireState}
+use Rattle.run_desk.specs.declared.seat.Seat.{Seat}
+use Rattle.commit_levels.specs.UnitState.{Member}
+
+-- the number of the link at each input and output of a strand, and the first strand of its stage
+pub record DoorsState : Type 0 where
+  pub inputs : List (Option ℕ)
+  pub outputs : List (Option ℕ)
+  pub first : ℕ
+
+-- seats, doors and the members of the unit by strand, wires by link, and by link too the place of the record that its consumer saw last
+pub record DeskState : Type 0 where
+  pub seats : List Seat
+  pub wires : List WireState
+  pub sights : List (Option ℕ)
+  pub doors : List DoorsState
+  pub unit : List Member

@@ -1,0 +1,79 @@
+-- For which net, state and strands left out a desk stands.
+use Rattle.std.specs.Prelude.{◌≡◌, ℕ, false, List, [], ℤ, slice_get, length, Option, Some, None}
+use Rattle.std.specs.Option.{option_map, option_map_or}
+use Rattle.pipe_model.specs.declared.net.Net.{Net}
+use Rattle.pipe_model.specs.declared.net.Link.{Link}
+use Rattle.pipe_model.specs.Event.{Want, has_ended, has_seen, last_seen_on}
+use Rattle.pipe_model.specs.Event.Want.{Commit, Read, Any, Gate, Take, Write, Prime, Issue, Join, Sever, Done}
+use Rattle.pipe_model.specs.State.{Who, State, past, below, link_in, link_out}
+use Rattle.pipe_model.specs.Licence.{Left, want_at, puts, tooks, out_closed, in_closed, offered, first_part}
+use Rattle.commit_levels.specs.UnitState.{IsLevel}
+use Rattle.commit_levels.specs.Licensed.{AreStrands}
+use Rattle.connectors.specs.WireState.{WireState}
+use Rattle.run_desk.specs.declared.seat.Ask.{Ask}
+use Rattle.run_desk.specs.declared.seat.Ask.TheVariants as Now
+use Rattle.run_desk.specs.declared.seat.Seat.{Seat}
+use Rattle.run_desk.specs.Desk.{DeskState}
+use Rattle.run_desk.specs.Pure.{in_door, out_door, first_of}
+
+-- a want without the record that it writes
+abbrev pub asked : Option Want → Ask
+asked None = Now.Nothing
+asked (Some (Commit level)) = Now.Commit level
+asked (Some (Read i)) = Now.Read i
+asked (Some Any) = Now.Any
+asked (Some Gate) = Now.Gate
+asked (Some (Take i)) = Now.Take i
+asked (Some (Write o rec)) = Now.Write o
+asked (Some Prime) = Now.Primed
+asked (Some (Issue text)) = Now.Issue
+asked (Some (Join unit)) = Now.Join unit
+asked (Some (Sever i)) = Now.Cut i
+asked (Some (Done code)) = Now.Done code
+
+-- the seat tells what its strand wants, and of its history
+pub record IsSeat (net : Net) (st : State) (left : Left) (s : Who) (seat : Seat) : Type 0 where
+  pub ask : seat.ask ≡ asked (want_at net st left s)
+  pub ended : seat.has_ended ≡ has_ended (past st s)
+  pub seen : seat.has_seen ≡ has_seen (past st s)
+
+-- the wire tells the counts of its link, the record that its producer wants to write, and which of its ends has ended; `texts` is what the grips hold
+pub record IsWire (net : Net) (texts : ℕ → List ℕ) (st : State) (left : Left) (link : Link) (wire : WireState) : Type 0 where
+  pub puts : wire.puts ≡ puts st link
+  pub tooks : wire.tooks ≡ tooks st link
+  pub offer : option_map texts wire.offer ≡ offered link.output (want_at net st left link.from)
+  pub out_closed : wire.out_closed ≡ out_closed st link
+  pub in_closed : wire.in_closed ≡ in_closed st link
+
+-- the sight holds the record that the link's consumer saw last, until that strand ends
+abbrev pub IsSight : (ℕ → List ℕ) → State → Link → Option ℕ → Type 0
+IsSight texts st link sight = has_ended (past st link.to) ≡ false → option_map_or texts sight [] ≡ last_seen_on link.input (past st link.to)
+
+-- the link of a number
+abbrev pub link_through : List Link → Option ℕ → Option Link
+link_through links None = None
+link_through links (Some j) = slice_get links j
+
+-- the tables of the net, which never change: a seat for each strand, a wire for each link, and doors that lead to the links; so far no link is a queue
+pub record IsLaid (net : Net) (st : State) (d : DeskState) : Type 0 where
+  pub seat_count : length d.seats ≡ length net.strands
+  pub wire_count : length d.wires ≡ length net.links
+  pub sight_count : length d.sights ≡ length net.links
+  pub in_doors : (s : Who) (i : ℕ) → link_in net st s i ≡ link_through net.links (in_door d s i)
+  pub out_doors : (s : Who) (o : ℕ) → link_out net st s o ≡ link_through net.links (out_door d s o)
+  pub firsts : (s : Who) → first_of s (slice_get d.doors s) ≡ first_part net st s
+  pub rendezvous : (j : ℕ) (link : Link) → slice_get net.links j ≡ Some link → link.queue ≡ false
+
+-- the desk stands for the state
+pub record IsKept (net : Net) (texts : ℕ → List ℕ) (st : State) (left : Left) (d : DeskState) : Type 0 where
+  pub laid : IsLaid net st d
+  pub seats : (s : Who) (seat : Seat) → slice_get d.seats s ≡ Some seat → IsSeat net st left s seat
+  -- who has no seat has no history
+  pub nobody : (s : Who) → slice_get d.seats s ≡ None → past st s ≡ []
+  pub wires : (j : ℕ) (link : Link) (wire : WireState) → slice_get net.links j ≡ Some link → slice_get d.wires j ≡ Some wire → IsWire net texts st left link wire
+  pub sights : (j : ℕ) (link : Link) (sight : Option ℕ) → slice_get net.links j ≡ Some link → slice_get d.sights j ≡ Some sight → IsSight texts st link sight
+  -- nothing was seen where there is no link
+  pub unseen : (s : Who) (i : ℕ) → link_in net st s i ≡ None → last_seen_on i (past st s) ≡ []
+  pub unit : AreStrands net st left (below (length net.strands)) d.unit
+  -- a strand wants a commit level only where it is one
+  pub early : (s : Who) (level : ℤ) → want_at net st left s ≡ Some (Commit level) → IsLevel level

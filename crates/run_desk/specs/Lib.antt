@@ -1,0 +1,4 @@
+pub mod Desk
+pub mod Kept
+pub mod Moves
+pub mod Pure

@@ -1,0 +1,240 @@
+-- What a turn does to a desk and its pool, and what a strand that comes home.
+use Rattle.std.specs.Prelude.{◌≡◌, ◌<◌, ◌+◌, ◌-◌, ◌^◌, ℕ, Bool, true, false, ◌||◌, List, [], ◌∷◌, length, ℤ, slice_get, slice_set, Option, Some, None, IsSome}
+use Rattle.pipe_model.specs.declared.step.Out.{Out}
+use Rattle.pipe_model.specs.declared.step.Out.TheVariants.{Same, Fresh}
+use Rattle.pipe_model.specs.declared.step.Seen.{Seen}
+use Rattle.pipe_model.specs.declared.step.Seen.TheVariants.{Up, Saw, Took, Put, Refused, Ended}
+use Rattle.pipe_model.specs.declared.step.Want.{Want}
+use Rattle.pipe_model.specs.declared.step.Want.TheVariants as want
+use Rattle.record_pool.specs.declared.pool.Held.{Held}
+use Rattle.record_pool.specs.Places.{IsHeld, holders_at, record_at, with_record, fresh, shared}
+use Rattle.connectors.specs.WireState.{WireState, at_hand, taken, settled, cleared, offered, IsHeldIn, given_in}
+use Rattle.commit_levels.specs.UnitState.{IsLevel, IsLive, IsAt, reached_by, ended_by, asked_by, Member}
+use Rattle.commit_levels.specs.declared.member.Progress.TheVariants.{NotAsked, Asked}
+use Rattle.run_desk.specs.declared.seat.Ask.{Ask}
+use Rattle.run_desk.specs.declared.seat.Ask.TheVariants.{Nothing, Commit, Read, Any, Gate, Take, Write, Primed, Issue, Join, Cut, Done}
+use Rattle.run_desk.specs.declared.seat.Seat.{Seat}
+use Rattle.run_desk.specs.Desk.{DeskState}
+use Rattle.run_desk.specs.Pure.{joined, inputs_of, outputs_of, in_door, out_door, through, wire_in, wire_out}
+
+-- Lists
+
+-- the list, where what was found at a place is changed
+abbrev pub placed : {A : Type 0} → List A → ℕ → (A → A) → Option A → List A
+placed xs k f None = xs
+placed xs k f (Some x) = slice_set xs k (f x)
+
+-- the list, where the item behind a door is changed
+abbrev pub changed : {A : Type 0} → List A → (A → A) → Option ℕ → List A
+changed xs f None = xs
+changed xs f (Some k) = placed xs k f (slice_get xs k)
+
+-- Wires
+
+-- the offer of a wire, if there is one
+abbrev pub offer_on : Option WireState → Option ℕ
+offer_on None = None
+offer_on (Some wire) = wire.offer
+
+-- the record at hand on a wire
+abbrev pub hand_on : Option WireState → Option ℕ
+hand_on None = None
+hand_on (Some wire) = at_hand wire
+
+-- the producer writes no more
+abbrev pub out_shut : WireState → WireState
+out_shut wire = record wire { out_closed = true }
+
+-- the consumer takes no more
+abbrev pub in_shut : WireState → WireState
+in_shut wire = record wire { in_closed = true }
+
+-- the wires, where those behind these doors are changed, one after the other
+abbrev pub all_changed : (WireState → WireState) → List (Option ℕ) → List WireState → List WireState
+all_changed f [] wires = wires
+all_changed f (door ∷ doors) wires = all_changed f doors (changed wires f door)
+
+-- Sights
+
+-- what a strand saw last through a door
+abbrev pub sight_through : List (Option ℕ) → Option ℕ → Option ℕ
+sight_through sights None = None
+sight_through sights (Some j) = joined (slice_get sights j)
+
+-- the sights after a look at this record
+abbrev pub sights_seen : List (Option ℕ) → Option ℕ → Option ℕ → List (Option ℕ)
+sights_seen sights door None = sights
+sights_seen sights door (Some grip) = changed sights (λ sight. Some grip) door
+
+-- the pool after a look at this record, which takes the place of the one seen before
+abbrev pub pool_seen : List (Option Held) → Option ℕ → Option ℕ → List (Option Held)
+pool_seen places before None = places
+pool_seen places before (Some grip) = given_in (shared places grip) before
+
+-- a sight that was given back
+abbrev pub unseen : Option ℕ → Option ℕ
+unseen sight = None
+
+-- the sights, and the pool, after those behind these doors were given back
+abbrev pub sights_without : List (Option ℕ) → List (Option ℕ) → List (Option ℕ)
+sights_without [] sights = sights
+sights_without (door ∷ doors) sights = sights_without doors (changed sights unseen door)
+
+abbrev pub pool_without : List (Option ℕ) → List (Option ℕ) → List (Option Held) → List (Option Held)
+pool_without [] sights places = places
+pool_without (door ∷ doors) sights places = pool_without doors (changed sights unseen door) (given_in places (sight_through sights door))
+
+-- and each of them is held when its turn comes
+abbrev pub CanForget : List (Option ℕ) → List (Option ℕ) → List (Option Held) → Type 0
+CanForget [] sights places = Unit {0}
+CanForget (door ∷ doors) sights places = IsHeldIn places (sight_through sights door) × CanForget doors (changed sights unseen door) (given_in places (sight_through sights door))
+
+-- Turns
+
+abbrev pub ends : Seen → Bool
+ends (Ended code) = true
+ends _ = false
+
+abbrev pub sees : Seen → Bool
+sees (Saw i) = true
+sees _ = false
+
+-- the seat of a strand that was told this
+abbrev pub seat_after : Seen → Seat → Seat
+seat_after seen seat = record { ask = Nothing; has_ended = seat.has_ended || ends seen; has_seen = seat.has_seen || sees seen }
+
+-- the desk after the strand's ends of its wires were closed, and its sights given back
+abbrev pub closed : DeskState → ℕ → DeskState
+closed d s = record d {
+  wires = all_changed in_shut (inputs_of (slice_get d.doors s)) (all_changed out_shut (outputs_of (slice_get d.doors s)) d.wires);
+  sights = sights_without (inputs_of (slice_get d.doors s)) d.sights;
+}
+
+-- and after the strand ended with this code
+abbrev pub ended : DeskState → ℕ → ℤ → DeskState
+ended d s code = record (closed d s) { unit = ended_by d.unit s code }
+
+-- the desk after a strand was told this, but for its seat
+abbrev pub moved : DeskState → ℕ → Seen → DeskState
+moved d s (Up level code) = record d { unit = reached_by d.unit s level }
+moved d s (Saw i) = record d { sights = sights_seen d.sights (in_door d s i) (hand_on (wire_in d s i)) }
+moved d s (Took i) = record d { wires = changed d.wires taken (in_door d s i) }
+moved d s (Put o) = record d { wires = changed d.wires settled (out_door d s o) }
+moved d s (Refused o) = record d { wires = changed d.wires cleared (out_door d s o) }
+moved d s (Ended code) = ended d s code
+moved d s _ = d
+
+-- the desk after a turn
+abbrev pub made : DeskState → ℕ → Seen → DeskState
+made d s seen = record (moved d s seen) { seats = changed d.seats (seat_after seen) (Some s) }
+
+-- and the pool
+abbrev pub pool_moved : DeskState → List (Option Held) → ℕ → Seen → List (Option Held)
+pool_moved d places s (Saw i) = pool_seen places (sight_through d.sights (in_door d s i)) (hand_on (wire_in d s i))
+pool_moved d places s (Put o) = given_in places (offer_on (wire_out d s o))
+pool_moved d places s (Refused o) = given_in places (offer_on (wire_out d s o))
+pool_moved d places s (Ended code) = pool_without (inputs_of (slice_get d.doors s)) d.sights places
+pool_moved d places s _ = places
+
+-- When a turn may be made
+
+-- it holds of the wire behind a door, if there is one
+abbrev pub Behind : (WireState → Type 0) → List WireState → Option ℕ → Type 0
+Behind P wires door = (wire : WireState) → through wires door ≡ Some wire → P wire
+
+-- what the event needs of the desk and the pool: grips that are held, counts that are less than 64 bits hold, and a strand that hasn't ended
+abbrev pub CanMove : DeskState → List (Option Held) → ℕ → Seen → Type 0
+CanMove d places s (Up level code) = (s < length d.unit) × IsLive d.unit s × IsLevel level × IsAt d.unit s level Asked
+CanMove d places s (Saw i) =
+    (length d.sights ≡ length d.wires)
+    × ((grip : ℕ) → hand_on (wire_in d s i) ≡ Some grip → IsHeld places grip)
+    × ((grip : ℕ) → hand_on (wire_in d s i) ≡ Some grip → holders_at places grip < 4294967295)
+    × IsHeldIn places (sight_through d.sights (in_door d s i))
+CanMove d places s (Took i) =
+    Behind (λ wire. IsSome (at_hand wire)) d.wires (in_door d s i)
+    × Behind (λ wire. IsHeldIn places wire.offer) d.wires (in_door d s i)
+    × Behind (λ wire. wire.tooks < 2 ^ 64 - 1) d.wires (in_door d s i)
+CanMove d places s (Put o) =
+    Behind (λ wire. wire.tooks ≡ wire.puts + 1) d.wires (out_door d s o)
+    × Behind (λ wire. IsHeldIn places wire.offer) d.wires (out_door d s o)
+CanMove d places s (Refused o) =
+    Behind (λ wire. IsSome wire.offer) d.wires (out_door d s o)
+    × Behind (λ wire. wire.tooks ≡ wire.puts) d.wires (out_door d s o)
+    × Behind (λ wire. IsHeldIn places wire.offer) d.wires (out_door d s o)
+CanMove d places s (Ended code) = (s < length d.unit) × IsLive d.unit s × CanForget (inputs_of (slice_get d.doors s)) d.sights places
+CanMove d places s _ = Unit {0}
+
+-- Coming home
+
+-- a record is offered
+abbrev pub offers : ℕ → WireState → WireState
+offers grip wire = offered wire grip
+
+-- the grip is the only hold on a new record of these bytes
+abbrev pub IsFresh : List (Option Held) → List ℕ → ℕ → List (Option Held) → Type 0
+IsFresh places bytes grip after = (record_at places grip ≡ None) × (after ≡ with_record places grip (Some (fresh bytes)))
+
+-- the grip is one more hold on the record that was seen, or on an empty one where none was
+abbrev pub IsShare : List (Option Held) → Option ℕ → ℕ → List (Option Held) → Type 0
+IsShare places None grip after = IsFresh places [] grip after
+IsShare places (Some seen) grip after = (grip ≡ seen) × (after ≡ shared places seen)
+
+-- the grip holds what is to be written
+abbrev pub IsHold : DeskState → List (Option Held) → ℕ → Out → ℕ → List (Option Held) → Type 0
+IsHold d places s (Same i) grip after = IsShare places (sight_through d.sights (in_door d s i)) grip after
+IsHold d places s (Fresh bytes) grip after = IsFresh places bytes grip after
+
+-- the seat of a strand that asks for this
+abbrev pub asking : Ask → Seat → Seat
+asking ask seat = record seat { ask = ask }
+
+-- the unit after a strand that asks for this came home
+abbrev pub unit_home : List Member → ℕ → Ask → List Member
+unit_home unit s (Commit level) = asked_by unit s level
+unit_home unit s _ = unit
+
+-- the desk after a strand that writes nothing came home
+abbrev pub home : DeskState → ℕ → Ask → DeskState
+home d s ask = record d { seats = changed d.seats (asking ask) (Some s); unit = unit_home d.unit s ask }
+
+-- and after one that writes the record of this grip
+abbrev pub home_writing : DeskState → ℕ → ℕ → ℕ → DeskState
+home_writing d s o grip = record (home d s (Write o)) { wires = changed d.wires (offers grip) (out_door d s o) }
+
+-- what home asks of the desk and the pool: a level that the strand hasn't asked for, or a connected output with no offer, and a sight that can be shared
+abbrev pub CanAsk : DeskState → ℕ → Ask → Type 0
+CanAsk d s (Commit level) = (s < length d.unit) × IsLive d.unit s × IsLevel level × IsAt d.unit s level NotAsked
+CanAsk d s (Write o) =
+    IsSome (wire_out d s o)
+    × Behind (λ wire. wire.offer ≡ None) d.wires (out_door d s o)
+    × Behind (λ wire. wire.out_closed ≡ false) d.wires (out_door d s o)
+CanAsk d s _ = Unit {0}
+
+abbrev pub CanHold : DeskState → List (Option Held) → ℕ → Out → Type 0
+CanHold d places s (Same i) =
+    IsHeldIn places (sight_through d.sights (in_door d s i))
+    × ((grip : ℕ) → sight_through d.sights (in_door d s i) ≡ Some grip → holders_at places grip < 4294967295)
+CanHold d places s (Fresh bytes) = Unit {0}
+
+-- a want, without the record that it writes
+abbrev pub ask_for : Want → Ask
+ask_for (want.Commit level) = Commit level
+ask_for (want.Read i) = Read i
+ask_for want.Any = Any
+ask_for want.Gate = Gate
+ask_for (want.Take i) = Take i
+ask_for (want.Write o out) = Write o
+ask_for want.Primed = Primed
+ask_for (want.Issue text) = Issue
+ask_for (want.Join unit) = Join unit
+ask_for (want.Cut i) = Cut i
+ask_for (want.Done code) = Done code
+
+abbrev pub CanCome : DeskState → List (Option Held) → ℕ → Want → Type 0
+CanCome d places s (want.Write o out) = CanAsk d s (Write o) × CanHold d places s out
+CanCome d places s w = CanAsk d s (ask_for w)
+
+-- the desk and the pool after the strand came home with this want
+abbrev pub HasCome : DeskState → List (Option Held) → ℕ → Want → DeskState → List (Option Held) → Type 0
+HasCome d places s (want.Write o out) new after = (grip : ℕ) × IsHold d places s out grip after × (new ≡ home_writing d s o grip)
+HasCome d places s w new after = (new ≡ home d s (ask_for w)) × (after ≡ places)

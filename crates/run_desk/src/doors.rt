@@ -1,0 +1,83 @@
+ghost use Rattle.std.specs.Prelude.{◌≡◌, ◌<◌, length, slice_get};
+ghost use Rattle.std.specs.List.{list_all};
+ghost use Rattle.run_desk.specs.Pure as Pure;
+
+use crate::looks::is_over;
+use connectors::Wire;
+use std::marker::Model;
+
+/// The numbers of the links at a strand's inputs and outputs, and the first strand of its stage.
+#[derive(Drop)]
+pub struct Doors {
+    inputs: Vec<Option<u32>>,
+    outputs: Vec<Option<u32>>,
+    first: u32,
+}
+
+impl Model for Doors {
+    ghost use Rattle.std.specs.Prelude.{◌<◌, length};
+    ghost use Rattle.run_desk.specs.Desk.{DoorsState};
+
+    ghost Value = { DoorsState };
+
+    ghost view = { λ doors. record { inputs = doors.inputs.items; outputs = doors.outputs.items; first = doors.first } };
+
+    ghost invariant = { λ doors. length doors.inputs.items < 65536 };
+}
+
+impl Doors {
+    /// The doors of a strand, which takes no memory.
+    pub fn new(inputs: Vec<Option<u32>>, outputs: Vec<Option<u32>>, first: u32) -> Doors
+        requires { length inputs.items < 65536 }
+        ensures { result ≡ record { inputs = inputs.items; outputs = outputs.items; first = first } }
+    {
+        Doors {
+            inputs,
+            outputs,
+            first,
+        }
+    }
+
+    pub(crate) fn input(&self, i: u16) -> Option<u32>
+        ensures { result ≡ Pure.joined (slice_get self.now.inputs i) }
+    {
+        self.inputs.get(i as usize).copied()?
+    }
+
+    pub(crate) fn output(&self, o: u16) -> Option<u32>
+        ensures { result ≡ Pure.joined (slice_get self.now.outputs o) }
+    {
+        self.outputs.get(o as usize).copied()?
+    }
+
+    pub(crate) fn input_count(&self) -> u16
+        ensures { result ≡ length self.now.inputs }
+    {
+        self.inputs.len() as u16
+    }
+
+    pub(crate) fn first(&self) -> u32
+        ensures { result ≡ self.now.first }
+    {
+        self.first
+    }
+
+    // Whether nothing will come any more on any input.
+    pub(crate) fn all_over(&self, wires: &[Wire]) -> bool
+        ensures { result ≡ list_all (λ door. Pure.is_over (Pure.through wires.now door)) self.now.inputs }
+    {
+        self.inputs.iter().all(|door| is_over(wires, *door))
+    }
+
+    pub(crate) fn inputs(&self) -> &[Option<u32>]
+        ensures { result.now ≡ self.now.inputs }
+    {
+        &self.inputs
+    }
+
+    pub(crate) fn outputs(&self) -> &[Option<u32>]
+        ensures { result.now ≡ self.now.outputs }
+    {
+        &self.outputs
+    }
+}

@@ -1,0 +1,82 @@
+//! What a wire, a level or an ask tells of the event that may come.
+ghost use Rattle.std.specs.Prelude.{◌≡◌};
+ghost use Rattle.run_desk.specs.Pure as Pure;
+
+use crate::seat::Ask;
+use connectors::Wire;
+use pipe_model::Seen;
+
+pub(crate) fn shows(wires: &[Wire], door: Option<u32>) -> bool
+    ensures { result ≡ Pure.shows (Pure.through wires.now door) }
+{
+    match door {
+        None => false,
+        Some(j) => match wires.get(j as usize) {
+            None => false,
+            Some(wire) => wire.at_hand().is_some(),
+        },
+    }
+}
+
+pub(crate) fn is_over(wires: &[Wire], door: Option<u32>) -> bool
+    ensures { result ≡ Pure.is_over (Pure.through wires.now door) }
+{
+    match door {
+        None => true,
+        Some(j) => match wires.get(j as usize) {
+            None => true,
+            Some(wire) => wire.out_closed() && wire.puts() == wire.tooks(),
+        },
+    }
+}
+
+pub(crate) fn can_put(wires: &[Wire], door: Option<u32>) -> bool
+    ensures { result ≡ Pure.can_put (Pure.through wires.now door) }
+{
+    match door {
+        None => false,
+        Some(j) => match wires.get(j as usize) {
+            None => false,
+            Some(wire) => wire.puts() < wire.tooks(),
+        },
+    }
+}
+
+pub(crate) fn can_refuse(wires: &[Wire], door: Option<u32>) -> bool
+    ensures { result ≡ Pure.can_refuse (Pure.through wires.now door) }
+{
+    match door {
+        None => false,
+        Some(j) => match wires.get(j as usize) {
+            None => false,
+            Some(wire) => wire.in_closed() && wire.puts() == wire.tooks(),
+        },
+    }
+}
+
+pub(crate) fn up_seen(level: i32, code: Option<i32>) -> Option<Seen>
+    ensures { result ≡ Pure.up_seen level code }
+{
+    Some(Seen::Up(level, code?))
+}
+
+pub(crate) fn primed_seen(primed: Option<bool>) -> Option<Seen>
+    ensures { result ≡ Pure.primed_seen primed }
+{
+    Some(Seen::Primed(primed?))
+}
+
+pub(crate) fn is_wide(ask: Ask) -> bool
+    ensures { result ≡ Pure.is_wide ask }
+{
+    matches!(ask, Ask::Any | Ask::Gate)
+}
+
+pub(crate) fn stream_of(ask: Ask) -> u16
+    ensures { result ≡ Pure.stream_of ask }
+{
+    match ask {
+        Ask::Read(i) | Ask::Take(i) | Ask::Write(i) | Ask::Cut(i) => i,
+        _ => 0,
+    }
+}

@@ -1,0 +1,68 @@
+ghost use Rattle.std.specs.Prelude.{◌≡◌, Some};
+ghost use Rattle.run_desk.specs.Moves.{seat_after, changed, asking};
+
+use pipe_model::Seen;
+
+/// What a strand asks for, without the record that it writes.
+#[derive(Clone, Copy, Debug, PartialEq, Eq)]
+pub enum Ask {
+    /// It is out, or has ended.
+    Nothing,
+    /// To reach a commit level.
+    Commit(i32),
+    /// To look at the record at hand on an input.
+    Read(u16),
+    /// To look at any input.
+    Any,
+    /// GATE's look.
+    Gate,
+    /// To consume the record seen on an input.
+    Take(u16),
+    /// To write a record on an output.
+    Write(u16),
+    /// DAM's wait for its first strand.
+    Primed,
+    /// To issue a pipeline command.
+    Issue,
+    /// To wait for an issued unit.
+    Join(u32),
+    /// To sever a stream.
+    Cut(u16),
+    /// To end with a return code.
+    Done(i32),
+}
+
+/// What is kept of a strand.
+#[derive(Clone, Copy, Debug, PartialEq, Eq)]
+pub struct Seat {
+    pub ask: Ask,
+    pub has_ended: bool,
+    /// Whether it has seen a record.
+    pub has_seen: bool,
+}
+
+pub(crate) fn ask_seat(seats: &mut Vec<Seat>, strand: u32, ask: Ask)
+    ensures { seats.new.items ≡ changed seats.old.items (asking ask) (Some strand) }
+{
+    if let Some(seat) = seats.get_mut(strand as usize) {
+        seat.ask = ask;
+    }
+}
+
+pub(crate) fn change_seat(seats: &mut Vec<Seat>, strand: u32, seen: Seen)
+    ensures { seats.new.items ≡ changed seats.old.items (seat_after seen) (Some strand) }
+{
+    if let Some(seat) = seats.get_mut(strand as usize) {
+        *seat = seat_after(seen, *seat);
+    }
+}
+
+fn seat_after(seen: Seen, seat: Seat) -> Seat
+    ensures { result ≡ seat_after seen seat }
+{
+    Seat {
+        ask: Ask::Nothing,
+        has_ended: seat.has_ended || matches!(seen, Seen::Ended(_)),
+        has_seen: seat.has_seen || matches!(seen, Seen::Saw(_)),
+    }
+}

@@ -1,0 +1,158 @@
+ghost use Rattle.std.specs.Prelude.{◌≡◌, ◌∷◌, [], MatchResult};
+
+use crate::{Ask, Desk, Doors, Seat, tells_the_licence, wants_early_levels};
+use commit_levels::Unit;
+use connectors::Wire;
+use pipe_model::{NoMemory, Seen, Want};
+use record_pool::Pool;
+use std::alloc::Global;
+use std::test::Fail;
+
+const fn seat(ask: Ask) -> Seat {
+    Seat {
+        ask,
+        has_ended: false,
+        has_seen: false,
+    }
+}
+
+// The doors of a strand whose input and output are these links.
+fn doors(alloc: Global, input: Option<u32>, output: Option<u32>) -> Result<Doors, NoMemory> {
+    Ok(Doors::new(vec![in alloc; input]?, vec![in alloc; output]?, 0))
+}
+
+// What a strand that writes a record and one that looks at any input are told, before or after the record was taken.
+fn told_over(alloc: Global, is_taken: bool) -> Result<[Option<Seen>; 2], NoMemory> {
+    let seats = vec![in alloc; seat(Ask::Write(0)), seat(Ask::Any)]?;
+    let doors = vec![in alloc; doors(alloc, None, Some(0))?, doors(alloc, Some(0), None)?]?;
+    let unit = Unit::new(alloc, 0)?;
+    let mut pool = Pool::new(alloc);
+    let grip = pool.put(b"one")?;
+    let mut wire = Wire::new(false);
+    wire.offer(grip);
+    if is_taken {
+        wire.take(&mut pool);
+    }
+    let wires = match wires_of(alloc, wire) {
+        Ok(wires) => wires,
+        Err(wire) => {
+            wire.drain(&mut pool);
+            return Err(NoMemory);
+        }
+    };
+    let desk = Desk::new(seats, wires, Vec::new(alloc), doors, unit);
+    let told = [desk.seen_at(0, 0), desk.seen_at(1, 0)];
+    let (mut wires, sights) = desk.into_holders();
+    sights.destroy_empty();
+    if let Some(wire) = wires.pop() {
+        wire.drain(&mut pool);
+    }
+    wires.destroy_empty();
+    Ok(told)
+}
+
+// A list of one wire, or the wire where there is no memory for it.
+fn wires_of(alloc: Global, wire: Wire) -> Result<Vec<Wire>, Wire>
+    ensures { MatchResult result (λ wires. wires.items ≡ wire ∷ []) (λ back. back ≡ wire) }
+{
+    let Ok(mut wires) = Vec::with_capacity(alloc, 1) else {
+        return Err(wire);
+    };
+    wires.push_reserved(wire);
+    Ok(wires)
+}
+
+// A record is looked at once it is offered, and put once it is taken.
+#[test]
+fn a_record_goes_over(rt: HostRuntime) -> Result<(), Fail> {
+    let alloc = rt.alloc();
+    assert_eq!(rt; told_over(alloc, false)?, [None, Some(Seen::Saw(0))]);
+    assert_eq!(rt; told_over(alloc, true)?, [Some(Seen::Put(0)), None]);
+    Ok(())
+}
+
+// Nobody is waited for at a level, and nothing is joined: only what is no level and what waits for a record can't go
+// on.
+#[test]
+fn strands_go_on_alone(rt: HostRuntime) -> Result<(), Fail> {
+    let alloc = rt.alloc();
+    let seats = vec![in alloc;
+        seat(Ask::Commit(-1)),
+        seat(Ask::Commit(1_001)),
+        seat(Ask::Read(0)),
+        seat(Ask::Any),
+        seat(Ask::Done(4)),
+        seat(Ask::Nothing),
+    ]?;
+    let unit = Unit::new(alloc, 0)?;
+    let desk = Desk::new(
+        seats,
+        Vec::new(alloc),
+        Vec::new(alloc),
+        Vec::new(alloc),
+        unit,
+    );
+    assert_eq!(rt;
+        [
+            desk.seen_at(0, 0),
+            desk.seen_at(1, 0),
+            desk.seen_at(2, 0),
+            desk.seen_at(3, 0),
+            desk.seen_at(4, 0),
+            desk.seen_at(5, 0)
+        ],
+        [
+            Some(Seen::Up(-1, 0)),
+            None,
+            Some(Seen::SawEnd(0)),
+            Some(Seen::SawAllEnd),
+            Some(Seen::Ended(4)),
+            None
+        ]
+    );
+    assert_eq!(rt;
+        [desk.ready_stream(0), desk.ready_stream(1)],
+        [Some(0), None]
+    );
+    let (wires, sights) = desk.into_holders();
+    wires.destroy_empty();
+    sights.destroy_empty();
+    Ok(())
+}
+
+// What a strand with no input is told before it has seen its end, while it is out, and once it is home.
+#[test]
+fn a_strand_goes_out_and_comes_home(rt: HostRuntime) -> Result<(), Fail> {
+    let alloc = rt.alloc();
+    let seats = vec![in alloc; seat(Ask::Read(0))]?;
+    let unit = Unit::new(alloc, 1)?;
+    let mut pool = Pool::new(alloc);
+    let mut desk = Desk::new(
+        seats,
+        Vec::new(alloc),
+        Vec::new(alloc),
+        Vec::new(alloc),
+        unit,
+    );
+    let first = desk.seen_at(0, 0);
+    desk.make(&mut pool, 0, Seen::SawEnd(0));
+    let out = desk.seen_at(0, 0);
+    let came = desk.come_home(&mut pool, 0, Want::Done(4));
+    let home = desk.seen_at(0, 0);
+    let (wires, sights) = desk.into_holders();
+    wires.destroy_empty();
+    sights.destroy_empty();
+    came?;
+    assert_eq!(rt;
+        [first, out, home],
+        [Some(Seen::SawEnd(0)), None, Some(Seen::Ended(4))]
+    );
+    Ok(())
+}
+
+#[test]
+fn laws_can_be_called(_rt: HostRuntime) -> Result<(), Fail> {
+    tells_the_licence();
+    wants_early_levels();
+    Ok(())
+}
