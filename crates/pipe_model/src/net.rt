@@ -47,6 +47,13 @@ impl Flags {
     {
         Flags { items }
     }
+
+    /// The values one by one.
+    pub fn as_slice(&self) -> &[bool]
+        ensures { result.now ≡ self.now }
+    {
+        &self.items
+    }
 }
 
 /// The places of a strand: how many inputs and outputs it has, and which of them are connected.
@@ -102,6 +109,13 @@ impl Strands {
     {
         Strands { items }
     }
+
+    /// The strands one by one.
+    pub fn as_slice(&self) -> &[Strand]
+        ensures { result.now ≡ self.now }
+    {
+        &self.items
+    }
 }
 
 /// Links, seen as a list.
@@ -125,6 +139,13 @@ impl Links {
         ensures { result ≡ items.items }
     {
         Links { items }
+    }
+
+    /// The links one by one.
+    pub fn as_slice(&self) -> &[Link]
+        ensures { result.now ≡ self.now }
+    {
+        &self.items
     }
 }
 

@@ -1,11 +1,11 @@
 -- For which net, state and strands left out a desk stands.
-use Rattle.std.specs.Prelude.{◌≡◌, ℕ, false, List, [], ℤ, slice_get, length, Option, Some, None}
+use Rattle.std.specs.Prelude.{◌≡◌, ℕ, true, false, if◌then◌else◌, List, [], ℤ, slice_get, length, Option, Some, None}
 use Rattle.std.specs.Option.{option_map, option_map_or}
 use Rattle.pipe_model.specs.declared.net.Net.{Net}
 use Rattle.pipe_model.specs.declared.net.Link.{Link}
 use Rattle.pipe_model.specs.Event.{Want, has_ended, has_seen, last_seen_on}
 use Rattle.pipe_model.specs.Event.Want.{Commit, Read, Any, Gate, Take, Write, Prime, Issue, Join, Sever, Done}
-use Rattle.pipe_model.specs.State.{Who, State, past, below, link_in, link_out}
+use Rattle.pipe_model.specs.State.{Who, State, past, same, below, link_in, link_out}
 use Rattle.pipe_model.specs.Licence.{Left, want_at, puts, tooks, out_closed, in_closed, offered, first_part}
 use Rattle.commit_levels.specs.UnitState.{IsLevel}
 use Rattle.commit_levels.specs.Licensed.{AreStrands}
@@ -30,6 +30,13 @@ asked (Some (Issue text)) = Now.Issue
 asked (Some (Join unit)) = Now.Join unit
 asked (Some (Sever i)) = Now.Cut i
 asked (Some (Done code)) = Now.Done code
+
+-- the strand is out too, and it is out no more
+abbrev pub left_out : Left → Who → Left
+left_out left s = λ t. if same t s then true else left t
+
+abbrev pub left_in : Left → Who → Left
+left_in left s = λ t. if same t s then false else left t
 
 -- the seat tells what its strand wants, and of its history
 pub record IsSeat (net : Net) (st : State) (left : Left) (s : Who) (seat : Seat) : Type 0 where

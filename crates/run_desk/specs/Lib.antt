@@ -1,4 +1,5 @@
 pub mod Desk
 pub mod Kept
 pub mod Moves
+pub mod Order
 pub mod Pure

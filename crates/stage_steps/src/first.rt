@@ -20,12 +20,12 @@ impl FirstStage {
     ghost use Rattle.std.specs.Prelude.{◌≡◌, [], IfOk};
     ghost use Rattle.stage_steps.specs.First.{IsFirstKind, FirstStands};
 
-    /// The stage of a strand, before its first event. `outputs` tells which of its outputs are connected.
-    pub fn new(alloc: Global, strand: &Strand, outputs: &[bool]) -> Result<FirstStage, NoMemory>
-        requires kind { IsFirstKind strand.now.kind }
-        requires outputs { outputs.now ≡ strand.now.ports.has_output }
+    /// The stage of a strand, before its first event.
+    pub fn new(alloc: Global, strand: &Strand) -> Result<FirstStage, NoMemory>
+        requires { IsFirstKind strand.now.kind }
         ensures { IfOk result (λ stage. FirstStands stage strand.now []) }
     {
+        let outputs = strand.ports.has_output.as_slice();
         match &strand.kind {
             Kind::ConsoleIn { bytes } => {
                 let source = Source::new(alloc, bytes.bytes(), outputs)?;

@@ -21,5 +21,5 @@ pub(crate) fn fresh(alloc: Global, kind: Kind, outputs: &[bool]) -> Result<First
             has_output: Flags::from_vec(Vec::from_slice(alloc, outputs)?),
         },
     };
-    FirstStage::new(alloc, &strand, outputs)
+    FirstStage::new(alloc, &strand)
 }

@@ -1,0 +1,40 @@
+-- The order that a run keeps: who holds each record of the pool, and how far each wire is.
+use Rattle.std.specs.Prelude.{◌≡◌, ◌<◌, ◌+◌, ◌==◌, ℕ, Bool, true, false, List, Option, Some, None, IsSome, slice_get, length, count_by}
+use Rattle.pipe_model.specs.declared.net.Net.{Net}
+use Rattle.pipe_model.specs.Event.{has_ended, in_sight}
+use Rattle.pipe_model.specs.State.{Who, State, past}
+use Rattle.pipe_model.specs.Licence.{Left}
+use Rattle.record_pool.specs.declared.pool.Held.{Held}
+use Rattle.record_pool.specs.Places.{record_at, holders_at, bytes_at}
+use Rattle.connectors.specs.WireState.{WireState, IsPaced, at_hand}
+use Rattle.run_desk.specs.Desk.{DeskState}
+use Rattle.run_desk.specs.Kept.{IsKept}
+use Rattle.run_desk.specs.Pure as Pure
+
+-- an offer or a sight holds the record of a grip
+abbrev pub holds : ℕ → Option ℕ → Bool
+holds grip None = false
+holds grip (Some held) = held == grip
+
+abbrev pub offer_holds : ℕ → WireState → Bool
+offer_holds grip wire = holds grip wire.offer
+
+-- how many offers and sights hold it
+abbrev pub holds_of : List WireState → List (Option ℕ) → ℕ → ℕ
+holds_of wires sights grip = count_by (offer_holds grip) wires + count_by (holds grip) sights
+
+-- the pool counts for each record the offers and sights that hold it, and has no record that none holds
+pub record IsPooled (wires : List WireState) (sights : List (Option ℕ)) (places : List (Option Held)) : Type 0 where
+  pub counted : (grip : ℕ) → holders_at places grip ≡ holds_of wires sights grip
+  pub alive : (grip : ℕ) (held : Held) → record_at places grip ≡ Some held → 0 < held.holders
+
+-- each wire has as many records taken as put, or one more; and where a strand has seen a record and not taken it, the record is still at hand
+pub record IsPacing (st : State) (d : DeskState) : Type 0 where
+  pub paced : (j : ℕ) (wire : WireState) → slice_get d.wires j ≡ Some wire → IsPaced wire.offer wire.puts wire.tooks
+  pub shown : (s : Who) (i : ℕ) (wire : WireState) → has_ended (past st s) ≡ false → in_sight i (past st s) ≡ true → Pure.wire_in d s i ≡ Some wire → IsSome (at_hand wire)
+
+-- the desk and the pool stand for the state, where these strands are out
+pub record IsRun (net : Net) (st : State) (left : Left) (d : DeskState) (places : List (Option Held)) : Type 0 where
+  pub kept : IsKept net (bytes_at places) st left d
+  pub pooled : IsPooled d.wires d.sights places
+  pub pacing : IsPacing st d
