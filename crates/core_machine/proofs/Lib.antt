@@ -1,2 +1,3 @@
 pub mod BitSets
+pub mod Outs
 pub mod Summaries

@@ -1,9 +1,13 @@
 //! The core of a run: it makes one event after another and keeps them in a journal.
 #![tactic(auto)]
 
+mod actor;
 mod bits;
+mod job;
 mod ready;
 #[cfg(test)]
 mod tests;
 
+pub use actor::Actor;
+pub use job::{Finished, Job, RunEnd, Turned};
 pub use ready::Ready;

@@ -1,0 +1,121 @@
+ghost use Rattle.std.specs.Prelude.{◌≡◌, IfOk};
+ghost use Rattle.stage_steps.specs.Coroutine.{CanResume, Resumes};
+
+use pipe_model::{NoMemory, Seen, Want};
+use stage_steps::Stage;
+use std::alloc::Global;
+
+/// A coroutine that is out, to be told an event.
+#[derive(Drop)]
+pub struct Job<S: Stage> {
+    pub strand: u32,
+    /// The place of its entry in the journal, counted from 1.
+    pub place: u64,
+    pub seen: Seen,
+    pub stage: S,
+}
+
+/// A coroutine that was told an event, with what it asks for then.
+#[derive(Drop)]
+pub struct Finished<S: Stage> {
+    pub strand: u32,
+    /// The place of its entry in the journal, counted from 1.
+    pub place: u64,
+    pub seen: Seen,
+    pub stage: S,
+    pub want: Result<Want, NoMemory>,
+}
+
+/// The answer of a turn.
+#[derive(Drop)]
+pub enum Turned<S: Stage> {
+    /// An earlier `finish` wanted memory.
+    Broken,
+    /// The strand is out, or may have no event on that stream.
+    NotReady,
+    /// The journal has as many entries as the budget allows.
+    Spent,
+    /// The record that the strand would see has this many bytes, and the room holds fewer.
+    Room(usize),
+    Work(Job<S>),
+}
+
+/// How a run ended.
+#[derive(Clone, Copy, Debug, PartialEq, Eq)]
+pub enum RunEnd {
+    /// No strand may have an event.
+    Complete,
+    /// The journal has as many entries as the budget allows, and a strand may have an event.
+    Spent,
+}
+
+impl<S: Stage> Job<S> {
+    ghost use Rattle.std.specs.Prelude.{◌≡◌, IfOk};
+    ghost use Rattle.stage_steps.specs.Coroutine.{CanResume, Resumes};
+
+    /// Goes on with the coroutine. `bytes` is the record where the job saw one and the strand looks, else empty. It may
+    /// be done on any thread.
+    pub fn run(self, alloc: Global, bytes: &[u8]) -> Finished<S>
+        requires { CanResume S.stands (S.is_looking self.stage) self.stage self.seen bytes.now }
+        ensures strand { result.strand ≡ self.strand }
+        ensures place { result.place ≡ self.place }
+        ensures seen { result.seen ≡ self.seen }
+        ensures looks { S.is_looking result.stage ≡ S.is_looking self.stage }
+        ensures resumes { IfOk result.want (λ want. Resumes S.stands (S.is_looking self.stage) self.stage result.stage self.seen bytes.now want) }
+    {
+        let Job {
+            strand,
+            place,
+            seen,
+            mut stage,
+        } = self;
+        let want = stage.resume(alloc, seen, bytes);
+        Finished {
+            strand,
+            place,
+            seen,
+            stage,
+            want,
+        }
+    }
+
+    pub fn strand(&self) -> u32
+        ensures { result ≡ self.now.strand }
+    {
+        self.strand
+    }
+
+    pub fn place(&self) -> u64
+        ensures { result ≡ self.now.place }
+    {
+        self.place
+    }
+
+    pub fn seen(&self) -> Seen
+        ensures { result ≡ self.now.seen }
+    {
+        self.seen
+    }
+}
+
+impl<S: Stage> Finished<S> {
+    ghost use Rattle.std.specs.Prelude.{◌≡◌};
+
+    pub fn strand(&self) -> u32
+        ensures { result ≡ self.now.strand }
+    {
+        self.strand
+    }
+
+    pub fn place(&self) -> u64
+        ensures { result ≡ self.now.place }
+    {
+        self.place
+    }
+
+    pub fn seen(&self) -> Seen
+        ensures { result ≡ self.now.seen }
+    {
+        self.seen
+    }
+}
