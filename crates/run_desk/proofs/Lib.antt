@@ -1,7 +1,11 @@
+pub mod Begins
+pub mod Conditions
 pub mod Counts
 pub mod Early
 pub mod Gives
 pub mod Holds
+pub mod Limits
 pub mod Pooled
 pub mod Sees
 pub mod Streams
+pub mod Wants
