@@ -58,7 +58,7 @@ module _ (net : Net) (st : State) (left : Left) (d : DeskState) (places : List (
       let l = beside d.wires net.links k wire run.kept.laid.wire_count at in
       record { place = k; link = l.0; at_wire = at; found = leads ∙ l.1; is = run.kept.wires k l.0 wire l.1 at; rendezvous = run.kept.laid.rendezvous k l.0 l.1 }
 
-  out_linked : (s : Who) (o : ℕ) (wire : WireState) → wire_out d s o ≡ Some wire → IsLinked net st left d places (link_out net st s o) wire
+  pub out_linked : (s : Who) (o : ℕ) (wire : WireState) → wire_out d s o ≡ Some wire → IsLinked net st left d places (link_out net st s o) wire
   out_linked s o wire at = linked (out_door d s o) (link_out net st s o) wire (run.kept.laid.out_doors s o) at
 
   in_linked : (s : Who) (i : ℕ) (wire : WireState) → wire_in d s i ≡ Some wire → IsLinked net st left d places (link_in net st s i) wire
@@ -77,21 +77,21 @@ module _ (net : Net) (st : State) (left : Left) (d : DeskState) (places : List (
       by_wire (Some wire) at e = subst (IsHeldIn places) (cond_some (wire.puts == wire.tooks) wire.offer e).1 (offer_held door wire at)
 
   -- and so is what was seen
-  sight_held : (door : Option ℕ) → IsHeldIn places (sight_through d.sights door)
+  pub sight_held : (door : Option ℕ) → IsHeldIn places (sight_through d.sights door)
   sight_held door = sights_held d.wires d.sights places run.pooled door
 
   module _ (few : length net.links < 2147483648) where
     -- every record can have a holder more
-    few_held : (grip : ℕ) → holders_at places grip < 4294967295
+    pub few_held : (grip : ℕ) → holders_at places grip < 4294967295
     few_held grip = omega (arith, few, few_holders d.wires d.sights places run.pooled grip, run.kept.laid.wire_count, run.kept.laid.sight_count)
 
   -- Commit levels
 
   -- a strand of the net is a member of the unit
-  within : (s : Who) (strand : Strand) → strand_at net st s ≡ Some strand → s < length d.unit
+  pub within : (s : Who) (strand : Strand) → strand_at net st s ≡ Some strand → s < length d.unit
   within s strand there = omega (arith, at_place net.strands s there, run.kept.member_count)
 
-  live : (s : Who) → has_ended (past st s) ≡ false → IsLive d.unit s
+  pub live : (s : Who) → has_ended (past st s) ≡ false → IsLive d.unit s
   live s going m at = (run.kept.members s m at).ended ∙ ap (λ b. cond b (Some (code_of (past st s))) None) going
 
   asked_at : (s : Who) (level : ℤ) → IsLevel level → want_at net st left s ≡ Some (Commit level) → has_reached level (past st s) ≡ false → IsAt d.unit s level Asked
@@ -101,7 +101,7 @@ module _ (net : Net) (st : State) (left : Left) (d : DeskState) (places : List (
       ∙ ap (λ w. cond (commits_to level w) Asked NotAsked) wants
       ∙ ap (λ b. cond b Asked NotAsked) ((Decides-int_eq level level).1 refl)
 
-  not_asked_at : (s : Who) (level : ℤ) → IsLevel level → left s ≡ true → has_reached level (past st s) ≡ false → IsAt d.unit s level NotAsked
+  pub not_asked_at : (s : Who) (level : ℤ) → IsLevel level → left s ≡ true → has_reached level (past st s) ≡ false → IsAt d.unit s level NotAsked
   not_asked_at s level is out not_yet m at =
       (run.kept.members s m at).progress level is
       ∙ ap (λ b. cond b Reached (cond (commits_to level (want_at net st left s)) Asked NotAsked)) not_yet

@@ -1,4 +1,5 @@
 pub mod Begins
+pub mod Comings
 pub mod Conditions
 pub mod Counts
 pub mod Early
