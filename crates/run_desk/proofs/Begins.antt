@@ -1,12 +1,12 @@
 -- A strand wants a commit level only where it hasn't reached it.
-use Rattle.std.proofs.Common.{◌≡◌, ◌⊎◌, inl, inr, ℕ, zero, suc, Bool, true, false, cond, ◌&&◌, ◌||◌, List, [], ◌∷◌, refl, sym, ◌∙◌, ap, subst, Option, Some, None, ℤ, pos, negsuc}
+use Rattle.std.proofs.Common.{◌≡◌, ◌⊎◌, inl, inr, zero, suc, Bool, true, false, cond, ◌&&◌, ◌||◌, List, [], ◌∷◌, refl, sym, ◌∙◌, ap, subst, Some, None, ℤ, pos, negsuc}
 use Rattle.std.specs.Ordering.{int_eq}
 use Rattle.std.proofs.lemmas.Bool.Decides.{Decides-int_eq}
 use Rattle.pipe_model.specs.declared.net.Strand.{Strand}
-use Rattle.pipe_model.specs.Event.{Event, Want, answers, has_reached}
+use Rattle.pipe_model.specs.Event.{Event, answers, has_reached}
 use Rattle.pipe_model.specs.Event.Event.{Up, Put, Refused, Took}
 use Rattle.pipe_model.specs.Event.Want.{Commit}
-use Rattle.pipe_model.specs.Row.{Act, Goal, Row}
+use Rattle.pipe_model.specs.Row.{Row}
 use Rattle.pipe_model.specs.Row.Act.{Writes, Repeats, Takes}
 use Rattle.pipe_model.specs.Row.Goal.{Asks, Ends}
 use Rattle.pipe_model.specs.Table.{form}

@@ -1,5 +1,5 @@
 -- What a run keeps suffices for a strand to come home with what it wants.
-use Rattle.std.proofs.Common.{◌≡◌, ◌⊎◌, inl, inr, ℕ, ◌<◌, Bool, true, false, cond, not, List, [], length, refl, sym, ◌∙◌, ap, subst, arith, Option, Some, None, is_some, slice_get, ℤ, pos, negsuc}
+use Rattle.std.proofs.Common.{◌≡◌, ◌⊎◌, inl, inr, ℕ, ◌<◌, true, false, cond, not, List, length, refl, sym, ◌∙◌, ap, subst, arith, Option, Some, None, is_some, slice_get, ℤ, pos, negsuc}
 use Rattle.std.specs.Prelude.{IsSome}
 use Rattle.std.specs.Option.{option_map}
 use Rattle.std.proofs.lemmas.Grind.{common_steps}
@@ -13,13 +13,12 @@ use Rattle.pipe_model.specs.declared.step.Want.TheVariants as want
 use Rattle.pipe_model.specs.Event.{has_ended}
 use Rattle.pipe_model.specs.Event.Want.{Commit, Write}
 use Rattle.pipe_model.specs.Next.{next, flag_at, has, IsOwn}
-use Rattle.pipe_model.specs.State.{Who, State, past, nothing_yet, strand_at, link_out}
+use Rattle.pipe_model.specs.State.{Who, State, past, strand_at, link_out}
 use Rattle.pipe_model.specs.Licence.{Left, want_after, want_at, offered}
 use Rattle.pipe_model.specs.WellFormed.{IsWellFormed}
 use Rattle.stage_steps.specs.Coroutine.{last_seen, written, meaning}
 use Rattle.record_pool.specs.declared.pool.Held.{Held}
 use Rattle.record_pool.specs.Places.{bytes_at}
-use Rattle.connectors.specs.WireState.{WireState}
 use Rattle.commit_levels.specs.UnitState.{IsLevel}
 use Rattle.confluence_laws.proofs.Basics.{both, at_some, at_place, from_out}
 use Rattle.confluence_laws.proofs.Fitting.{past_of, wants_write, stands_for}

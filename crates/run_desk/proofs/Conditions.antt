@@ -1,39 +1,32 @@
 -- What a run keeps suffices for a turn that the licence allows, and for a coming home with what is wanted.
-use Rattle.std.proofs.Common.{◌≡◌, ◌⊎◌, inl, inr, ℕ, zero, suc, ◌+◌, ◌-◌, ◌^◌, ◌≤◌, ◌<◌, Bool, true, false, cond, ◌&&◌, ◌||◌, not, ◌==◌, List, [], ◌∷◌, length, refl, sym, ◌∙◌, ap, subst, arith, Option, Some, None, is_some, slice_get, ℤ, pos, negsuc}
+use Rattle.std.proofs.Common.{◌≡◌, inl, inr, ℕ, ◌+◌, ◌-◌, ◌^◌, ◌<◌, true, false, cond, ◌==◌, List, length, refl, sym, ◌∙◌, ap, subst, arith, Option, Some, None, slice_get, ℤ}
 use Rattle.std.specs.Prelude.{IsSome}
 use Rattle.std.specs.Option.{option_map}
-use Rattle.std.specs.Ordering.{int_eq}
 use Rattle.std.proofs.lemmas.Bool.Decides.{Decides-int_eq}
-use Rattle.std.proofs.lemmas.Grind.{common_steps}
 use Rattle.pipe_model.specs.declared.net.Net.{Net}
 use Rattle.pipe_model.specs.declared.net.Link.{Link}
 use Rattle.pipe_model.specs.declared.net.Strand.{Strand}
-use Rattle.pipe_model.specs.declared.step.Out.{Out}
-use Rattle.pipe_model.specs.declared.step.Out.TheVariants.{Same, Fresh}
-use Rattle.pipe_model.specs.declared.step.Want.{Want as Asking}
-use Rattle.pipe_model.specs.declared.step.Want.TheVariants as want
-use Rattle.pipe_model.specs.Event.{Event, Want, has_ended, has_reached, in_sight, code_of, tooks_on}
+use Rattle.pipe_model.specs.Event.{Event, has_ended, has_reached, code_of}
 use Rattle.pipe_model.specs.Event.Event.{Up, Saw, Took, Put, Refused, Ended}
-use Rattle.pipe_model.specs.Event.Want.{Commit, Take, Write, Done}
-use Rattle.pipe_model.specs.Next.{next, flag_at, has, is_open, IsOwn}
-use Rattle.pipe_model.specs.State.{Who, State, past, below, nothing_yet, strand_at, link_in, link_out}
-use Rattle.pipe_model.specs.Licence.{Left, want_after, want_at, puts, tooks, offered, may_put, may_refuse, commits_to, licence}
+use Rattle.pipe_model.specs.Event.Want.{Commit, Take, Done}
+use Rattle.pipe_model.specs.Next.{IsOwn}
+use Rattle.pipe_model.specs.State.{Who, State, past, strand_at, link_in, link_out}
+use Rattle.pipe_model.specs.Licence.{Left, want_after, want_at, offered, may_put, may_refuse, commits_to, licence}
 use Rattle.pipe_model.specs.WellFormed.{IsWellFormed}
-use Rattle.stage_steps.specs.Coroutine.{told, last_seen, written, meaning}
+use Rattle.stage_steps.specs.Coroutine.{told}
 use Rattle.record_pool.specs.declared.pool.Held.{Held}
 use Rattle.record_pool.specs.Places.{IsHeld, holders_at, bytes_at}
 use Rattle.connectors.specs.WireState.{WireState, IsPaced, at_hand, IsHeldIn}
-use Rattle.commit_levels.specs.UnitState.{Member, IsLevel, IsLive, IsAt}
+use Rattle.commit_levels.specs.UnitState.{IsLevel, IsLive, IsAt}
 use Rattle.commit_levels.specs.declared.member.Progress.TheVariants.{NotAsked, Asked, Reached}
-use Rattle.commit_levels.specs.Licensed.{IsStrand}
-use Rattle.confluence_laws.proofs.Basics.{cond_some, both, at_place, at_some, from_out, test_same}
+use Rattle.confluence_laws.proofs.Basics.{cond_some, at_place, at_some, from_out, test_same}
 use Rattle.confluence_laws.proofs.Owns.{commit_asked}
-use Rattle.confluence_laws.proofs.Fitting.{past_of, wants_take, wants_write, stands_for}
+use Rattle.confluence_laws.proofs.Fitting.{wants_take}
 use Rattle.run_desk.specs.Desk.{DeskState}
 use Rattle.run_desk.specs.Pure.{inputs_of, in_door, out_door, through, wire_in, wire_out}
 use Rattle.run_desk.specs.Kept.{IsWire, link_through}
 use Rattle.run_desk.specs.Order.{IsRun}
-use Rattle.run_desk.specs.Moves.{hand_on, sight_through, Behind, CanMove, CanAsk, CanHold, CanCome}
+use Rattle.run_desk.specs.Moves.{hand_on, sight_through, Behind, CanMove}
 use Rattle.run_desk.proofs.Begins.{not_reached}
 use Rattle.run_desk.proofs.Limits.{few_holders, offers_held, sights_held, can_forget}
 use Rattle.run_desk.proofs.Wants.{take_asked, refusal_asked, end_asked, few_tooks, IsWanting, wanting, fits, put_may, refusal_may, put_ahead, refusal_level}
@@ -58,6 +51,7 @@ module _ (net : Net) (st : State) (left : Left) (d : DeskState) (places : List (
       let l = beside d.wires net.links k wire run.kept.laid.wire_count at in
       record { place = k; link = l.0; at_wire = at; found = leads ∙ l.1; is = run.kept.wires k l.0 wire l.1 at; rendezvous = run.kept.laid.rendezvous k l.0 l.1 }
 
+  -- the wire behind an output stands for its link
   pub out_linked : (s : Who) (o : ℕ) (wire : WireState) → wire_out d s o ≡ Some wire → IsLinked net st left d places (link_out net st s o) wire
   out_linked s o wire at = linked (out_door d s o) (link_out net st s o) wire (run.kept.laid.out_doors s o) at
 
@@ -91,6 +85,7 @@ module _ (net : Net) (st : State) (left : Left) (d : DeskState) (places : List (
   pub within : (s : Who) (strand : Strand) → strand_at net st s ≡ Some strand → s < length d.unit
   within s strand there = omega (arith, at_place net.strands s there, run.kept.member_count)
 
+  -- a strand that goes on is a member that has not ended
   pub live : (s : Who) → has_ended (past st s) ≡ false → IsLive d.unit s
   live s going m at = (run.kept.members s m at).ended ∙ ap (λ b. cond b (Some (code_of (past st s))) None) going
 
@@ -101,6 +96,7 @@ module _ (net : Net) (st : State) (left : Left) (d : DeskState) (places : List (
       ∙ ap (λ w. cond (commits_to level w) Asked NotAsked) wants
       ∙ ap (λ b. cond b Asked NotAsked) ((Decides-int_eq level level).1 refl)
 
+  -- one that is out and has not reached a level has not asked for it
   pub not_asked_at : (s : Who) (level : ℤ) → IsLevel level → left s ≡ true → has_reached level (past st s) ≡ false → IsAt d.unit s level NotAsked
   not_asked_at s level is out not_yet m at =
       (run.kept.members s m at).progress level is

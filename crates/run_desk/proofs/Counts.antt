@@ -1,11 +1,11 @@
 -- How many offers and sights hold a record, where one of them changes.
-use Rattle.std.proofs.Common.{◌≡◌, ℕ, zero, suc, ◌+◌, ◌<◌, Bool, true, false, cond, List, [], ◌∷◌, ◌++◌, refl, sym, ◌∙◌, ap, arith, Option, Some, None, slice_get, slice_set}
+use Rattle.std.proofs.Common.{◌≡◌, ℕ, zero, suc, ◌+◌, Bool, false, cond, List, [], ◌∷◌, ◌++◌, refl, ◌∙◌, ap, arith, Option, Some, None, slice_get, slice_set}
 use Rattle.std.specs.Prelude.{count_by}
 use Rattle.std.proofs.lemmas.List.Sums.{sum_by-cons, sum_by_push}
 use Rattle.connectors.specs.WireState.{WireState}
 use Rattle.run_desk.specs.Pure.{joined, through}
-use Rattle.run_desk.specs.Order.{holds, offer_holds, holds_of}
-use Rattle.run_desk.specs.Moves.{placed, changed, offer_on, sight_through, out_shut, in_shut, all_changed, unseen, sights_without}
+use Rattle.run_desk.specs.Order.{holds, offer_holds}
+use Rattle.run_desk.specs.Moves.{placed, changed, offer_on, sight_through, out_shut, in_shut, all_changed, unseen}
 
 -- one for what passes a test
 abbrev pub one : Bool → ℕ
@@ -65,6 +65,7 @@ pub count_outs_shut : (grip : ℕ) (doors : List (Option ℕ)) (wires : List Wir
 count_outs_shut grip [] wires = refl
 count_outs_shut grip (door ∷ doors) wires = count_outs_shut grip doors (changed wires out_shut door) ∙ count_still (offer_holds grip) out_shut (λ wire. refl) wires door
 
+-- nor at the other ends
 pub count_ins_shut : (grip : ℕ) (doors : List (Option ℕ)) (wires : List WireState) → count_by (offer_holds grip) (all_changed in_shut doors wires) ≡ count_by (offer_holds grip) wires
 count_ins_shut grip [] wires = refl
 count_ins_shut grip (door ∷ doors) wires = count_ins_shut grip doors (changed wires in_shut door) ∙ count_still (offer_holds grip) in_shut (λ wire. refl) wires door

@@ -1,5 +1,5 @@
 -- What the pool counts and holds after a hold was given back, shared or made new.
-use Rattle.std.proofs.Common.{◌≡◌, ◌≢◌, ◌⊎◌, inl, inr, ℕ, ◌+◌, ◌-◌, ◌<◌, Bool, true, false, cond, List, [], ◌∷◌, ◌==◌, nat_lt, refl, sym, ◌∙◌, ap, subst, arith, Option, Some, None}
+use Rattle.std.proofs.Common.{◌≡◌, ◌≢◌, inl, inr, ℕ, ◌+◌, ◌-◌, ◌<◌, true, false, cond, List, [], ◌==◌, nat_lt, refl, sym, ◌∙◌, ap, subst, arith, Option, Some, None}
 use Rattle.std.specs.Prelude.{IsSome}
 use Rattle.std.specs.Option.{option_map_or}
 use Rattle.std.proofs.lemmas.Bool.Decides.{nat_tests}
@@ -7,8 +7,7 @@ use Rattle.confluence_laws.proofs.Basics.{equal_or_not, test_same, test_apart}
 use Rattle.record_pool.specs.declared.pool.Held.{Held}
 use Rattle.record_pool.specs.Places.{record_at, IsHeld, holders_of, holders_at, bytes_at, with_record, fresh, one_more, one_less, shared, given}
 use Rattle.record_pool.proofs.Places.{record_at-same, record_at-other}
-use Rattle.connectors.specs.WireState.{IsHeldIn, given_in}
-use Rattle.run_desk.specs.Order.{holds}
+use Rattle.connectors.specs.WireState.{given_in}
 use Rattle.run_desk.proofs.Counts.{one, hold}
 
 -- each record has a holder
@@ -114,12 +113,14 @@ holders_shared places g grip held = elim (equal_or_not grip g) [
       omega (arith, there, held_same grip g apart)
 ]
 
+-- and leaves no record without a holder
 pub alive_shared : (places : List (Option Held)) (g : ℕ) → AreAlive places → AreAlive (shared places g)
 alive_shared places g alive grip held at = elim (equal_or_not grip g) [
   | inl is ↦ more_alive (record_at places g) held (sym (record_at-same places g (one_more (record_at places g))) ∙ ap (record_at (shared places g)) (sym is) ∙ at)
   | inr apart ↦ alive grip held (sym (record_at-other places g grip (one_more (record_at places g)) apart) ∙ at)
 ]
 
+-- and what is held then was held, with the same bytes
 pub bytes_shared : (places : List (Option Held)) (g grip : ℕ) → IsHeld (shared places g) grip → IsHeld places grip × (bytes_at (shared places g) grip ≡ bytes_at places grip)
 bytes_shared places g grip held = elim (equal_or_not grip g) [
   | inl is ↦
@@ -143,6 +144,7 @@ holders_fresh places bytes g grip free = elim (equal_or_not grip g) [
       omega (arith, there, held_same grip g apart)
 ]
 
+-- so no record is without one
 pub alive_fresh : (places : List (Option Held)) (bytes : List ℕ) (g : ℕ) → AreAlive places → AreAlive (with_record places g (Some (fresh bytes)))
 alive_fresh places bytes g alive grip held at = elim (equal_or_not grip g) [
   | inl is ↦

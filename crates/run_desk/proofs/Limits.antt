@@ -1,13 +1,13 @@
 -- What the desk holds is held in the pool, by no more holders than a record can count.
-use Rattle.std.proofs.Common.{◌≡◌, ℕ, zero, suc, ◌+◌, ◌≤◌, ◌<◌, Bool, true, List, [], ◌∷◌, length, refl, sym, ◌∙◌, ap, arith, Option, Some, None, slice_get}
+use Rattle.std.proofs.Common.{◌≡◌, ℕ, zero, suc, ◌+◌, ◌≤◌, ◌<◌, Bool, true, List, [], ◌∷◌, length, refl, ◌∙◌, ap, arith, Option, Some, None, slice_get}
 use Rattle.std.specs.Prelude.{count_by}
 use Rattle.std.proofs.lemmas.List.Sums.{count_by-le-length}
 use Rattle.record_pool.specs.declared.pool.Held.{Held}
-use Rattle.record_pool.specs.Places.{IsHeld, holders_at}
+use Rattle.record_pool.specs.Places.{holders_at}
 use Rattle.connectors.specs.WireState.{WireState, IsHeldIn, given_in}
 use Rattle.confluence_laws.proofs.Basics.{test_same}
 use Rattle.run_desk.specs.Pure.{joined}
-use Rattle.run_desk.specs.Order.{holds, offer_holds, holds_of, IsPooled}
+use Rattle.run_desk.specs.Order.{holds, offer_holds, IsPooled}
 use Rattle.run_desk.specs.Moves.{changed, sight_through, unseen, CanForget}
 use Rattle.run_desk.proofs.Counts.{one, count_first, count_unseen}
 use Rattle.run_desk.proofs.Pooled.{held_by, pooled_given}
@@ -50,5 +50,5 @@ can_forget wires [] sights places pooled = tt
 can_forget wires (door ∷ doors) sights places pooled = (
   sights_held wires sights places pooled door,
   can_forget wires doors (changed sights unseen door) (given_in places (sight_through sights door))
-  (pooled_given wires wires sights (changed sights unseen door) places (sight_through sights door) pooled (λ grip. omega (arith, count_unseen grip sights door))),
+      (pooled_given wires wires sights (changed sights unseen door) places (sight_through sights door) pooled (λ grip. omega (arith, count_unseen grip sights door))),
 )

@@ -1,7 +1,6 @@
 -- The pool's holders stay exact through a run: at a turn, where a strand comes home, and when all is given back at the end.
-use Rattle.std.proofs.Common.{◌≡◌, ℕ, zero, suc, ◌+◌, ◌<◌, true, false, List, [], ◌∷◌, ◌++◌, length, refl, sym, ◌∙◌, ap, subst, arith, Option, Some, None, slice_get}
+use Rattle.std.proofs.Common.{◌≡◌, ℕ, zero, suc, ◌+◌, ◌<◌, false, List, [], ◌∷◌, ◌++◌, length, refl, sym, ◌∙◌, ap, subst, arith, Option, Some, None, slice_get}
 use Rattle.std.specs.Prelude.{IsSome, count_by}
-use Rattle.std.specs.List.{sum_by}
 use Rattle.std.proofs.lemmas.List.Sums.{sum_by-cons}
 use Rattle.pipe_model.specs.declared.step.Out.TheVariants.{Same, Fresh}
 use Rattle.pipe_model.specs.declared.step.Out.{Out}
@@ -16,7 +15,7 @@ use Rattle.connectors.specs.WireState.{WireState, at_hand, taken, settled, clear
 use Rattle.run_desk.specs.Desk.{DeskState}
 use Rattle.run_desk.specs.Pure.{inputs_of, outputs_of, in_door, out_door, through, wire_in, wire_out}
 use Rattle.run_desk.specs.Order.{holds, offer_holds, holds_of, IsPooled}
-use Rattle.run_desk.specs.Moves.{placed, changed, offer_on, hand_on, in_shut, out_shut, all_changed, sight_through, sights_seen, pool_seen, unseen, sights_without, pool_without, made, pool_moved, Behind, CanMove, offers, IsShare, IsHold, CanHold, CanCome, HasCome}
+use Rattle.run_desk.specs.Moves.{changed, offer_on, hand_on, in_shut, out_shut, all_changed, sight_through, sights_seen, pool_seen, unseen, sights_without, pool_without, made, pool_moved, Behind, CanMove, offers, IsShare, IsHold, CanHold, CanCome, HasCome}
 use Rattle.run_desk.proofs.Counts.{hold, count_first, count_last, count_changed, count_still, count_cleared, count_outs_shut, count_ins_shut, count_unseen, count_seen}
 use Rattle.run_desk.proofs.Gives.{holders_held, holders_given, alive_given, bytes_given, holders_shared, alive_shared, bytes_shared, holders_fresh, alive_fresh, bytes_fresh}
 use Rattle.run_desk.proofs.Holds.{held_still}
@@ -133,6 +132,7 @@ bytes_seen places before (Some g) grip held =
     let rest = bytes_given (shared places g) before grip held in
     rest.1 ∙ (bytes_shared places g grip rest.0).1
 
+-- after a turn what is held was held, with the same bytes
 pub bytes_moved : (d : DeskState) (places : List (Option Held)) (s : ℕ) (seen : Seen) (grip : ℕ) → IsHeld (pool_moved d places s seen) grip → bytes_at (pool_moved d places s seen) grip ≡ bytes_at places grip
 bytes_moved d places s (Saw i) grip held = bytes_seen places (sight_through d.sights (in_door d s i)) (hand_on (wire_in d s i)) grip held
 bytes_moved d places s (Put o) grip held = (bytes_given places (offer_on (wire_out d s o)) grip held).1
@@ -204,6 +204,7 @@ texts_home d new places after s _ pooled has grip some = ap (λ (z : List (Optio
 pub pooled_first_wire : (wire : WireState) (wires : List WireState) (sights : List (Option ℕ)) (places : List (Option Held)) → IsPooled (wire ∷ wires) sights places → IsPooled wires sights (given_in places wire.offer)
 pooled_first_wire wire wires sights places pooled = pooled_given (wire ∷ wires) wires sights sights places wire.offer pooled (λ grip. omega (arith, count_first (offer_holds grip) wire wires))
 
+-- and so it is from the end of the list
 pub pooled_last_wire : (wires : List WireState) (wire : WireState) (sights : List (Option ℕ)) (places : List (Option Held)) → IsPooled (wires ++ wire ∷ []) sights places → IsPooled wires sights (given_in places wire.offer)
 pooled_last_wire wires wire sights places pooled = pooled_given (wires ++ wire ∷ []) wires sights sights places wire.offer pooled (λ grip. omega (arith, count_last (offer_holds grip) wires wire))
 
@@ -211,6 +212,7 @@ pooled_last_wire wires wire sights places pooled = pooled_given (wires ++ wire �
 pub pooled_first_sight : (wires : List WireState) (sight : Option ℕ) (sights : List (Option ℕ)) (places : List (Option Held)) → IsPooled wires (sight ∷ sights) places → IsPooled wires sights (given_in places sight)
 pooled_first_sight wires sight sights places pooled = pooled_given wires wires (sight ∷ sights) sights places sight pooled (λ grip. omega (arith, count_first (holds grip) sight sights))
 
+-- from the end of the list too
 pub pooled_last_sight : (wires : List WireState) (sights : List (Option ℕ)) (sight : Option ℕ) (places : List (Option Held)) → IsPooled wires (sights ++ sight ∷ []) places → IsPooled wires sights (given_in places sight)
 pooled_last_sight wires sights sight places pooled = pooled_given wires wires (sights ++ sight ∷ []) sights places sight pooled (λ grip. omega (arith, count_last (holds grip) sights sight))
 

@@ -1,7 +1,5 @@
 -- What a licensed event tells of the want and of the wire that it moves a record on.
-use Rattle.std.proofs.Common.{◌≡◌, ℕ, zero, suc, ◌≤◌, ◌<◌, Bool, true, false, cond, ◌&&◌, ◌||◌, not, ◌==◌, List, [], ◌∷◌, length, refl, sym, ◌∙◌, ap, subst, arith, Option, Some, None, slice_get, ℤ, nat_lt}
-use Rattle.std.specs.Prelude.{IsSome}
-use Rattle.std.specs.Option.{option_map}
+use Rattle.std.proofs.Common.{◌≡◌, ℕ, suc, ◌≤◌, ◌<◌, Bool, true, false, cond, ◌&&◌, ◌||◌, not, ◌==◌, List, [], ◌∷◌, length, refl, sym, ◌∙◌, ap, arith, Option, Some, None, ℤ, nat_lt}
 use Rattle.std.proofs.lemmas.Bool.Decides.{Decides-int_eq, nat_tests}
 use Rattle.pipe_model.specs.declared.net.Net.{Net}
 use Rattle.pipe_model.specs.declared.net.Link.{Link}
@@ -10,8 +8,8 @@ use Rattle.pipe_model.specs.Event.{Event, Want, answers, has_ended, is_took, one
 use Rattle.pipe_model.specs.Event.Event.{Took, Put, Refused, Ended}
 use Rattle.pipe_model.specs.Event.Want.{Take, Write, Done}
 use Rattle.pipe_model.specs.Next.{next}
-use Rattle.pipe_model.specs.State.{Who, State, past, strand_at, link_in, link_out}
-use Rattle.pipe_model.specs.Licence.{Sight, Left, want_after, want_at, puts, tooks, is_level, in_closed, offered, may_put, may_refuse, write_answer, answer, licence, sight_of}
+use Rattle.pipe_model.specs.State.{Who, State, past, strand_at, link_out}
+use Rattle.pipe_model.specs.Licence.{Left, want_after, want_at, puts, tooks, is_level, in_closed, may_put, may_refuse, write_answer, answer, licence, sight_of}
 use Rattle.confluence_laws.proofs.Basics.{cond_some, both, same_number, not_ended}
 use Rattle.confluence_laws.proofs.Owns.{answer_fits}
 use Rattle.confluence_laws.proofs.Total.{put_asked}
