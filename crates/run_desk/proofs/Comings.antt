@@ -1,0 +1,99 @@
+-- What a run keeps suffices for a strand to come home with what it wants.
+use Rattle.std.proofs.Common.{◌≡◌, ◌⊎◌, inl, inr, ℕ, ◌<◌, true, false, cond, not, List, length, refl, sym, ◌∙◌, ap, subst, arith, Option, Some, None, is_some, slice_get, ℤ, pos, negsuc}
+use Rattle.std.specs.Prelude.{IsSome}
+use Rattle.std.specs.Option.{option_map}
+use Rattle.std.proofs.lemmas.Grind.{common_steps}
+use Rattle.pipe_model.specs.declared.net.Net.{Net}
+use Rattle.pipe_model.specs.declared.net.Link.{Link}
+use Rattle.pipe_model.specs.declared.net.Strand.{Strand}
+use Rattle.pipe_model.specs.declared.step.Out.{Out}
+use Rattle.pipe_model.specs.declared.step.Out.TheVariants.{Same, Fresh}
+use Rattle.pipe_model.specs.declared.step.Want.{Want as Asking}
+use Rattle.pipe_model.specs.declared.step.Want.TheVariants as want
+use Rattle.pipe_model.specs.Event.{has_ended}
+use Rattle.pipe_model.specs.Event.Want.{Commit, Write}
+use Rattle.pipe_model.specs.Next.{next, flag_at, has, IsOwn}
+use Rattle.pipe_model.specs.State.{Who, State, past, strand_at, link_out}
+use Rattle.pipe_model.specs.Licence.{Left, want_after, want_at, offered}
+use Rattle.pipe_model.specs.WellFormed.{IsWellFormed}
+use Rattle.stage_steps.specs.Coroutine.{last_seen, written, meaning}
+use Rattle.record_pool.specs.declared.pool.Held.{Held}
+use Rattle.record_pool.specs.Places.{bytes_at}
+use Rattle.commit_levels.specs.UnitState.{IsLevel}
+use Rattle.confluence_laws.proofs.Basics.{both, at_some, at_place, from_out}
+use Rattle.confluence_laws.proofs.Fitting.{past_of, wants_write, stands_for}
+use Rattle.run_desk.specs.declared.seat.Ask.TheVariants as Now
+use Rattle.run_desk.specs.Desk.{DeskState}
+use Rattle.run_desk.specs.Pure.{in_door, out_door, through, wire_out}
+use Rattle.run_desk.specs.Kept.{link_through}
+use Rattle.run_desk.specs.Order.{IsRun}
+use Rattle.run_desk.specs.Moves.{Behind, CanAsk, CanHold, CanCome}
+use Rattle.run_desk.proofs.Begins.{not_reached}
+use Rattle.run_desk.proofs.Conditions.{sight_held, few_held, within, live, not_asked_at, out_linked}
+
+-- the levels that strands want are levels
+early_level : (level : ℤ) → (level ≡ negsuc 0) ⊎ (level ≡ pos 0) → IsLevel level
+early_level level (inl is) = subst IsLevel (sym is) (grind (arith, common_steps), grind (arith, common_steps))
+early_level level (inr is) = subst IsLevel (sym is) (grind (arith, common_steps), grind (arith, common_steps))
+
+-- nothing is offered where no text is
+no_offer : (texts : ℕ → List ℕ) (x : Option ℕ) → option_map texts x ≡ None → x ≡ None
+no_offer texts None e = refl
+no_offer texts (Some g) e = cc
+
+module _ (net : Net) (st : State) (left : Left) (d : DeskState) (places : List (Option Held)) (formed : IsWellFormed net) (run : IsRun net st left d places) (s : Who) (strand : Strand) (there : strand_at net st s ≡ Some strand) (own : IsOwn strand (past st s)) (out : left s ≡ true) (going : has_ended (past st s) ≡ false) where
+  come_to : (level : ℤ) → next strand (past st s) ≡ Some (Commit level) → CanAsk d s (Now.Commit level)
+  come_to level wants =
+      let is = early_level level (stands_for strand (past st s) own (Commit level) wants).2 in
+      (within net st left d places formed run s strand there, live net st left d places formed run s going, is, not_asked_at net st left d places formed run s level is out (not_reached strand (past st s) own level wants))
+
+  -- whoever writes has a link there
+  writes_link : (o : ℕ) (rec : List ℕ) → next strand (past st s) ≡ Some (Write o rec) → is_some (link_out net st s o) ≡ true
+  writes_link o rec wants =
+      let writer = wants_write strand (past st s) own o rec wants in
+      sym ((formed.told s strand there).has_output o) ∙ (both (flag_at strand.ports.has_output o) (not (has (past_of strand (past st s)).refused o)) writer.live).0
+
+  has_wire : (o : ℕ) → is_some (link_out net st s o) ≡ true → IsSome (wire_out d s o)
+  has_wire o is = by_door (out_door d s o) (sym (ap is_some (run.kept.laid.out_doors s o)) ∙ is)
+    where
+      by_link : (k : ℕ) (x : Option Link) → slice_get net.links k ≡ x → is_some x ≡ true → is_some (slice_get d.wires k) ≡ true
+      by_link k None at e = cc
+      by_link k (Some link) at e = ap is_some (at_some d.wires k (omega (arith, at_place net.links k at, run.kept.laid.wire_count))).1
+
+      by_door : (door : Option ℕ) → is_some (link_through net.links door) ≡ true → IsSome (through d.wires door)
+      by_door None e = cc
+      by_door (Some k) e = by_link k (slice_get net.links k) refl e
+
+  -- where nothing is offered yet
+  come_writing : (o : ℕ) (rec : List ℕ) → next strand (past st s) ≡ Some (Write o rec) → CanAsk d s (Now.Write o)
+  come_writing o rec wants = (has_wire o (writes_link o rec wants), free, goes_on)
+    where
+      free : Behind (λ wire. wire.offer ≡ None) d.wires (out_door d s o)
+      free wire at =
+          let l = out_linked net st left d places formed run s o wire at in
+          let is = from_out net formed st s o l.link l.found in
+          no_offer (bytes_at places) wire.offer
+          (l.is.offer ∙ ap (λ z. offered l.link.output (want_at net st left z)) is.0 ∙ ap (λ b. offered l.link.output (cond b None (want_after (strand_at net st s) (past st s)))) out)
+
+      goes_on : Behind (λ wire. wire.out_closed ≡ false) d.wires (out_door d s o)
+      goes_on wire at =
+          let l = out_linked net st left d places formed run s o wire at in
+          let is = from_out net formed st s o l.link l.found in
+          l.is.out_closed ∙ ap (λ z. has_ended (past st z)) is.0 ∙ going
+
+  -- and what it writes can be held
+  can_hold : length net.links < 2147483648 → (o : Out) → CanHold d places s o
+  can_hold few (Same i) = (sight_held net st left d places formed run (in_door d s i), λ grip seen. few_held net st left d places formed run few grip)
+  can_hold few (Fresh bytes) = tt
+
+-- whoever was out can come home with what it wants
+pub can_come : (net : Net) (st : State) (left : Left) (d : DeskState) (places : List (Option Held)) (s : Who) (strand : Strand) (w : Asking) → IsWellFormed net →
+    ((t : Who) (q : Strand) → strand_at net st t ≡ Some q → IsOwn q (past st t)) → length net.links < 2147483648 → IsRun net st left d places → left s ≡ true → strand_at net st s ≡ Some strand →
+    has_ended (past st s) ≡ false → Some (meaning w (last_seen (past st s))) ≡ next strand (past st s) → CanCome d places s w
+can_come net st left d places s strand (want.Commit level) formed own few run out there going wants =
+    come_to net st left d places formed run s strand there (own s strand there) out going level (sym wants)
+can_come net st left d places s strand (want.Write o rec) formed own few run out there going wants = (
+  come_writing net st left d places formed run s strand there (own s strand there) out going o (written rec (last_seen (past st s))) (sym wants),
+  can_hold net st left d places formed run s strand there (own s strand there) out going few rec,
+)
+can_come net st left d places s strand _ formed own few run out there going wants = tt

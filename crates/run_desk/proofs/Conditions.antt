@@ -1,0 +1,189 @@
+-- What a run keeps suffices for a turn that the licence allows, and for a coming home with what is wanted.
+use Rattle.std.proofs.Common.{◌≡◌, inl, inr, ℕ, ◌+◌, ◌-◌, ◌^◌, ◌<◌, true, false, cond, ◌==◌, List, length, refl, sym, ◌∙◌, ap, subst, arith, Option, Some, None, slice_get, ℤ}
+use Rattle.std.specs.Prelude.{IsSome}
+use Rattle.std.specs.Option.{option_map}
+use Rattle.std.proofs.lemmas.Bool.Decides.{Decides-int_eq}
+use Rattle.pipe_model.specs.declared.net.Net.{Net}
+use Rattle.pipe_model.specs.declared.net.Link.{Link}
+use Rattle.pipe_model.specs.declared.net.Strand.{Strand}
+use Rattle.pipe_model.specs.Event.{Event, has_ended, has_reached, code_of}
+use Rattle.pipe_model.specs.Event.Event.{Up, Saw, Took, Put, Refused, Ended}
+use Rattle.pipe_model.specs.Event.Want.{Commit, Take, Done}
+use Rattle.pipe_model.specs.Next.{IsOwn}
+use Rattle.pipe_model.specs.State.{Who, State, past, strand_at, link_in, link_out}
+use Rattle.pipe_model.specs.Licence.{Left, want_after, want_at, offered, may_put, may_refuse, commits_to, licence}
+use Rattle.pipe_model.specs.WellFormed.{IsWellFormed}
+use Rattle.stage_steps.specs.Coroutine.{told}
+use Rattle.record_pool.specs.declared.pool.Held.{Held}
+use Rattle.record_pool.specs.Places.{IsHeld, holders_at, bytes_at}
+use Rattle.connectors.specs.WireState.{WireState, IsPaced, at_hand, IsHeldIn}
+use Rattle.commit_levels.specs.UnitState.{IsLevel, IsLive, IsAt}
+use Rattle.commit_levels.specs.declared.member.Progress.TheVariants.{NotAsked, Asked, Reached}
+use Rattle.confluence_laws.proofs.Basics.{cond_some, at_place, at_some, from_out, test_same}
+use Rattle.confluence_laws.proofs.Owns.{commit_asked}
+use Rattle.confluence_laws.proofs.Fitting.{wants_take}
+use Rattle.run_desk.specs.Desk.{DeskState}
+use Rattle.run_desk.specs.Pure.{inputs_of, in_door, out_door, through, wire_in, wire_out}
+use Rattle.run_desk.specs.Kept.{IsWire, link_through}
+use Rattle.run_desk.specs.Order.{IsRun}
+use Rattle.run_desk.specs.Moves.{hand_on, sight_through, Behind, CanMove}
+use Rattle.run_desk.proofs.Begins.{not_reached}
+use Rattle.run_desk.proofs.Limits.{few_holders, offers_held, sights_held, can_forget}
+use Rattle.run_desk.proofs.Wants.{take_asked, refusal_asked, end_asked, few_tooks, IsWanting, wanting, fits, put_may, refusal_may, put_ahead, refusal_level}
+
+-- a list as long as another reaches as far
+beside : {A B : Type 0} (xs : List A) (ys : List B) (k : ℕ) (x : A) → length xs ≡ length ys → slice_get xs k ≡ Some x → (y : B) × (slice_get ys k ≡ Some y)
+beside xs ys k x same at = at_some ys k (omega (arith, same, at_place xs k at))
+
+-- a wire that stands for a link
+pub record IsLinked (net : Net) (st : State) (left : Left) (d : DeskState) (places : List (Option Held)) (there : Option Link) (wire : WireState) : Type 0 where
+  pub place : ℕ
+  pub link : Link
+  pub at_wire : slice_get d.wires place ≡ Some wire
+  pub found : there ≡ Some link
+  pub is : IsWire net (bytes_at places) st left link wire
+  pub rendezvous : link.queue ≡ false
+
+module _ (net : Net) (st : State) (left : Left) (d : DeskState) (places : List (Option Held)) (formed : IsWellFormed net) (run : IsRun net st left d places) where
+  linked : (door : Option ℕ) (there : Option Link) (wire : WireState) → there ≡ link_through net.links door → through d.wires door ≡ Some wire → IsLinked net st left d places there wire
+  linked None there wire leads at = cc
+  linked (Some k) there wire leads at =
+      let l = beside d.wires net.links k wire run.kept.laid.wire_count at in
+      record { place = k; link = l.0; at_wire = at; found = leads ∙ l.1; is = run.kept.wires k l.0 wire l.1 at; rendezvous = run.kept.laid.rendezvous k l.0 l.1 }
+
+  -- the wire behind an output stands for its link
+  pub out_linked : (s : Who) (o : ℕ) (wire : WireState) → wire_out d s o ≡ Some wire → IsLinked net st left d places (link_out net st s o) wire
+  out_linked s o wire at = linked (out_door d s o) (link_out net st s o) wire (run.kept.laid.out_doors s o) at
+
+  in_linked : (s : Who) (i : ℕ) (wire : WireState) → wire_in d s i ≡ Some wire → IsLinked net st left d places (link_in net st s i) wire
+  in_linked s i wire at = linked (in_door d s i) (link_in net st s i) wire (run.kept.laid.in_doors s i) at
+
+  -- the record at hand is held
+  offer_held : (door : Option ℕ) → Behind (λ wire. IsHeldIn places wire.offer) d.wires door
+  offer_held None wire at = cc
+  offer_held (Some k) wire at = offers_held d.wires d.sights places run.pooled k wire at
+
+  hand_held : (door : Option ℕ) (grip : ℕ) → hand_on (through d.wires door) ≡ Some grip → IsHeld places grip
+  hand_held door grip hand = by_wire (through d.wires door) refl hand
+    where
+      by_wire : (x : Option WireState) → through d.wires door ≡ x → hand_on x ≡ Some grip → IsHeld places grip
+      by_wire None at e = cc
+      by_wire (Some wire) at e = subst (IsHeldIn places) (cond_some (wire.puts == wire.tooks) wire.offer e).1 (offer_held door wire at)
+
+  -- and so is what was seen
+  pub sight_held : (door : Option ℕ) → IsHeldIn places (sight_through d.sights door)
+  sight_held door = sights_held d.wires d.sights places run.pooled door
+
+  module _ (few : length net.links < 2147483648) where
+    -- every record can have a holder more
+    pub few_held : (grip : ℕ) → holders_at places grip < 4294967295
+    few_held grip = omega (arith, few, few_holders d.wires d.sights places run.pooled grip, run.kept.laid.wire_count, run.kept.laid.sight_count)
+
+  -- Commit levels
+
+  -- a strand of the net is a member of the unit
+  pub within : (s : Who) (strand : Strand) → strand_at net st s ≡ Some strand → s < length d.unit
+  within s strand there = omega (arith, at_place net.strands s there, run.kept.member_count)
+
+  -- a strand that goes on is a member that has not ended
+  pub live : (s : Who) → has_ended (past st s) ≡ false → IsLive d.unit s
+  live s going m at = (run.kept.members s m at).ended ∙ ap (λ b. cond b (Some (code_of (past st s))) None) going
+
+  asked_at : (s : Who) (level : ℤ) → IsLevel level → want_at net st left s ≡ Some (Commit level) → has_reached level (past st s) ≡ false → IsAt d.unit s level Asked
+  asked_at s level is wants not_yet m at =
+      (run.kept.members s m at).progress level is
+      ∙ ap (λ b. cond b Reached (cond (commits_to level (want_at net st left s)) Asked NotAsked)) not_yet
+      ∙ ap (λ w. cond (commits_to level w) Asked NotAsked) wants
+      ∙ ap (λ b. cond b Asked NotAsked) ((Decides-int_eq level level).1 refl)
+
+  -- one that is out and has not reached a level has not asked for it
+  pub not_asked_at : (s : Who) (level : ℤ) → IsLevel level → left s ≡ true → has_reached level (past st s) ≡ false → IsAt d.unit s level NotAsked
+  not_asked_at s level is out not_yet m at =
+      (run.kept.members s m at).progress level is
+      ∙ ap (λ b. cond b Reached (cond (commits_to level (want_at net st left s)) Asked NotAsked)) not_yet
+      ∙ ap (λ b. cond (commits_to level (cond b None (want_after (strand_at net st s) (past st s)))) Asked NotAsked) out
+
+  -- A turn
+
+  module _ (own : (t : Who) (q : Strand) → strand_at net st t ≡ Some q → IsOwn q (past st t)) (s : Who) (k : ℕ) where
+    can_rise : (level code : ℤ) → licence net st left s k ≡ Some (Up level code) → CanMove d places s (told (Up level code))
+    can_rise level code may =
+        let wants = commit_asked (want_at net st left s) level code (fits net st left s k (Up level code) may) in
+        let w = wanting net st left s (Commit level) wants in
+        let is = run.kept.early s level wants in
+        (within s w.strand w.there, live s w.going, is, asked_at s level is wants (not_reached w.strand (past st s) (own s w.strand w.there) level w.wants))
+
+    can_take : ((t : Who) → length (past st t) < 18446744073709551615) → (i : ℕ) → licence net st left s k ≡ Some (Took i) → CanMove d places s (told (Took i))
+    can_take short i may = (shown, offer_held (in_door d s i), few_taken)
+      where
+        w : IsWanting net st left s (Take i)
+        w = wanting net st left s (Take i) (take_asked (want_at net st left s) i (fits net st left s k (Took i) may))
+
+        shown : Behind (λ wire. IsSome (at_hand wire)) d.wires (in_door d s i)
+        shown wire at = run.pacing.shown s i wire w.going (wants_take w.strand (past st s) (own s w.strand w.there) i w.wants) at
+
+        few_taken : Behind (λ wire. wire.tooks < 2 ^ 64 - 1) d.wires (in_door d s i)
+        few_taken wire at =
+            let l = in_linked s i wire at in
+            let most : 2 ^ 64 - 1 ≡ 18446744073709551615 = refl in
+            omega (arith, most, l.is.tooks, few_tooks l.link.input (past st l.link.to), short l.link.to)
+
+    can_put : (o : ℕ) (rec : List ℕ) → licence net st left s k ≡ Some (Put o rec) → CanMove d places s (told (Put o rec))
+    can_put o rec may = (ahead, offer_held (out_door d s o))
+      where
+        ahead : Behind (λ wire. wire.tooks ≡ wire.puts + 1) d.wires (out_door d s o)
+        ahead wire at =
+            let l = out_linked s o wire at in
+            let less = put_ahead st l.link l.rendezvous (ap (may_put st) (sym l.found) ∙ put_may net st left s k o rec may) in
+            by_pace l.is.puts l.is.tooks less (run.pacing.paced l.place wire l.at_wire)
+          where
+            by_pace : {a b : ℕ} → wire.puts ≡ a → wire.tooks ≡ b → a < b → IsPaced wire.offer wire.puts wire.tooks → wire.tooks ≡ wire.puts + 1
+            by_pace p t less (inl even) = absurd (omega (arith, p, t, less, even))
+            by_pace p t less (inr more) = more.0
+
+    can_refuse : (o : ℕ) → licence net st left s k ≡ Some (Refused o) → CanMove d places s (told (Refused o))
+    can_refuse o may = (offers, even, offer_held (out_door d s o))
+      where
+        there : (x : Option ℕ) (rec : List ℕ) → option_map (bytes_at places) x ≡ Some rec → IsSome x
+        there None rec e = cc
+        there (Some g) rec e = refl
+
+        offers : Behind (λ wire. IsSome wire.offer) d.wires (out_door d s o)
+        offers wire at =
+            let l = out_linked s o wire at in
+            let is = from_out net formed st s o l.link l.found in
+            let w = refusal_asked (want_at net st left s) o (fits net st left s k (Refused o) may) in
+            let offered_here : offered l.link.output (want_at net st left l.link.from) ≡ Some w.0 =
+            ap (λ z. offered l.link.output (want_at net st left z)) is.0 ∙ ap (offered l.link.output) w.1 ∙ ap (λ z. cond (o == z) (Some w.0) None) is.1 ∙ ap (λ b. cond b (Some w.0) None) (test_same o) in
+            there wire.offer w.0 (l.is.offer ∙ offered_here)
+
+        even : Behind (λ wire. wire.tooks ≡ wire.puts) d.wires (out_door d s o)
+        even wire at =
+            let l = out_linked s o wire at in
+            let same = refusal_level st l.link (ap (may_refuse st) (sym l.found) ∙ refusal_may net st left s k o may) in
+            omega (arith, l.is.puts, l.is.tooks, same)
+
+    can_end : (code : ℤ) → licence net st left s k ≡ Some (Ended code) → CanMove d places s (told (Ended code))
+    can_end code may =
+        let w = wanting net st left s (Done code) (end_asked (want_at net st left s) code (fits net st left s k (Ended code) may)) in
+        (within s w.strand w.there, live s w.going, can_forget d.wires (inputs_of (slice_get d.doors s)) d.sights places run.pooled)
+
+    can_look : length net.links < 2147483648 → (i : ℕ) (rec : List ℕ) → CanMove d places s (told (Saw i rec))
+    can_look few i rec = (
+      run.kept.laid.sight_count ∙ sym run.kept.laid.wire_count,
+      λ grip hand. hand_held (in_door d s i) grip hand,
+      λ grip hand. few_held few grip,
+      sight_held (in_door d s i),
+    )
+
+-- whoever has a licence can move
+pub can_move : (net : Net) (st : State) (left : Left) (d : DeskState) (places : List (Option Held)) (s : Who) (k : ℕ) (e : Event) → IsWellFormed net →
+    ((t : Who) (q : Strand) → strand_at net st t ≡ Some q → IsOwn q (past st t)) → length net.links < 2147483648 → ((t : Who) → length (past st t) < 18446744073709551615) →
+    IsRun net st left d places → licence net st left s k ≡ Some e → CanMove d places s (told e)
+can_move net st left d places s k (Up level code) formed own few short run may = can_rise net st left d places formed run own s k level code may
+can_move net st left d places s k (Saw i rec) formed own few short run may = can_look net st left d places formed run own s k few i rec
+can_move net st left d places s k (Took i) formed own few short run may = can_take net st left d places formed run own s k short i may
+can_move net st left d places s k (Put o rec) formed own few short run may = can_put net st left d places formed run own s k o rec may
+can_move net st left d places s k (Refused o) formed own few short run may = can_refuse net st left d places formed run own s k o may
+can_move net st left d places s k (Ended code) formed own few short run may = can_end net st left d places formed run own s k code may
+can_move net st left d places s k _ formed own few short run may = tt

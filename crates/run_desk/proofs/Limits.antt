@@ -1,0 +1,54 @@
+-- What the desk holds is held in the pool, by no more holders than a record can count.
+use Rattle.std.proofs.Common.{◌≡◌, ℕ, zero, suc, ◌+◌, ◌≤◌, ◌<◌, Bool, true, List, [], ◌∷◌, length, refl, ◌∙◌, ap, arith, Option, Some, None, slice_get}
+use Rattle.std.specs.Prelude.{count_by}
+use Rattle.std.proofs.lemmas.List.Sums.{count_by-le-length}
+use Rattle.record_pool.specs.declared.pool.Held.{Held}
+use Rattle.record_pool.specs.Places.{holders_at}
+use Rattle.connectors.specs.WireState.{WireState, IsHeldIn, given_in}
+use Rattle.confluence_laws.proofs.Basics.{test_same}
+use Rattle.run_desk.specs.Pure.{joined}
+use Rattle.run_desk.specs.Order.{holds, offer_holds, IsPooled}
+use Rattle.run_desk.specs.Moves.{changed, sight_through, unseen, CanForget}
+use Rattle.run_desk.proofs.Counts.{one, count_first, count_unseen}
+use Rattle.run_desk.proofs.Pooled.{held_by, pooled_given}
+
+-- where an item passes the test, some do
+pub count_some : {A : Type 0} (p : A → Bool) (xs : List A) (k : ℕ) (x : A) → slice_get xs k ≡ Some x → p x ≡ true → 0 < count_by p xs
+count_some p [] k x at is = cc
+count_some p (z ∷ zs) zero x at is = let same : z ≡ x = cc in omega (arith, count_first p z zs, ap (λ w. one (p w)) same, ap one is)
+count_some p (z ∷ zs) (suc k) x at is = omega (arith, count_first p z zs, count_some p zs k x at is)
+
+-- a record has no more holders than there are wires and sights
+pub few_holders : (wires : List WireState) (sights : List (Option ℕ)) (places : List (Option Held)) → IsPooled wires sights places → (grip : ℕ) → holders_at places grip ≤ length wires + length sights
+few_holders wires sights places pooled grip = omega (arith, pooled.counted grip, count_by-le-length (offer_holds grip) wires, count_by-le-length (holds grip) sights)
+
+-- the record of an offer is held
+pub offers_held : (wires : List WireState) (sights : List (Option ℕ)) (places : List (Option Held)) → IsPooled wires sights places → (k : ℕ) (wire : WireState) → slice_get wires k ≡ Some wire → IsHeldIn places wire.offer
+offers_held wires sights places pooled k wire at = by_offer wire.offer refl
+  where
+    by_offer : (x : Option ℕ) → wire.offer ≡ x → IsHeldIn places x
+    by_offer None is = tt
+    by_offer (Some grip) is =
+        let some : 0 < count_by (offer_holds grip) wires = count_some (offer_holds grip) wires k wire at (ap (holds grip) is ∙ test_same grip) in
+        held_by wires sights places pooled grip (omega (arith, some))
+
+-- and so is that of a sight
+pub sights_held : (wires : List WireState) (sights : List (Option ℕ)) (places : List (Option Held)) → IsPooled wires sights places → (door : Option ℕ) → IsHeldIn places (sight_through sights door)
+sights_held wires sights places pooled None = tt
+sights_held wires sights places pooled (Some k) = by_sight (slice_get sights k) refl
+  where
+    by_sight : (x : Option (Option ℕ)) → slice_get sights k ≡ x → IsHeldIn places (joined x)
+    by_sight None at = tt
+    by_sight (Some None) at = tt
+    by_sight (Some (Some grip)) at =
+        let some : 0 < count_by (holds grip) sights = count_some (holds grip) sights k (Some grip) at (test_same grip) in
+        held_by wires sights places pooled grip (omega (arith, some))
+
+-- so all sights of a strand can be given back, one by one
+pub can_forget : (wires : List WireState) (doors sights : List (Option ℕ)) (places : List (Option Held)) → IsPooled wires sights places → CanForget doors sights places
+can_forget wires [] sights places pooled = tt
+can_forget wires (door ∷ doors) sights places pooled = (
+  sights_held wires sights places pooled door,
+  can_forget wires doors (changed sights unseen door) (given_in places (sight_through sights door))
+      (pooled_given wires wires sights (changed sights unseen door) places (sight_through sights door) pooled (λ grip. omega (arith, count_unseen grip sights door))),
+)

@@ -1,0 +1,116 @@
+-- What a licensed event tells of the want and of the wire that it moves a record on.
+use Rattle.std.proofs.Common.{◌≡◌, ℕ, suc, ◌≤◌, ◌<◌, Bool, true, false, cond, ◌&&◌, ◌||◌, not, ◌==◌, List, [], ◌∷◌, length, refl, sym, ◌∙◌, ap, arith, Option, Some, None, ℤ, nat_lt}
+use Rattle.std.proofs.lemmas.Bool.Decides.{Decides-int_eq, nat_tests}
+use Rattle.pipe_model.specs.declared.net.Net.{Net}
+use Rattle.pipe_model.specs.declared.net.Link.{Link}
+use Rattle.pipe_model.specs.declared.net.Strand.{Strand}
+use Rattle.pipe_model.specs.Event.{Event, Want, answers, has_ended, is_took, one_more, tooks_on}
+use Rattle.pipe_model.specs.Event.Event.{Took, Put, Refused, Ended}
+use Rattle.pipe_model.specs.Event.Want.{Take, Write, Done}
+use Rattle.pipe_model.specs.Next.{next}
+use Rattle.pipe_model.specs.State.{Who, State, past, strand_at, link_out}
+use Rattle.pipe_model.specs.Licence.{Left, want_after, want_at, puts, tooks, is_level, in_closed, may_put, may_refuse, write_answer, answer, licence, sight_of}
+use Rattle.confluence_laws.proofs.Basics.{cond_some, both, same_number, not_ended}
+use Rattle.confluence_laws.proofs.Owns.{answer_fits}
+use Rattle.confluence_laws.proofs.Total.{put_asked}
+
+-- Events and wants
+
+-- whoever takes a record wanted to
+pub take_asked : (want : Option Want) (i : ℕ) → answers want (Took i) ≡ true → want ≡ Some (Take i)
+take_asked (Some (Take j)) i it = ap (λ z. Some (Take z)) (sym (same_number i j it))
+take_asked None i it = cc
+take_asked (Some _) i it = cc
+
+-- whoever is refused wanted to write
+pub refusal_asked : (want : Option Want) (o : ℕ) → answers want (Refused o) ≡ true → (rec : List ℕ) × (want ≡ Some (Write o rec))
+refusal_asked (Some (Write k rec)) o it = (rec, ap (λ z. Some (Write z rec)) (sym (same_number o k it)))
+refusal_asked None o it = cc
+refusal_asked (Some _) o it = cc
+
+-- whoever ends wanted to
+pub end_asked : (want : Option Want) (code : ℤ) → answers want (Ended code) ≡ true → want ≡ Some (Done code)
+end_asked (Some (Done c)) code it = ap (λ z. Some (Done z)) (sym ((Decides-int_eq code c).0 it))
+end_asked None code it = cc
+end_asked (Some _) code it = cc
+
+-- Histories
+
+one_most : (b : Bool) (m n : ℕ) → m ≤ n → one_more b m ≤ suc n
+one_most true m n le = omega (arith, le)
+one_most false m n le = omega (arith, le)
+
+-- no more records were taken than there are events
+pub few_tooks : (i : ℕ) (h : List Event) → tooks_on i h ≤ length h
+few_tooks i [] = omega arith
+few_tooks i (e ∷ h) = omega (arith, one_most (is_took i e) (tooks_on i h) (length h) (few_tooks i h))
+
+module _ (net : Net) (st : State) (left : Left) (s : Who) where
+  -- a strand that wants something
+  pub record IsWanting (w : Want) : Type 0 where
+    pub strand : Strand
+    pub there : strand_at net st s ≡ Some strand
+    pub wants : next strand (past st s) ≡ Some w
+    pub going : has_ended (past st s) ≡ false
+
+  -- whoever wants something is there, isn't left out and hasn't ended
+  pub wanting : (w : Want) → want_at net st left s ≡ Some w → IsWanting w
+  wanting w e = by_strand (strand_at net st s) refl
+    where
+      here : (b : Bool) (x : Option Want) → cond b None x ≡ Some w → x ≡ Some w
+      here true x p = cc
+      here false x p = p
+
+      want : want_after (strand_at net st s) (past st s) ≡ Some w
+      want = here (left s) (want_after (strand_at net st s) (past st s)) e
+
+      by_strand : (x : Option Strand) → strand_at net st s ≡ x → IsWanting w
+      by_strand None is = let none : None ≡ Some w = sym (ap (λ z. want_after z (past st s)) is) ∙ want in cc
+      by_strand (Some strand) is = record {
+        strand = strand;
+        there = is;
+        wants = sym (ap (λ z. want_after z (past st s)) is) ∙ want;
+        going = not_ended (strand_at net st s) (past st s) w want;
+      }
+
+  -- what happens answers what is wanted
+  pub fits : (k : ℕ) (e : Event) → licence net st left s k ≡ Some e → answers (want_at net st left s) e ≡ true
+  fits k e may = answer_fits (sight_of net st left s) (λ text. refl) k e (want_at net st left s) may
+
+  put_tells : (o : ℕ) (x rec : List ℕ) (a b : Bool) → write_answer o x a b ≡ Some (Put o rec) → a ≡ true
+  put_tells o x rec true b p = refl
+  put_tells o x rec false true p = cc
+  put_tells o x rec false false p = cc
+
+  refusal_tells : (o : ℕ) (x : List ℕ) (a b : Bool) → write_answer o x a b ≡ Some (Refused o) → b ≡ true
+  refusal_tells o x true b p = cc
+  refusal_tells o x false true p = refl
+  refusal_tells o x false false p = cc
+
+  -- what answers the want to write
+  written_by : (k o : ℕ) (x : List ℕ) (e : Event) → want_at net st left s ≡ Some (Write o x) → licence net st left s k ≡ Some e →
+      write_answer o x (may_put st (link_out net st s o)) (may_refuse st (link_out net st s o)) ≡ Some e
+  written_by k o x e want may =
+      (cond_some (k == o) (write_answer o x (may_put st (link_out net st s o)) (may_refuse st (link_out net st s o))) (ap (answer (sight_of net st left s) k) (sym want) ∙ may)).1
+
+  -- a record is put where it may be
+  pub put_may : (k o : ℕ) (rec : List ℕ) → licence net st left s k ≡ Some (Put o rec) → may_put st (link_out net st s o) ≡ true
+  put_may k o rec may =
+      let w = put_asked (want_at net st left s) o rec (fits k (Put o rec) may) in
+      put_tells o w.0 rec (may_put st (link_out net st s o)) (may_refuse st (link_out net st s o)) (written_by k o w.0 (Put o rec) w.1 may)
+
+  -- and refused where it may be
+  pub refusal_may : (k o : ℕ) → licence net st left s k ≡ Some (Refused o) → may_refuse st (link_out net st s o) ≡ true
+  refusal_may k o may =
+      let w = refusal_asked (want_at net st left s) o (fits k (Refused o) may) in
+      refusal_tells o w.0 (may_put st (link_out net st s o)) (may_refuse st (link_out net st s o)) (written_by k o w.0 (Refused o) w.1 may)
+
+-- what may be put on a rendezvous was taken before
+pub put_ahead : (st : State) (link : Link) → link.queue ≡ false → may_put st (Some link) ≡ true → puts st link < tooks st link
+put_ahead st link rendezvous may =
+    let taken : nat_lt (puts st link) (tooks st link) ≡ true = ap (λ b. b || nat_lt (puts st link) (tooks st link)) (sym rendezvous) ∙ may in
+    grind (arith, nat_tests, taken)
+
+-- what may be refused wasn't taken
+pub refusal_level : (st : State) (link : Link) → may_refuse st (Some link) ≡ true → puts st link ≡ tooks st link
+refusal_level st link may = same_number (puts st link) (tooks st link) (both (in_closed st link) (is_level st link) (both (not link.queue) (in_closed st link && is_level st link) may).1).1
