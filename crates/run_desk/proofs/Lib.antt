@@ -9,4 +9,5 @@ pub mod Limits
 pub mod Pooled
 pub mod Sees
 pub mod Streams
+pub mod Texts
 pub mod Wants
