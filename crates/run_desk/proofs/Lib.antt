@@ -1,4 +1,5 @@
 pub mod Begins
+pub mod Behind
 pub mod Comings
 pub mod Conditions
 pub mod Counts
@@ -6,6 +7,7 @@ pub mod Early
 pub mod Gives
 pub mod Holds
 pub mod Limits
+pub mod Offers
 pub mod Pooled
 pub mod Sees
 pub mod Streams
