@@ -6,6 +6,7 @@ pub mod Counts
 pub mod Early
 pub mod Gives
 pub mod Holds
+pub mod Homes
 pub mod Limits
 pub mod Offers
 pub mod Pooled
