@@ -9,6 +9,7 @@ pub mod Holds
 pub mod Homes
 pub mod Limits
 pub mod Offers
+pub mod Pacing
 pub mod Pooled
 pub mod Sees
 pub mod Streams

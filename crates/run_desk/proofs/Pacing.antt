@@ -1,0 +1,353 @@
+-- Each wire is as far as its strands are, after a turn and after a strand comes home.
+use Rattle.std.proofs.Common.{◌≡◌, ◌≢◌, ◌⊎◌, inl, inr, ℕ, suc, ◌+◌, ◌<◌, Bool, true, false, cond, ◌&&◌, ◌||◌, not, ◌==◌, nat_lt, ℤ, List, [], ◌∷◌, refl, sym, ◌∙◌, ap, subst, arith, Option, Some, None, is_some, slice_get}
+use Rattle.std.specs.Prelude.{IsSome}
+use Rattle.std.specs.Option.{option_map}
+use Rattle.std.proofs.lemmas.Bool.Decides.{nat_tests}
+use Rattle.pipe_model.specs.declared.net.Net.{Net}
+use Rattle.pipe_model.specs.declared.net.Link.{Link}
+use Rattle.pipe_model.specs.declared.net.Strand.{Strand}
+use Rattle.pipe_model.specs.declared.step.Seen.{Seen}
+use Rattle.pipe_model.specs.declared.step.Seen.TheVariants as Told
+use Rattle.pipe_model.specs.Event.{Event, Want, has_ended, in_sight, answers}
+use Rattle.pipe_model.specs.Event.Event.{Up, Saw, SawEnd, SawAllEnd, Took, Put, Refused, Primed, Opened, Joined, Severed, Ended}
+use Rattle.pipe_model.specs.Event.Want.{Take}
+use Rattle.pipe_model.specs.Next.{next, IsOwn}
+use Rattle.pipe_model.specs.State.{Who, State, past, strand_at, with_event}
+use Rattle.pipe_model.specs.Licence.{Left, want_after, want_at, in_closed, licence, sight_of}
+use Rattle.pipe_model.specs.WellFormed.{IsWellFormed}
+use Rattle.stage_steps.specs.Coroutine.{told}
+use Rattle.confluence_laws.proofs.Basics.{cond_some, both, same_number, equal_or_not, test_same, at_same, at_other, not_ended}
+use Rattle.confluence_laws.proofs.Owns.{answer_fits, sight_before}
+use Rattle.confluence_laws.proofs.Fitting.{wants_take}
+use Rattle.connectors.specs.WireState.{WireState, IsPaced, at_hand, taken, settled, cleared}
+use Rattle.run_desk.specs.declared.seat.Ask.{Ask}
+use Rattle.run_desk.specs.declared.seat.Ask.TheVariants as Now
+use Rattle.run_desk.specs.Desk.{DeskState}
+use Rattle.run_desk.specs.Pure as Pure
+use Rattle.run_desk.specs.Kept.{IsKept}
+use Rattle.run_desk.specs.Moves.{changed, all_changed, in_shut, out_shut, made}
+use Rattle.run_desk.specs.Order.{IsPacing}
+use Rattle.run_desk.proofs.Behind.{both_have, now_behind, behind_in}
+use Rattle.run_desk.proofs.Sees.{seen_is}
+
+-- Wires
+
+-- the wires have the same offer and are as far
+record IsLike (wire old : WireState) : Type 0 where
+  offer : wire.offer ≡ old.offer
+  puts : wire.puts ≡ old.puts
+  tooks : wire.tooks ≡ old.tooks
+
+like_paced : (wire old : WireState) → IsLike wire old → IsPaced old.offer old.puts old.tooks → IsPaced wire.offer wire.puts wire.tooks
+like_paced wire old is (inl e) = inl (is.tooks ∙ e ∙ sym is.puts)
+like_paced wire old is (inr p) = inr (is.tooks ∙ p.0 ∙ ap (λ z. z + 1) (sym is.puts), subst IsSome (sym is.offer) p.1)
+
+like_hand : (wire old : WireState) → IsLike wire old → IsSome (at_hand old) → IsSome (at_hand wire)
+like_hand wire old is hand =
+    subst IsSome (sym (ap (λ z. cond (z == wire.tooks) wire.offer None) is.puts ∙ ap (λ z. cond (old.puts == z) wire.offer None) is.tooks ∙ ap (λ z. cond (old.puts == old.tooks) z None) is.offer)) hand
+
+-- a change that leaves a wire so leaves all of them so
+all_like : (f : WireState → WireState) → ((wire : WireState) → IsLike (f wire) wire) → (doors : List (Option ℕ)) (wires : List WireState) (j : ℕ) (wire : WireState) →
+    slice_get (all_changed f doors wires) j ≡ Some wire → (old : WireState) × (slice_get wires j ≡ Some old) × IsLike wire old
+all_like f like [] wires j wire at = (wire, at, record { offer = refl; puts = refl; tooks = refl })
+all_like f like (door ∷ doors) wires j wire at =
+    let r = all_like f like doors (changed wires f door) j wire at in
+    elim (now_behind wires f door j r.0 r.1) [
+      | inl before ↦ (r.0, before.0, r.2)
+      | inr now ↦
+          let one : IsLike r.0 now.0 = subst (λ z. IsLike z now.0) (sym now.2) (like now.0) in
+          (now.0, now.1, record { offer = r.2.offer ∙ one.offer; puts = r.2.puts ∙ one.puts; tooks = r.2.tooks ∙ one.tooks })
+    ]
+
+-- a record at hand is an offer on a wire with as many puts as takes
+hand_is : (wire : WireState) → IsSome (at_hand wire) → (wire.puts ≡ wire.tooks) × IsSome wire.offer
+hand_is wire hand = go (wire.puts == wire.tooks) refl hand
+  where
+    go : (b : Bool) → (wire.puts == wire.tooks) ≡ b → IsSome (cond b wire.offer None) → (wire.puts ≡ wire.tooks) × IsSome wire.offer
+    go true e p = (same_number _ _ e, p)
+    go false e p = cc
+
+less_is : (a b : ℕ) → nat_lt a b ≡ true → a < b
+less_is a b p = grind (arith, nat_tests)
+
+-- What is told tells of the desk
+
+module _ (d : DeskState) (s : Who) where
+  -- what has to be so where a strand is told this
+  abbrev Fact : Seen → Type 0
+  Fact (Told.Saw i) = Pure.shows (Pure.wire_in d s i) ≡ true
+  Fact (Told.Put o) = Pure.can_put (Pure.wire_out d s o) ≡ true
+  Fact (Told.Refused o) = Pure.can_refuse (Pure.wire_out d s o) ≡ true
+  Fact _ = Unit {0}
+
+  told_plain : (now seen : Seen) → Some now ≡ Some seen → Fact now → Fact seen
+  told_plain now seen e is = subst Fact (let same : now ≡ seen = cc in same) is
+
+  read_tells : (j : ℕ) (seen : Seen) (hand over : Bool) → Pure.shows (Pure.wire_in d s j) ≡ hand → Pure.read_seen j hand over ≡ Some seen → Fact seen
+  read_tells j seen true over is e = told_plain (Told.Saw j) seen e is
+  read_tells j seen false true is e = told_plain (Told.SawEnd j) seen e tt
+  read_tells j seen false false is e = cc
+
+  any_tells : (j : ℕ) (seen : Seen) (hand over : Bool) → Pure.shows (Pure.wire_in d s j) ≡ hand → Pure.any_seen j hand over ≡ Some seen → Fact seen
+  any_tells j seen true over is e = told_plain (Told.Saw j) seen e is
+  any_tells j seen false true is e = told_plain Told.SawAllEnd seen e tt
+  any_tells j seen false false is e = cc
+
+  write_tells : (o : ℕ) (seen : Seen) (put refuse : Bool) → Pure.can_put (Pure.wire_out d s o) ≡ put → Pure.can_refuse (Pure.wire_out d s o) ≡ refuse → Pure.write_seen o put refuse ≡ Some seen → Fact seen
+  write_tells o seen true refuse may must e = told_plain (Told.Put o) seen e may
+  write_tells o seen false true may must e = told_plain (Told.Refused o) seen e must
+  write_tells o seen false false may must e = cc
+
+  up_tells : (level : ℤ) (seen : Seen) (code : Option ℤ) → Pure.up_seen level code ≡ Some seen → Fact seen
+  up_tells level seen None e = cc
+  up_tells level seen (Some code) e = told_plain (Told.Up level code) seen e tt
+
+  primed_tells : (seen : Seen) (primed : Option Bool) → Pure.primed_seen primed ≡ Some seen → Fact seen
+  primed_tells seen None e = cc
+  primed_tells seen (Some b) e = told_plain (Told.Primed b) seen e tt
+
+  tells : (k : ℕ) (seen : Seen) (ask : Ask) → Pure.seen_by d s k ask ≡ Some seen → Fact seen
+  tells k seen Now.Nothing e = cc
+  tells k seen (Now.Commit level) e = up_tells level seen (Pure.level_code d level) (cond_some (k == 0) (Pure.up_seen level (Pure.level_code d level)) e).1
+  tells k seen (Now.Read i) e =
+      read_tells i seen (Pure.shows (Pure.wire_in d s i)) (Pure.is_over (Pure.wire_in d s i)) refl (cond_some (k == i) (Pure.read_seen i (Pure.shows (Pure.wire_in d s i)) (Pure.is_over (Pure.wire_in d s i))) e).1
+  tells k seen Now.Any e = any_tells k seen (Pure.shows (Pure.wire_in d s k)) ((k == 0) && Pure.all_over d s) refl e
+  tells k seen Now.Gate e = read_tells k seen (Pure.shows (Pure.wire_in d s k)) ((k == 0) && Pure.is_over (Pure.wire_in d s k)) refl e
+  tells k seen (Now.Take i) e = told_plain (Told.Took i) seen (cond_some (k == i) (Some (Told.Took i)) e).1 tt
+  tells k seen (Now.Write o) e =
+      write_tells o seen (Pure.can_put (Pure.wire_out d s o)) (Pure.can_refuse (Pure.wire_out d s o)) refl refl
+      (cond_some (k == o) (Pure.write_seen o (Pure.can_put (Pure.wire_out d s o)) (Pure.can_refuse (Pure.wire_out d s o))) e).1
+  tells k seen Now.Primed e = primed_tells seen (Pure.primed_at d s) (cond_some (k == 0) (Pure.primed_seen (Pure.primed_at d s)) e).1
+  tells k seen Now.Issue e = cc
+  tells k seen (Now.Join u) e = cc
+  tells k seen (Now.Cut i) e = told_plain (Told.Cut i) seen (cond_some (k == i) (Some (Told.Cut i)) e).1 tt
+  tells k seen (Now.Done code) e = told_plain (Told.Ended code) seen (cond_some (k == 0) (Some (Told.Ended code)) e).1 tt
+
+-- A turn
+
+-- who takes a record has asked to
+took_asked : (want : Option Want) (i : ℕ) → answers want (Took i) ≡ true → want ≡ Some (Take i)
+took_asked (Some (Take j)) i p = ap (λ z. Some (Take z)) (sym (same_number i j p))
+took_asked None i p = cc
+took_asked (Some _) i p = cc
+
+module _ (net : Net) (texts : ℕ → List ℕ) (st : State) (left : Left) (d : DeskState) (s : Who) (k : ℕ) (formed : IsWellFormed net)
+    (own : (t : Who) (q : Strand) → strand_at net st t ≡ Some q → IsOwn q (past st t)) (kept : IsKept net texts st left d) (pacing : IsPacing st d) where
+  -- where nothing is asked for, nothing is answered
+  asks : (e : Event) → answers (want_at net st left s) e ≡ true → (want : Want) × (want_at net st left s ≡ Some want)
+  asks e ans = go (want_at net st left s) refl ans
+    where
+      go : (x : Option Want) → want_at net st left s ≡ x → answers x e ≡ true → (want : Want) × (want_at net st left s ≡ Some want)
+      go None is p = cc
+      go (Some want) is p = (want, is)
+
+  given_all : (b : Bool) (x : Option Want) (want : Want) → cond b None x ≡ Some want → x ≡ Some want
+  given_all true x want e = cc
+  given_all false x want e = e
+
+  -- the pace of a desk with these wires
+  with_wires : (now : State) (new : DeskState) (wires : List WireState) → new.wires ≡ wires → new.doors ≡ d.doors →
+      ((j : ℕ) (wire : WireState) → slice_get wires j ≡ Some wire → IsPaced wire.offer wire.puts wire.tooks) →
+      ((t : Who) (i j : ℕ) (wire : WireState) → has_ended (past now t) ≡ false → in_sight i (past now t) ≡ true → Pure.in_door d t i ≡ Some j → slice_get wires j ≡ Some wire → IsSome (at_hand wire)) →
+      IsPacing now new
+  with_wires now new wires wires_are doors_are paced shown = record {
+    paced = λ j wire at. paced j wire (sym (ap (λ z. slice_get z j) wires_are) ∙ at);
+    shown = λ t i wire going sight at. by_door t i wire going sight (Pure.in_door d t i) refl
+        (sym (ap (λ z. Pure.through z (Pure.in_door new t i)) wires_are ∙ ap (λ z. Pure.through wires (Pure.joined (slice_get (Pure.inputs_of (slice_get z t)) i))) doors_are) ∙ at);
+  }
+    where
+      by_door : (t : Who) (i : ℕ) (wire : WireState) → has_ended (past now t) ≡ false → in_sight i (past now t) ≡ true → (x : Option ℕ) → Pure.in_door d t i ≡ x → Pure.through wires x ≡ Some wire → IsSome (at_hand wire)
+      by_door t i wire going sight None door at = cc
+      by_door t i wire going sight (Some j) door at = shown t i j wire going sight door at
+
+  -- what was at hand
+  was_shown : (t : Who) (i j : ℕ) (wire : WireState) → has_ended (past st t) ≡ false → in_sight i (past st t) ≡ true → Pure.in_door d t i ≡ Some j → slice_get d.wires j ≡ Some wire → IsSome (at_hand wire)
+  was_shown t i j wire going sight door at = pacing.shown t i wire going sight (ap (Pure.through d.wires) door ∙ at)
+
+  -- a wire behind two doors is behind one
+  one_door : (t u : Who) (i m j : ℕ) (wire : WireState) → slice_get d.wires j ≡ Some wire → Pure.in_door d t i ≡ Some j → Pure.in_door d u m ≡ Some j → (t ≡ u) × (i ≡ m)
+  one_door t u i m j wire at door other =
+      let link = both_have d.wires net.links j wire kept.laid.wire_count at in
+      let a = behind_in net st d kept.laid t i j link.0 door link.1 in
+      let b = behind_in net st d kept.laid u m j link.0 other link.1 in
+      (sym a.0 ∙ b.0, sym a.1 ∙ b.1)
+
+  module _ (e : Event) (may : licence net st left s k ≡ Some e) where
+    answer_is : answers (want_at net st left s) e ≡ true
+    answer_is = answer_fits (sight_of net st left s) (λ text. refl) k e (want_at net st left s) may
+
+    goes : has_ended (past st s) ≡ false
+    goes =
+        let a = asks e answer_is in
+        not_ended (strand_at net st s) (past st s) a.0 (given_all (left s) (want_after (strand_at net st s) (past st s)) a.0 a.1)
+
+    told_is : Fact d s (told e)
+    told_is = tells d s k (told e) (Pure.ask_at d s) (seen_is net texts st left d formed kept s k ∙ ap (option_map told) may)
+
+    -- who hasn't ended hadn't
+    went : (t : Who) → has_ended (past (with_event st s e) t) ≡ false → has_ended (past st t) ≡ false
+    went t going = elim (equal_or_not t s) [
+      | inl is ↦ ap (λ z. has_ended (past st z)) is ∙ goes
+      | inr apart ↦ sym (ap has_ended (at_other st s e t apart)) ∙ going
+    ]
+
+    -- what is in sight was, but for a record that is seen now
+    saw : (t : Who) (i : ℕ) → in_sight i (past (with_event st s e) t) ≡ true → (in_sight i (past st t) ≡ true) ⊎ ((t ≡ s) × (rec : List ℕ) × (e ≡ Saw i rec))
+    saw t i sight = elim (equal_or_not t s) [
+      | inl is ↦ by_sight is (sight_before i e (past st s) (sym (ap (in_sight i) (ap (past (with_event st s e)) is ∙ at_same st s e)) ∙ sight))
+      | inr apart ↦ inl (sym (ap (in_sight i) (at_other st s e t apart)) ∙ sight)
+    ]
+      where
+        by_sight : t ≡ s → (in_sight i (past st s) ≡ true) ⊎ ((rec : List ℕ) × (e ≡ Saw i rec)) → (in_sight i (past st t) ≡ true) ⊎ ((t ≡ s) × (rec : List ℕ) × (e ≡ Saw i rec))
+        by_sight is (inl before) = inl (ap (λ z. in_sight i (past st z)) is ∙ before)
+        by_sight is (inr now) = inr (is, now.0, now.1)
+
+    saw_before : ((i : ℕ) (rec : List ℕ) → e ≢ Saw i rec) → (t : Who) (i : ℕ) → in_sight i (past (with_event st s e) t) ≡ true → in_sight i (past st t) ≡ true
+    saw_before none t i sight = elim (saw t i sight) [ inl before ↦ before | inr now ↦ absurd (none i now.1 now.2) ]
+
+    -- an event that moves nothing
+    pacing_still : ((i : ℕ) (rec : List ℕ) → e ≢ Saw i rec) → (new : DeskState) → new.wires ≡ d.wires → new.doors ≡ d.doors → IsPacing (with_event st s e) new
+    pacing_still none new wires_are doors_are = with_wires (with_event st s e) new d.wires wires_are doors_are pacing.paced
+        (λ t i j wire going sight door at. was_shown t i j wire (went t going) (saw_before none t i sight) door at)
+
+  -- a record that is seen is at hand
+  pacing_saw : (i : ℕ) (rec : List ℕ) → licence net st left s k ≡ Some (Saw i rec) → IsPacing (with_event st s (Saw i rec)) (made d s (Told.Saw i))
+  pacing_saw i rec may = with_wires (with_event st s (Saw i rec)) (made d s (Told.Saw i)) d.wires refl refl pacing.paced shown
+    where
+      shown : (t : Who) (m j : ℕ) (wire : WireState) → has_ended (past (with_event st s (Saw i rec)) t) ≡ false → in_sight m (past (with_event st s (Saw i rec)) t) ≡ true →
+          Pure.in_door d t m ≡ Some j → slice_get d.wires j ≡ Some wire → IsSome (at_hand wire)
+      shown t m j wire going sight door at = elim (saw (Saw i rec) may t m sight) [
+        | inl before ↦ was_shown t m j wire (went (Saw i rec) may t going) before door at
+        | inr now ↦
+            let place : i ≡ m = (let same : Saw i rec ≡ Saw m now.1 = now.2 in cc) in
+            let here : Pure.wire_in d s i ≡ Some wire = ap (λ z. Pure.wire_in d z i) (sym now.0) ∙ ap (Pure.wire_in d t) place ∙ ap (Pure.through d.wires) door ∙ at in
+            sym (ap Pure.shows here) ∙ told_is (Saw i rec) may
+      ]
+
+  -- one that is taken was at hand, and is in sight no more
+  pacing_took : (i : ℕ) → licence net st left s k ≡ Some (Took i) → IsPacing (with_event st s (Took i)) (made d s (Told.Took i))
+  pacing_took i may = with_wires (with_event st s (Took i)) (made d s (Told.Took i)) (changed d.wires taken (Pure.in_door d s i)) refl refl paced shown
+    where
+      wants : want_after (strand_at net st s) (past st s) ≡ Some (Take i)
+      wants = given_all (left s) (want_after (strand_at net st s) (past st s)) (Take i) (took_asked (want_at net st left s) i (answer_is (Took i) may))
+
+      in_view : in_sight i (past st s) ≡ true
+      in_view = by_strand (strand_at net st s) refl wants
+        where
+          by_strand : (p : Option Strand) → strand_at net st s ≡ p → want_after p (past st s) ≡ Some (Take i) → in_sight i (past st s) ≡ true
+          by_strand None at e = cc
+          by_strand (Some strand) at e = wants_take strand (past st s) (own s strand at) i e
+
+      paced : (j : ℕ) (wire : WireState) → slice_get (changed d.wires taken (Pure.in_door d s i)) j ≡ Some wire → IsPaced wire.offer wire.puts wire.tooks
+      paced j wire at = elim (now_behind d.wires taken (Pure.in_door d s i) j wire at) [
+        | inl before ↦ pacing.paced j wire before.0
+        | inr now ↦
+            let hand = hand_is now.0 (was_shown s i j now.0 (goes (Took i) may) in_view now.3 now.1) in
+            let here : IsPaced (taken now.0).offer (taken now.0).puts (taken now.0).tooks = inr (ap (λ z. z + 1) (sym hand.0), hand.1) in
+            subst (λ z. IsPaced z.offer z.puts z.tooks) (sym now.2) here
+      ]
+
+      taken_off : (t : Who) (m : ℕ) → t ≡ s → m ≡ i → in_sight m (past (with_event st s (Took i)) t) ≡ false
+      taken_off t m is place =
+          ap (λ z. in_sight m (past (with_event st s (Took i)) z)) is ∙ ap (in_sight m) (at_same st s (Took i)) ∙ ap (λ z. in_sight z (Took i ∷ past st s)) place
+          ∙ ap (λ b. not b && in_sight i (past st s)) (test_same i)
+
+      shown : (t : Who) (m j : ℕ) (wire : WireState) → has_ended (past (with_event st s (Took i)) t) ≡ false → in_sight m (past (with_event st s (Took i)) t) ≡ true →
+          Pure.in_door d t m ≡ Some j → slice_get (changed d.wires taken (Pure.in_door d s i)) j ≡ Some wire → IsSome (at_hand wire)
+      shown t m j wire going sight door at = elim (now_behind d.wires taken (Pure.in_door d s i) j wire at) [
+        | inl before ↦ was_shown t m j wire (went (Took i) may t going) (saw_before (Took i) may (λ z rec. λ z. cc) t m sight) door before.0
+        | inr now ↦
+            let one = one_door t s m i j now.0 now.1 door now.3 in
+            let no : true ≡ false = sym sight ∙ taken_off t m one.0 one.1 in cc
+      ]
+
+  -- one that is put was taken, so it was at hand no more
+  pacing_put : (o : ℕ) (rec : List ℕ) → licence net st left s k ≡ Some (Put o rec) → IsPacing (with_event st s (Put o rec)) (made d s (Told.Put o))
+  pacing_put o rec may = with_wires (with_event st s (Put o rec)) (made d s (Told.Put o)) (changed d.wires settled (Pure.out_door d s o)) refl refl paced shown
+    where
+      was_taken : (j : ℕ) (wire : WireState) → Pure.out_door d s o ≡ Some j → slice_get d.wires j ≡ Some wire → wire.puts < wire.tooks
+      was_taken j wire door at = less_is wire.puts wire.tooks (sym (ap Pure.can_put (ap (Pure.through d.wires) door ∙ at)) ∙ told_is (Put o rec) may)
+
+      level : (wire : WireState) → wire.puts < wire.tooks → IsPaced wire.offer wire.puts wire.tooks → IsPaced (settled wire).offer (settled wire).puts (settled wire).tooks
+      level wire less (inl e) = absurd (omega (arith, less, e))
+      level wire less (inr p) = inl p.0
+
+      paced : (j : ℕ) (wire : WireState) → slice_get (changed d.wires settled (Pure.out_door d s o)) j ≡ Some wire → IsPaced wire.offer wire.puts wire.tooks
+      paced j wire at = elim (now_behind d.wires settled (Pure.out_door d s o) j wire at) [
+        | inl before ↦ pacing.paced j wire before.0
+        | inr now ↦ subst (λ z. IsPaced z.offer z.puts z.tooks) (sym now.2) (level now.0 (was_taken j now.0 now.3 now.1) (pacing.paced j now.0 now.1))
+      ]
+
+      shown : (t : Who) (m j : ℕ) (wire : WireState) → has_ended (past (with_event st s (Put o rec)) t) ≡ false → in_sight m (past (with_event st s (Put o rec)) t) ≡ true →
+          Pure.in_door d t m ≡ Some j → slice_get (changed d.wires settled (Pure.out_door d s o)) j ≡ Some wire → IsSome (at_hand wire)
+      shown t m j wire going sight door at =
+          let seen = saw_before (Put o rec) may (λ z other. λ q. cc) t m sight in
+          elim (now_behind d.wires settled (Pure.out_door d s o) j wire at) [
+            | inl before ↦ was_shown t m j wire (went (Put o rec) may t going) seen door before.0
+            | inr now ↦
+                let hand = hand_is now.0 (was_shown t m j now.0 (went (Put o rec) may t going) seen door now.1) in
+                absurd (omega (arith, hand.0, was_taken j now.0 now.3 now.1))
+          ]
+
+  -- one that is refused is not in sight, since its consumer has ended
+  pacing_refused : (o : ℕ) → licence net st left s k ≡ Some (Refused o) → IsPacing (with_event st s (Refused o)) (made d s (Told.Refused o))
+  pacing_refused o may = with_wires (with_event st s (Refused o)) (made d s (Told.Refused o)) (changed d.wires cleared (Pure.out_door d s o)) refl refl paced shown
+    where
+      was_shut : (j : ℕ) (wire : WireState) → Pure.out_door d s o ≡ Some j → slice_get d.wires j ≡ Some wire → (wire.in_closed ≡ true) × (Pure.is_even wire ≡ true)
+      was_shut j wire door at = both wire.in_closed (Pure.is_even wire) (sym (ap Pure.can_refuse (ap (Pure.through d.wires) door ∙ at)) ∙ told_is (Refused o) may)
+
+      paced : (j : ℕ) (wire : WireState) → slice_get (changed d.wires cleared (Pure.out_door d s o)) j ≡ Some wire → IsPaced wire.offer wire.puts wire.tooks
+      paced j wire at = elim (now_behind d.wires cleared (Pure.out_door d s o) j wire at) [
+        | inl before ↦ pacing.paced j wire before.0
+        | inr now ↦
+            let even : now.0.puts ≡ now.0.tooks = same_number _ _ (was_shut j now.0 now.3 now.1).1 in
+            let here : IsPaced (cleared now.0).offer (cleared now.0).puts (cleared now.0).tooks = inl (sym even) in
+            subst (λ z. IsPaced z.offer z.puts z.tooks) (sym now.2) here
+      ]
+
+      shown : (t : Who) (m j : ℕ) (wire : WireState) → has_ended (past (with_event st s (Refused o)) t) ≡ false → in_sight m (past (with_event st s (Refused o)) t) ≡ true →
+          Pure.in_door d t m ≡ Some j → slice_get (changed d.wires cleared (Pure.out_door d s o)) j ≡ Some wire → IsSome (at_hand wire)
+      shown t m j wire going sight door at = elim (now_behind d.wires cleared (Pure.out_door d s o) j wire at) [
+        | inl before ↦ was_shown t m j wire (went (Refused o) may t going) (saw_before (Refused o) may (λ z rec. λ q. cc) t m sight) door before.0
+        | inr now ↦
+            let link = both_have d.wires net.links j now.0 kept.laid.wire_count now.1 in
+            let to = (behind_in net st d kept.laid t m j link.0 door link.1).0 in
+            let shut : has_ended (past st link.0.to) ≡ true = sym (kept.wires j link.0 now.0 link.1 now.1).in_closed ∙ (was_shut j now.0 now.3 now.1).0 in
+            let no : true ≡ false = sym shut ∙ ap (λ z. has_ended (past st z)) to ∙ went (Refused o) may t going in cc
+      ]
+
+  -- an end only closes
+  pacing_ended : (code : ℤ) → licence net st left s k ≡ Some (Ended code) → IsPacing (with_event st s (Ended code)) (made d s (Told.Ended code))
+  pacing_ended code may = with_wires (with_event st s (Ended code)) (made d s (Told.Ended code)) wires refl refl
+      (λ j wire at. let r = before j wire at in like_paced wire r.0 r.2 (pacing.paced j r.0 r.1))
+      (λ t i j wire going sight door at. let r = before j wire at in
+        like_hand wire r.0 r.2 (was_shown t i j r.0 (went (Ended code) may t going) (saw_before (Ended code) may (λ z rec. λ q. cc) t i sight) door r.1))
+    where
+      wires : List WireState
+      wires = all_changed in_shut (Pure.inputs_of (slice_get d.doors s)) (all_changed out_shut (Pure.outputs_of (slice_get d.doors s)) d.wires)
+
+      before : (j : ℕ) (wire : WireState) → slice_get wires j ≡ Some wire → (old : WireState) × (slice_get d.wires j ≡ Some old) × IsLike wire old
+      before j wire at =
+          let a = all_like in_shut (λ w. record { offer = refl; puts = refl; tooks = refl }) (Pure.inputs_of (slice_get d.doors s)) (all_changed out_shut (Pure.outputs_of (slice_get d.doors s)) d.wires) j wire at in
+          let b = all_like out_shut (λ w. record { offer = refl; puts = refl; tooks = refl }) (Pure.outputs_of (slice_get d.doors s)) d.wires j a.0 a.1 in
+          (b.0, b.1, record { offer = a.2.offer ∙ b.2.offer; puts = a.2.puts ∙ b.2.puts; tooks = a.2.tooks ∙ b.2.tooks })
+
+  by_event : (e : Event) → licence net st left s k ≡ Some e → IsPacing (with_event st s e) (made d s (told e))
+  by_event (Saw i rec) may = pacing_saw i rec may
+  by_event (Took i) may = pacing_took i may
+  by_event (Put o rec) may = pacing_put o rec may
+  by_event (Refused o) may = pacing_refused o may
+  by_event (Ended code) may = pacing_ended code may
+  by_event (Up level code) may = pacing_still (Up level code) may (λ i rec. λ q. cc) (made d s (Told.Up level code)) refl refl
+  by_event (SawEnd i) may = pacing_still (SawEnd i) may (λ z rec. λ q. cc) (made d s (Told.SawEnd i)) refl refl
+  by_event SawAllEnd may = pacing_still SawAllEnd may (λ z rec. λ q. cc) (made d s Told.SawAllEnd) refl refl
+  by_event (Primed b) may = pacing_still (Primed b) may (λ z rec. λ q. cc) (made d s (Told.Primed b)) refl refl
+  by_event (Opened u) may = pacing_still (Opened u) may (λ z rec. λ q. cc) (made d s (Told.Opened u)) refl refl
+  by_event (Joined u code) may = pacing_still (Joined u code) may (λ z rec. λ q. cc) (made d s (Told.Joined u code)) refl refl
+  by_event (Severed i) may = pacing_still (Severed i) may (λ z rec. λ q. cc) (made d s (Told.Cut i)) refl refl
+
+-- a turn keeps the pace
+pub pacing_made : (net : Net) (texts : ℕ → List ℕ) (st : State) (left : Left) (d : DeskState) (s : Who) (k : ℕ) (e : Event) → IsWellFormed net →
+    ((t : Who) (q : Strand) → strand_at net st t ≡ Some q → IsOwn q (past st t)) → IsKept net texts st left d → IsPacing st d → licence net st left s k ≡ Some e →
+    IsPacing (with_event st s e) (made d s (told e))
+pacing_made net texts st left d s k e formed own kept pacing may = by_event net texts st left d s k formed own kept pacing e may
