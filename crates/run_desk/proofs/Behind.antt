@@ -1,5 +1,5 @@
 -- What stands behind a door, before and after a change there.
-use Rattle.std.proofs.Common.{◌≡◌, ◌≢◌, ◌⊎◌, inl, inr, ℕ, zero, suc, Bool, ◌&&◌, ◌==◌, List, [], ◌∷◌, length, length-set, refl, sym, ◌∙◌, ap, subst, arith, Option, Some, None, slice_get, slice_set}
+use Rattle.std.proofs.Common.{◌≡◌, ◌≢◌, ◌⊎◌, inl, inr, ℕ, zero, suc, ◌&&◌, ◌==◌, List, [], ◌∷◌, length, length-set, refl, sym, ◌∙◌, ap, subst, arith, Option, Some, None, slice_get, slice_set}
 use Rattle.pipe_model.specs.declared.net.Net.{Net}
 use Rattle.pipe_model.specs.declared.net.Link.{Link}
 use Rattle.pipe_model.specs.State.{Who, State, same, link_in, link_out}

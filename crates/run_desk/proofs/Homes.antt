@@ -1,6 +1,6 @@
 -- A desk to which a strand came home stands for the same state, with the strand's want.
 use Rattle.std.proofs.Common.{◌≡◌, ◌≢◌, ◌⊎◌, inl, inr, ℕ, Bool, true, false, cond, List, length, refl, sym, ◌∙◌, ap, subst, Option, Some, None, slice_get, slice_set, ℤ, pos, negsuc, arith}
-use Rattle.std.specs.Option.{option_map, option_map_or}
+use Rattle.std.specs.Option.{option_map_or}
 use Rattle.std.proofs.lemmas.Int.{ints}
 use Rattle.pipe_model.specs.declared.net.Net.{Net}
 use Rattle.pipe_model.specs.declared.net.Link.{Link}
@@ -8,19 +8,18 @@ use Rattle.pipe_model.specs.declared.net.Strand.{Strand}
 use Rattle.pipe_model.specs.declared.step.Out.{Out}
 use Rattle.pipe_model.specs.declared.step.Want.{Want as Coming}
 use Rattle.pipe_model.specs.declared.step.Want.TheVariants as come
-use Rattle.pipe_model.specs.Event.{Event, Want, has_ended, has_reached}
+use Rattle.pipe_model.specs.Event.{Want, has_ended, has_reached}
 use Rattle.pipe_model.specs.Event.Want.{Commit, Write}
 use Rattle.pipe_model.specs.Next.{next, wanted_by, IsOwn}
 use Rattle.pipe_model.specs.Table.{form}
-use Rattle.pipe_model.specs.State.{Who, State, past, strand_at, link_in, link_out}
-use Rattle.pipe_model.specs.Licence.{Left, want_after, want_at, offered, commits_to}
+use Rattle.pipe_model.specs.State.{Who, State, past, strand_at}
+use Rattle.pipe_model.specs.Licence.{Left, want_after, want_at, offered}
 use Rattle.pipe_model.specs.WellFormed.{IsWellFormed}
 use Rattle.confluence_laws.proofs.Basics.{equal_or_not, test_same, test_apart}
 use Rattle.commit_levels.specs.UnitState.{Member, IsLevel, place_of, progress_at, asked_by, IsAt}
 use Rattle.commit_levels.specs.UnitState as unit
-use Rattle.commit_levels.specs.declared.member.Progress.{Progress}
 use Rattle.commit_levels.specs.declared.member.Progress.TheVariants.{NotAsked, Asked, Reached}
-use Rattle.commit_levels.specs.Licensed.{progress_of, IsStrand, WantsNoLevel}
+use Rattle.commit_levels.specs.Licensed.{IsStrand, WantsNoLevel}
 use Rattle.commit_levels.proofs.Agreement.{asks_as}
 use Rattle.connectors.specs.WireState.{WireState}
 use Rattle.record_pool.specs.declared.pool.Held.{Held}
@@ -31,7 +30,7 @@ use Rattle.run_desk.specs.declared.seat.Ask.TheVariants as Now
 use Rattle.run_desk.specs.declared.seat.Seat.{Seat}
 use Rattle.run_desk.specs.Desk.{DeskState}
 use Rattle.run_desk.specs.Pure as Pure
-use Rattle.run_desk.specs.Kept.{asked, left_in, IsSeat, IsWire, IsSight, link_through, IsLaid, IsKept}
+use Rattle.run_desk.specs.Kept.{asked, left_in, IsSeat, IsWire, IsKept}
 use Rattle.run_desk.specs.Moves.{placed, changed, offers, asking, unit_home, ask_for, home_writing, IsHold, CanAsk, CanCome, HasCome}
 use Rattle.run_desk.specs.Moves.{home as coming}
 use Rattle.run_desk.specs.Order.{IsPooled}
@@ -233,8 +232,8 @@ module _ (net : Net) (st : State) (left : Left) (d new : DeskState) (places afte
   home_plain w wants off none same came =
       let wanted = meaning w (last_seen (past st s)) in
       let now = comes_home net (bytes_at places) st left d kept s strand away at wanted wants (ask_for w) (asked_is w (last_seen (past st s))) d.wires d.unit refl
-          (wires_plain net (bytes_at places) st left d kept s strand away at wanted wants off) refl
-          (members_plain net (bytes_at places) st left d kept s strand away at wanted wants none) early_home in
+      (wires_plain net (bytes_at places) st left d kept s strand away at wanted wants off) refl
+      (members_plain net (bytes_at places) st left d kept s strand away at wanted wants none) early_home in
       let P : List Member → Type 0 = λ members. IsKept net (bytes_at places) st (left_in left s) (record { seats = changed d.seats (asking (ask_for w)) (Some s); wires = d.wires; sights = d.sights; doors = d.doors; unit = members }) in
       let here : IsKept net (bytes_at places) st (left_in left s) (coming d s (ask_for w)) = subst P (sym same) now in
       subst (λ ps. IsKept net (bytes_at ps) st (left_in left s) new) (sym came.1) (subst (IsKept net (bytes_at places) st (left_in left s)) (sym came.0) here)
@@ -244,10 +243,10 @@ module _ (net : Net) (st : State) (left : Left) (d new : DeskState) (places afte
       (new ≡ coming d s (Now.Commit level)) × (after ≡ places) → IsKept net (bytes_at after) st (left_in left s) new
   home_asking level wants can came =
       let here : IsKept net (bytes_at places) st (left_in left s) (coming d s (Now.Commit level)) =
-          comes_home net (bytes_at places) st left d kept s strand away at (Commit level) wants (Now.Commit level) refl d.wires (asked_by d.unit s level) refl
-          (wires_plain net (bytes_at places) st left d kept s strand away at (Commit level) wants (λ o. refl))
-          (as_many net (bytes_at places) st left d kept s strand away at (Commit level) wants level)
-          (members_asking net (bytes_at places) st left d kept s strand away at (Commit level) wants level can.2 refl can.3) early_home in
+      comes_home net (bytes_at places) st left d kept s strand away at (Commit level) wants (Now.Commit level) refl d.wires (asked_by d.unit s level) refl
+      (wires_plain net (bytes_at places) st left d kept s strand away at (Commit level) wants (λ o. refl))
+      (as_many net (bytes_at places) st left d kept s strand away at (Commit level) wants level)
+      (members_asking net (bytes_at places) st left d kept s strand away at (Commit level) wants level can.2 refl can.3) early_home in
       subst (λ ps. IsKept net (bytes_at ps) st (left_in left s) new) (sym came.1) (subst (IsKept net (bytes_at places) st (left_in left s)) (sym came.0) here)
 
   -- it writes
@@ -257,10 +256,10 @@ module _ (net : Net) (st : State) (left : Left) (d new : DeskState) (places afte
       let rec = written out (last_seen (past st s)) in
       let held = retext net (bytes_at places) (bytes_at after) st left d kept (hold_stay places after d pooled s out grip hold) in
       let here : IsKept net (bytes_at after) st (left_in left s) (home_writing d s o grip) =
-          comes_home net (bytes_at after) st left d held s strand away at (Write o rec) wants (Now.Write o) refl (changed d.wires (offers grip) (Pure.out_door d s o)) d.unit
-          (as_long d.wires (offers grip) (Pure.out_door d s o))
-          (wires_writing net (bytes_at after) st left d held s strand away at (Write o rec) wants formed o rec grip refl (hold_text places after net st left d s kept going out grip hold))
-          refl (members_plain net (bytes_at after) st left d held s strand away at (Write o rec) wants (λ level. refl)) early_home in
+      comes_home net (bytes_at after) st left d held s strand away at (Write o rec) wants (Now.Write o) refl (changed d.wires (offers grip) (Pure.out_door d s o)) d.unit
+      (as_long d.wires (offers grip) (Pure.out_door d s o))
+      (wires_writing net (bytes_at after) st left d held s strand away at (Write o rec) wants formed o rec grip refl (hold_text places after net st left d s kept going out grip hold))
+      refl (members_plain net (bytes_at after) st left d held s strand away at (Write o rec) wants (λ level. refl)) early_home in
       subst (IsKept net (bytes_at after) st (left_in left s)) (sym came) here
 
 -- where a strand comes home, the desk stands for the same state with its want

@@ -13,5 +13,6 @@ pub mod Pacing
 pub mod Pooled
 pub mod Sees
 pub mod Streams
+pub mod Tells
 pub mod Texts
 pub mod Wants

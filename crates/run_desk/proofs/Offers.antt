@@ -1,5 +1,5 @@
 -- What a record that is offered holds, and that the other records stay.
-use Rattle.std.proofs.Common.{◌≡◌, ◌≢◌, inl, inr, ℕ, ◌<◌, Bool, false, List, [], length, refl, sym, ◌∙◌, ap, subst, arith, Option, Some, None, slice_get}
+use Rattle.std.proofs.Common.{◌≡◌, inl, inr, ℕ, ◌<◌, false, List, [], refl, sym, ◌∙◌, ap, subst, arith, Option, Some, None, slice_get}
 use Rattle.std.specs.Option.{option_map_or}
 use Rattle.pipe_model.specs.declared.net.Net.{Net}
 use Rattle.pipe_model.specs.declared.net.Link.{Link}
@@ -11,7 +11,7 @@ use Rattle.pipe_model.specs.Licence.{Left}
 use Rattle.stage_steps.specs.Coroutine.{written, last_seen}
 use Rattle.confluence_laws.proofs.Basics.{equal_or_not}
 use Rattle.record_pool.specs.declared.pool.Held.{Held}
-use Rattle.record_pool.specs.Places.{record_at, bytes_at, holders_of, with_record, fresh, one_more}
+use Rattle.record_pool.specs.Places.{record_at, bytes_at, holders_of, fresh, one_more}
 use Rattle.record_pool.proofs.Places.{changed_here, others_stay}
 use Rattle.run_desk.specs.Desk.{DeskState}
 use Rattle.run_desk.specs.Pure as Pure

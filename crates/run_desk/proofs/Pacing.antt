@@ -1,34 +1,35 @@
--- Each wire is as far as its strands are, after a turn and after a strand comes home.
-use Rattle.std.proofs.Common.{◌≡◌, ◌≢◌, ◌⊎◌, inl, inr, ℕ, suc, ◌+◌, ◌<◌, Bool, true, false, cond, ◌&&◌, ◌||◌, not, ◌==◌, nat_lt, ℤ, List, [], ◌∷◌, refl, sym, ◌∙◌, ap, subst, arith, Option, Some, None, is_some, slice_get}
+-- The pace of the wires is kept by a turn and by a strand that comes home.
+use Rattle.std.proofs.Common.{◌≡◌, ◌≢◌, ◌⊎◌, inl, inr, ℕ, ◌+◌, ◌<◌, Bool, true, false, cond, ◌&&◌, not, ◌==◌, nat_lt, ℤ, List, [], ◌∷◌, refl, sym, ◌∙◌, ap, subst, arith, Option, Some, None, is_some, slice_get}
 use Rattle.std.specs.Prelude.{IsSome}
 use Rattle.std.specs.Option.{option_map}
 use Rattle.std.proofs.lemmas.Bool.Decides.{nat_tests}
 use Rattle.pipe_model.specs.declared.net.Net.{Net}
-use Rattle.pipe_model.specs.declared.net.Link.{Link}
 use Rattle.pipe_model.specs.declared.net.Strand.{Strand}
-use Rattle.pipe_model.specs.declared.step.Seen.{Seen}
+use Rattle.pipe_model.specs.declared.step.Want.{Want as Coming}
+use Rattle.pipe_model.specs.declared.step.Want.TheVariants as come
 use Rattle.pipe_model.specs.declared.step.Seen.TheVariants as Told
 use Rattle.pipe_model.specs.Event.{Event, Want, has_ended, in_sight, answers}
 use Rattle.pipe_model.specs.Event.Event.{Up, Saw, SawEnd, SawAllEnd, Took, Put, Refused, Primed, Opened, Joined, Severed, Ended}
 use Rattle.pipe_model.specs.Event.Want.{Take}
-use Rattle.pipe_model.specs.Next.{next, IsOwn}
+use Rattle.pipe_model.specs.Next.{IsOwn}
 use Rattle.pipe_model.specs.State.{Who, State, past, strand_at, with_event}
-use Rattle.pipe_model.specs.Licence.{Left, want_after, want_at, in_closed, licence, sight_of}
+use Rattle.pipe_model.specs.Licence.{Left, want_after, want_at, licence, sight_of}
 use Rattle.pipe_model.specs.WellFormed.{IsWellFormed}
 use Rattle.stage_steps.specs.Coroutine.{told}
-use Rattle.confluence_laws.proofs.Basics.{cond_some, both, same_number, equal_or_not, test_same, at_same, at_other, not_ended}
+use Rattle.confluence_laws.proofs.Basics.{both, same_number, equal_or_not, test_same, at_same, at_other, not_ended}
 use Rattle.confluence_laws.proofs.Owns.{answer_fits, sight_before}
 use Rattle.confluence_laws.proofs.Fitting.{wants_take}
+use Rattle.record_pool.specs.declared.pool.Held.{Held}
 use Rattle.connectors.specs.WireState.{WireState, IsPaced, at_hand, taken, settled, cleared}
-use Rattle.run_desk.specs.declared.seat.Ask.{Ask}
 use Rattle.run_desk.specs.declared.seat.Ask.TheVariants as Now
 use Rattle.run_desk.specs.Desk.{DeskState}
 use Rattle.run_desk.specs.Pure as Pure
 use Rattle.run_desk.specs.Kept.{IsKept}
-use Rattle.run_desk.specs.Moves.{changed, all_changed, in_shut, out_shut, made}
+use Rattle.run_desk.specs.Moves.{changed, all_changed, in_shut, out_shut, made, offers, home, home_writing, ask_for, CanAsk, CanCome, HasCome}
 use Rattle.run_desk.specs.Order.{IsPacing}
 use Rattle.run_desk.proofs.Behind.{both_have, now_behind, behind_in}
 use Rattle.run_desk.proofs.Sees.{seen_is}
+use Rattle.run_desk.proofs.Tells.{Fact, tells}
 
 -- Wires
 
@@ -69,59 +70,6 @@ hand_is wire hand = go (wire.puts == wire.tooks) refl hand
 
 less_is : (a b : ℕ) → nat_lt a b ≡ true → a < b
 less_is a b p = grind (arith, nat_tests)
-
--- What is told tells of the desk
-
-module _ (d : DeskState) (s : Who) where
-  -- what has to be so where a strand is told this
-  abbrev Fact : Seen → Type 0
-  Fact (Told.Saw i) = Pure.shows (Pure.wire_in d s i) ≡ true
-  Fact (Told.Put o) = Pure.can_put (Pure.wire_out d s o) ≡ true
-  Fact (Told.Refused o) = Pure.can_refuse (Pure.wire_out d s o) ≡ true
-  Fact _ = Unit {0}
-
-  told_plain : (now seen : Seen) → Some now ≡ Some seen → Fact now → Fact seen
-  told_plain now seen e is = subst Fact (let same : now ≡ seen = cc in same) is
-
-  read_tells : (j : ℕ) (seen : Seen) (hand over : Bool) → Pure.shows (Pure.wire_in d s j) ≡ hand → Pure.read_seen j hand over ≡ Some seen → Fact seen
-  read_tells j seen true over is e = told_plain (Told.Saw j) seen e is
-  read_tells j seen false true is e = told_plain (Told.SawEnd j) seen e tt
-  read_tells j seen false false is e = cc
-
-  any_tells : (j : ℕ) (seen : Seen) (hand over : Bool) → Pure.shows (Pure.wire_in d s j) ≡ hand → Pure.any_seen j hand over ≡ Some seen → Fact seen
-  any_tells j seen true over is e = told_plain (Told.Saw j) seen e is
-  any_tells j seen false true is e = told_plain Told.SawAllEnd seen e tt
-  any_tells j seen false false is e = cc
-
-  write_tells : (o : ℕ) (seen : Seen) (put refuse : Bool) → Pure.can_put (Pure.wire_out d s o) ≡ put → Pure.can_refuse (Pure.wire_out d s o) ≡ refuse → Pure.write_seen o put refuse ≡ Some seen → Fact seen
-  write_tells o seen true refuse may must e = told_plain (Told.Put o) seen e may
-  write_tells o seen false true may must e = told_plain (Told.Refused o) seen e must
-  write_tells o seen false false may must e = cc
-
-  up_tells : (level : ℤ) (seen : Seen) (code : Option ℤ) → Pure.up_seen level code ≡ Some seen → Fact seen
-  up_tells level seen None e = cc
-  up_tells level seen (Some code) e = told_plain (Told.Up level code) seen e tt
-
-  primed_tells : (seen : Seen) (primed : Option Bool) → Pure.primed_seen primed ≡ Some seen → Fact seen
-  primed_tells seen None e = cc
-  primed_tells seen (Some b) e = told_plain (Told.Primed b) seen e tt
-
-  tells : (k : ℕ) (seen : Seen) (ask : Ask) → Pure.seen_by d s k ask ≡ Some seen → Fact seen
-  tells k seen Now.Nothing e = cc
-  tells k seen (Now.Commit level) e = up_tells level seen (Pure.level_code d level) (cond_some (k == 0) (Pure.up_seen level (Pure.level_code d level)) e).1
-  tells k seen (Now.Read i) e =
-      read_tells i seen (Pure.shows (Pure.wire_in d s i)) (Pure.is_over (Pure.wire_in d s i)) refl (cond_some (k == i) (Pure.read_seen i (Pure.shows (Pure.wire_in d s i)) (Pure.is_over (Pure.wire_in d s i))) e).1
-  tells k seen Now.Any e = any_tells k seen (Pure.shows (Pure.wire_in d s k)) ((k == 0) && Pure.all_over d s) refl e
-  tells k seen Now.Gate e = read_tells k seen (Pure.shows (Pure.wire_in d s k)) ((k == 0) && Pure.is_over (Pure.wire_in d s k)) refl e
-  tells k seen (Now.Take i) e = told_plain (Told.Took i) seen (cond_some (k == i) (Some (Told.Took i)) e).1 tt
-  tells k seen (Now.Write o) e =
-      write_tells o seen (Pure.can_put (Pure.wire_out d s o)) (Pure.can_refuse (Pure.wire_out d s o)) refl refl
-      (cond_some (k == o) (Pure.write_seen o (Pure.can_put (Pure.wire_out d s o)) (Pure.can_refuse (Pure.wire_out d s o))) e).1
-  tells k seen Now.Primed e = primed_tells seen (Pure.primed_at d s) (cond_some (k == 0) (Pure.primed_seen (Pure.primed_at d s)) e).1
-  tells k seen Now.Issue e = cc
-  tells k seen (Now.Join u) e = cc
-  tells k seen (Now.Cut i) e = told_plain (Told.Cut i) seen (cond_some (k == i) (Some (Told.Cut i)) e).1 tt
-  tells k seen (Now.Done code) e = told_plain (Told.Ended code) seen (cond_some (k == 0) (Some (Told.Ended code)) e).1 tt
 
 -- A turn
 
@@ -321,7 +269,7 @@ module _ (net : Net) (texts : ℕ → List ℕ) (st : State) (left : Left) (d : 
   pacing_ended code may = with_wires (with_event st s (Ended code)) (made d s (Told.Ended code)) wires refl refl
       (λ j wire at. let r = before j wire at in like_paced wire r.0 r.2 (pacing.paced j r.0 r.1))
       (λ t i j wire going sight door at. let r = before j wire at in
-        like_hand wire r.0 r.2 (was_shown t i j r.0 (went (Ended code) may t going) (saw_before (Ended code) may (λ z rec. λ q. cc) t i sight) door r.1))
+      like_hand wire r.0 r.2 (was_shown t i j r.0 (went (Ended code) may t going) (saw_before (Ended code) may (λ z rec. λ q. cc) t i sight) door r.1))
     where
       wires : List WireState
       wires = all_changed in_shut (Pure.inputs_of (slice_get d.doors s)) (all_changed out_shut (Pure.outputs_of (slice_get d.doors s)) d.wires)
@@ -351,3 +299,54 @@ pub pacing_made : (net : Net) (texts : ℕ → List ℕ) (st : State) (left : Le
     ((t : Who) (q : Strand) → strand_at net st t ≡ Some q → IsOwn q (past st t)) → IsKept net texts st left d → IsPacing st d → licence net st left s k ≡ Some e →
     IsPacing (with_event st s e) (made d s (told e))
 pacing_made net texts st left d s k e formed own kept pacing may = by_event net texts st left d s k formed own kept pacing e may
+
+-- Coming home
+
+module _ (d new : DeskState) (st : State) (s : Who) (pacing : IsPacing st d) where
+  -- who writes nothing leaves all wires
+  pacing_plain : (w : Coming) → new ≡ home d s (ask_for w) → IsPacing st new
+  pacing_plain w come = subst (IsPacing st) (sym come) (record { paced = pacing.paced; shown = pacing.shown })
+
+  -- who writes offers where nothing was offered, so nothing was at hand
+  pacing_offer : (o grip : ℕ) → CanAsk d s (Now.Write o) → new ≡ home_writing d s o grip → IsPacing st new
+  pacing_offer o grip can come = subst (IsPacing st) (sym come) here
+    where
+      no_offer : (j : ℕ) (wire : WireState) → Pure.out_door d s o ≡ Some j → slice_get d.wires j ≡ Some wire → wire.offer ≡ None
+      no_offer j wire door at = can.1 wire (ap (Pure.through d.wires) door ∙ at)
+
+      level : (grip : ℕ) (wire : WireState) → wire.offer ≡ None → IsPaced wire.offer wire.puts wire.tooks → IsPaced (offers grip wire).offer (offers grip wire).puts (offers grip wire).tooks
+      level grip wire none (inl e) = inl e
+      level grip wire none (inr p) = let no : false ≡ true = sym (ap is_some none) ∙ p.1 in cc
+
+      here : IsPacing st (home_writing d s o grip)
+      here = record {
+        paced = λ j wire at. elim (now_behind d.wires (offers grip) (Pure.out_door d s o) j wire at) [
+          | inl before ↦ pacing.paced j wire before.0
+          | inr now ↦ subst (λ z. IsPaced z.offer z.puts z.tooks) (sym now.2) (level grip now.0 (no_offer j now.0 now.3 now.1) (pacing.paced j now.0 now.1))
+        ];
+        shown = λ t i wire going sight at. by_door t i wire going sight (Pure.in_door d t i) refl at;
+      }
+        where
+          by_door : (t : Who) (i : ℕ) (wire : WireState) → has_ended (past st t) ≡ false → in_sight i (past st t) ≡ true → (x : Option ℕ) → Pure.in_door d t i ≡ x →
+              Pure.through (changed d.wires (offers grip) (Pure.out_door d s o)) x ≡ Some wire → IsSome (at_hand wire)
+          by_door t i wire going sight None door at = cc
+          by_door t i wire going sight (Some j) door at = elim (now_behind d.wires (offers grip) (Pure.out_door d s o) j wire at) [
+            | inl before ↦ pacing.shown t i wire going sight (ap (Pure.through d.wires) door ∙ before.0)
+            | inr now ↦
+                let hand = hand_is now.0 (pacing.shown t i now.0 going sight (ap (Pure.through d.wires) door ∙ now.1)) in
+                let no : false ≡ true = sym (ap is_some (no_offer j now.0 now.3 now.1)) ∙ hand.1 in cc
+          ]
+
+-- a strand that comes home keeps the pace
+pub pacing_home : (d new : DeskState) (st : State) (places after : List (Option Held)) (s : Who) (w : Coming) → IsPacing st d → CanCome d places s w → HasCome d places s w new after → IsPacing st new
+pacing_home d new st places after s (come.Write o out) pacing can came = pacing_offer d new st s pacing o came.0 can.0 came.2
+pacing_home d new st places after s (come.Commit level) pacing can came = pacing_plain d new st s pacing (come.Commit level) came.0
+pacing_home d new st places after s (come.Read i) pacing can came = pacing_plain d new st s pacing (come.Read i) came.0
+pacing_home d new st places after s come.Any pacing can came = pacing_plain d new st s pacing come.Any came.0
+pacing_home d new st places after s come.Gate pacing can came = pacing_plain d new st s pacing come.Gate came.0
+pacing_home d new st places after s (come.Take i) pacing can came = pacing_plain d new st s pacing (come.Take i) came.0
+pacing_home d new st places after s come.Primed pacing can came = pacing_plain d new st s pacing come.Primed came.0
+pacing_home d new st places after s (come.Issue text) pacing can came = pacing_plain d new st s pacing (come.Issue text) came.0
+pacing_home d new st places after s (come.Join u) pacing can came = pacing_plain d new st s pacing (come.Join u) came.0
+pacing_home d new st places after s (come.Cut i) pacing can came = pacing_plain d new st s pacing (come.Cut i) came.0
+pacing_home d new st places after s (come.Done code) pacing can came = pacing_plain d new st s pacing (come.Done code) came.0

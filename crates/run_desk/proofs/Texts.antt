@@ -1,5 +1,5 @@
 -- A desk speaks only of the records that its offers and sights hold.
-use Rattle.std.proofs.Common.{◌≡◌, ℕ, zero, suc, ◌+◌, ◌<◌, Bool, true, cond, List, [], ◌∷◌, refl, ◌∙◌, ap, arith, Option, Some, None, slice_get}
+use Rattle.std.proofs.Common.{◌≡◌, ℕ, zero, suc, ◌<◌, Bool, true, cond, List, [], ◌∷◌, refl, ◌∙◌, ap, arith, Option, Some, None, slice_get}
 use Rattle.std.specs.Prelude.{count_by}
 use Rattle.std.specs.Option.{option_map, option_map_or}
 use Rattle.std.proofs.lemmas.List.Sums.{sum_by-cons}
@@ -9,7 +9,7 @@ use Rattle.pipe_model.specs.State.{State}
 use Rattle.pipe_model.specs.Licence.{Left}
 use Rattle.connectors.specs.WireState.{WireState}
 use Rattle.run_desk.specs.Desk.{DeskState}
-use Rattle.run_desk.specs.Kept.{IsWire, IsSight, IsKept}
+use Rattle.run_desk.specs.Kept.{IsWire, IsKept}
 use Rattle.run_desk.specs.Order.{holds, offer_holds, holds_of}
 use Rattle.confluence_laws.proofs.Basics.{test_same}
 
