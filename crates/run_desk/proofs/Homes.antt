@@ -53,7 +53,7 @@ module _ (net : Net) (texts : ℕ → List ℕ) (st : State) (left : Left) (d : 
   want_none : want_at net st left s ≡ None
   want_none = ap (λ b. cond b None (want_after (strand_at net st s) (past st s))) away
 
-  pub want_now : want_at net st home s ≡ Some wanted
+  want_now : want_at net st home s ≡ Some wanted
   want_now = ap (λ b. cond (cond b false (left s)) None (want_after (strand_at net st s) (past st s))) (test_same s) ∙ ap (λ p. want_after p (past st s)) at ∙ sym wants
 
   want_other : (t : Who) → t ≢ s → want_at net st home t ≡ want_at net st left t
@@ -88,12 +88,12 @@ module _ (net : Net) (texts : ℕ → List ℕ) (st : State) (left : Left) (d : 
   }
 
   -- the wires of a strand that writes nothing
-  pub wires_plain : ((o : ℕ) → offered o (Some wanted) ≡ None) →
+  wires_plain : ((o : ℕ) → offered o (Some wanted) ≡ None) →
       (j : ℕ) (link : Link) (wire : WireState) → slice_get net.links j ≡ Some link → slice_get d.wires j ≡ Some wire → IsWire net texts st home link wire
   wires_plain off j link wire link_at got = still_wire link wire (kept.wires j link wire link_at got) (λ e. off link.output)
 
   -- and of one that writes
-  pub wires_writing : IsWellFormed net → (o : ℕ) (rec : List ℕ) (grip : ℕ) → wanted ≡ Write o rec → texts grip ≡ rec →
+  wires_writing : IsWellFormed net → (o : ℕ) (rec : List ℕ) (grip : ℕ) → wanted ≡ Write o rec → texts grip ≡ rec →
       (j : ℕ) (link : Link) (wire : WireState) → slice_get net.links j ≡ Some link → slice_get (changed d.wires (offers grip) (Pure.out_door d s o)) j ≡ Some wire → IsWire net texts st home link wire
   wires_writing formed o rec grip writes holds j link wire link_at got = elim (now_behind d.wires (offers grip) (Pure.out_door d s o) j wire got) [
     | inl before ↦ still_wire link wire (kept.wires j link wire link_at before.0) (λ from. ap (offered link.output) (ap Some writes)
@@ -110,7 +110,7 @@ module _ (net : Net) (texts : ℕ → List ℕ) (st : State) (left : Left) (d : 
   same_member t m apart is = subst (λ w. IsStrand (past st t) w m) (sym (want_other t apart)) is
 
   -- the members where the strand asks for no level
-  pub members_plain : WantsNoLevel (Some wanted) → (t : Who) (m : Member) → slice_get d.unit t ≡ Some m → IsStrand (past st t) (want_at net st home t) m
+  members_plain : WantsNoLevel (Some wanted) → (t : Who) (m : Member) → slice_get d.unit t ≡ Some m → IsStrand (past st t) (want_at net st home t) m
   members_plain none t m got = elim (equal_or_not t s) [
     | inl e ↦
         let was : IsStrand (past st s) None m = subst (λ w. IsStrand (past st s) w m) want_none (subst (λ z. IsStrand (past st z) (want_at net st left z) m) e (kept.members t m got)) in
@@ -137,7 +137,7 @@ module _ (net : Net) (texts : ℕ → List ℕ) (st : State) (left : Left) (d : 
   not_reached false e = refl
 
   -- the members where it asks for one
-  pub members_asking : (level : ℤ) → IsLevel level → wanted ≡ Commit level → IsAt d.unit s level NotAsked →
+  members_asking : (level : ℤ) → IsLevel level → wanted ≡ Commit level → IsAt d.unit s level NotAsked →
       (t : Who) (m : Member) → slice_get (asked_by d.unit s level) t ≡ Some m → IsStrand (past st t) (want_at net st home t) m
   members_asking level is asks first t m got =
       elim (now_behind d.unit (unit.moved (place_of level) Asked) (Some s) t m (ap (λ z. slice_get z t) (sym (member_behind d.unit s (unit.moved (place_of level) Asked))) ∙ got)) [
@@ -170,10 +170,12 @@ module _ (net : Net) (texts : ℕ → List ℕ) (st : State) (left : Left) (d : 
 
   -- All of it
 
+  -- the members stay as many
   as_many : (level : ℤ) → length (asked_by d.unit s level) ≡ length d.unit
   as_many level = ap length (member_behind d.unit s (unit.moved (place_of level) Asked)) ∙ as_long d.unit (unit.moved (place_of level) Asked) (Some s)
 
-  pub comes_home : (ask : Ask) → ask ≡ asked (Some wanted) → (wires : List WireState) (members : List Member) → length wires ≡ length d.wires →
+  -- with these wires and members the desk stands for the same state
+  comes_home : (ask : Ask) → ask ≡ asked (Some wanted) → (wires : List WireState) (members : List Member) → length wires ≡ length d.wires →
       ((j : ℕ) (link : Link) (wire : WireState) → slice_get net.links j ≡ Some link → slice_get wires j ≡ Some wire → IsWire net texts st home link wire) →
       length members ≡ length d.unit → ((t : Who) (m : Member) → slice_get members t ≡ Some m → IsStrand (past st t) (want_at net st home t) m) →
       ((t : Who) (level : ℤ) → want_at net st home t ≡ Some (Commit level) → IsLevel level) →
