@@ -1,4 +1,5 @@
 pub mod Early
 pub mod Holds
+pub mod Lists
 pub mod Sees
 pub mod Streams
