@@ -47,8 +47,8 @@ module _ (net : Net) (formed : IsWellFormed net) (st : State) (d : DeskState) (l
               go None is = let none : None ≡ Some found.0 = sym is ∙ found.1 in cc
               go (Some k) is =
                   let place : k ≡ j = formed.one_out k j found.0 l (sym is ∙ found.1) at
-                      (same_number found.0.from s its.0 ∙ sym (same_number l.from s mine.0))
-                      (same_number found.0.output o its.1 ∙ sym (same_number l.output o mine.1)) in
+                  (same_number found.0.from s its.0 ∙ sym (same_number l.from s mine.0))
+                  (same_number found.0.output o its.1 ∙ sym (same_number l.output o mine.1)) in
                   ap (λ z. z == j) place ∙ test_same j
 
   -- an input's door leads to the link that arrives there
@@ -78,13 +78,13 @@ module _ (net : Net) (formed : IsWellFormed net) (st : State) (d : DeskState) (l
               go None is = let none : None ≡ Some found.0 = sym is ∙ found.1 in cc
               go (Some k) is =
                   let place : k ≡ j = formed.one_in k j found.0 l (sym is ∙ found.1) at
-                      (same_number found.0.to s its.0 ∙ sym (same_number l.to s mine.0))
-                      (same_number found.0.input i its.1 ∙ sym (same_number l.input i mine.1)) in
+                  (same_number found.0.to s its.0 ∙ sym (same_number l.to s mine.0))
+                  (same_number found.0.input i its.1 ∙ sym (same_number l.input i mine.1)) in
                   ap (λ z. z == j) place ∙ test_same j
 
   -- one of a strand's outputs leads to a link exactly where the link leaves that strand
-  pub outs_lead : (s : Who) (j : ℕ) (l : Link) → slice_get net.links j ≡ Some l → leads_any j (outputs_of (slice_get d.doors s)) ≡ same l.from s
-  outs_lead s j l at = same_test (leads_any j doors) (same l.from s)
+  pub outputs_lead : (s : Who) (j : ℕ) (l : Link) → slice_get net.links j ≡ Some l → leads_any j (outputs_of (slice_get d.doors s)) ≡ same l.from s
+  outputs_lead s j l at = same_test (leads_any j doors) (same l.from s)
       (λ it. let w = which_leads j doors it in (both (same l.from s) (l.output == w.0) (sym (out_leads s w.0 j l at) ∙ w.1)).0)
       (λ it. leads_one j doors l.output (out_leads s l.output j l at ∙ both_hold (same l.from s) (l.output == l.output) it (test_same l.output)))
     where
@@ -92,8 +92,8 @@ module _ (net : Net) (formed : IsWellFormed net) (st : State) (d : DeskState) (l
       doors = outputs_of (slice_get d.doors s)
 
   -- and one of its inputs, where it arrives there
-  pub ins_lead : (s : Who) (j : ℕ) (l : Link) → slice_get net.links j ≡ Some l → leads_any j (inputs_of (slice_get d.doors s)) ≡ same l.to s
-  ins_lead s j l at = same_test (leads_any j doors) (same l.to s)
+  pub inputs_lead : (s : Who) (j : ℕ) (l : Link) → slice_get net.links j ≡ Some l → leads_any j (inputs_of (slice_get d.doors s)) ≡ same l.to s
+  inputs_lead s j l at = same_test (leads_any j doors) (same l.to s)
       (λ it. let w = which_leads j doors it in (both (same l.to s) (l.input == w.0) (sym (in_leads s w.0 j l at) ∙ w.1)).0)
       (λ it. leads_one j doors l.input (in_leads s l.input j l at ∙ both_hold (same l.to s) (l.input == l.input) it (test_same l.input)))
     where

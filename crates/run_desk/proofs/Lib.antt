@@ -3,6 +3,10 @@ pub mod Early
 pub mod Events
 pub mod Holds
 pub mod Leads
+pub mod Links
 pub mod Lists
+pub mod Makes
+pub mod Members
 pub mod Sees
+pub mod Shown
 pub mod Streams
