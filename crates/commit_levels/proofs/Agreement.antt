@@ -1,5 +1,5 @@
 -- A unit whose members are strands answers as a licence says.
-use Rattle.std.proofs.Common.{rules, ◌≡◌, ◌≢◌, ◌⊎◌, inl, inr, suc, ◌<◌, Bool, true, false, cond, ◌||◌, List, [], ◌∷◌, length, refl, sym, ◌∙◌, ap, subst, arith, lit<, ℤ, pos, negsuc, Option, Some, None}
+use Rattle.std.proofs.Common.{rules, ◌≡◌, ◌≢◌, ◌⊎◌, inl, inr, ℕ, zero, suc, ◌<◌, Bool, true, false, cond, ◌&&◌, ◌||◌, List, [], ◌∷◌, ◌++◌, length, slice_get, refl, sym, ◌∙◌, ap, subst, arith, lit<, ℤ, pos, negsuc, Option, Some, None}
 use Rattle.std.specs.List.{list_all}
 use Rattle.std.proofs.lemmas.Bool.Decides.{Decides-int_eq}
 use Rattle.std.proofs.lemmas.Grind.{common_steps}
@@ -12,12 +12,13 @@ use Rattle.pipe_model.specs.Event.Want.{Commit}
 use Rattle.pipe_model.specs.Event as event
 use Rattle.pipe_model.specs.Licence.{Left, want_at, commits_to, level_of}
 use Rattle.pipe_model.specs.Licence as licence
-use Rattle.pipe_model.specs.State.{Who, State, past, members}
+use Rattle.pipe_model.specs.State.{Who, State, past, members, below}
 use Rattle.commit_levels.specs.declared.member.Progress.{Progress}
 use Rattle.commit_levels.specs.declared.member.Progress.TheVariants.{NotAsked, Asked, Reached}
 use Rattle.commit_levels.specs.UnitState.{Member, IsLevel, level_count, place_of, progress_at, has_asked, has_reached, stands_at, early_code, worst_early, answer, moved, ended_with}
 use Rattle.commit_levels.specs.Licensed.{progress_of, IsStrand, AreStrands, WantsNoLevel}
 use Rattle.commit_levels.proofs.Calls.{progress_here, progress_there}
+use Rattle.commit_levels.proofs.Tallies.{worst_swap}
 
 -- The answer
 
@@ -85,6 +86,69 @@ pub answers_as : (net : Net) (st : State) (left : Left) (s : Who) (unit : List M
 answers_as net st left s unit level is are =
     ap (λ all. cond all (Some (worst_early (place_of level) unit)) None) (all_as level is net st left (members net st s) unit are)
     ∙ ap (λ code. cond (list_all (licence.stands_at net st left level) (members net st s)) (Some code) None) (worst_as level is net st left (members net st s) unit are)
+
+-- Members by their numbers
+
+get_front : (xs : List Member) (x : Member) (k : ℕ) (m : Member) → slice_get xs k ≡ Some m → slice_get (xs ++ x ∷ []) k ≡ Some m
+get_front [] x k m at = cc
+get_front (y ∷ ys) x zero m at = at
+get_front (y ∷ ys) x (suc k) m at = get_front ys x k m at
+
+get_last : (xs : List Member) (x : Member) → slice_get (xs ++ x ∷ []) (length xs) ≡ Some x
+get_last [] x = refl
+get_last (y ∷ ys) x = get_last ys x
+
+-- a list with something in it ends with something
+last_of : (ms : List Member) (n : ℕ) → length ms ≡ suc n → (front : List Member) × (m : Member) × (ms ≡ front ++ m ∷ []) × (length front ≡ n)
+last_of [] n count = absurd (omega (arith, count))
+last_of (m ∷ []) n count = ([], m, refl, omega (arith, count))
+last_of (m ∷ x ∷ ms) zero count = absurd (omega (arith, count))
+last_of (m ∷ x ∷ ms) (suc n) count =
+    let l = last_of (x ∷ ms) n (omega (arith, count)) in
+    (m ∷ l.0, l.1, ap (λ ys. m ∷ ys) l.2, ap suc l.3)
+
+all_last : (p : Member → Bool) (xs : List Member) (x : Member) → list_all p (xs ++ x ∷ []) ≡ (p x && list_all p xs)
+all_last p [] x = refl
+all_last p (y ∷ ys) x = ap (λ b. p y && b) (all_last p ys x) ∙ turn (p y) (p x) (list_all p ys)
+  where
+    turn : (a b c : Bool) → (a && (b && c)) ≡ (b && (a && c))
+    turn true true c = refl
+    turn true false c = refl
+    turn false true c = refl
+    turn false false c = refl
+
+worst_last : (place : ℕ) (xs : List Member) (x : Member) → worst_early place (xs ++ x ∷ []) ≡ worst_of (early_code place x) (worst_early place xs)
+worst_last place [] x = refl
+worst_last place (y ∷ ys) x = ap (worst_of (early_code place y)) (worst_last place ys x) ∙ worst_swap (early_code place y) (early_code place x) (worst_early place ys)
+
+module _ (level : ℤ) (is : IsLevel level) (net : Net) (st : State) (left : Left) where
+  all_by : (n : ℕ) (ms : List Member) → length ms ≡ n → ((k : ℕ) (m : Member) → slice_get ms k ≡ Some m → IsStrand (past st k) (want_at net st left k) m) →
+      (list_all (stands_at (place_of level)) ms ≡ list_all (licence.stands_at net st left level) (below n)) × (worst_early (place_of level) ms ≡ licence.worst_early st level (below n))
+  all_by zero [] count each = (refl, refl)
+  all_by zero (m ∷ ms) count each = absurd (omega (arith, count))
+  all_by (suc n) ms count each =
+      let l = last_of ms n count in
+      let front = l.0 in
+      let m = l.1 in
+      let at : slice_get ms n ≡ Some m = ap (λ xs. slice_get xs n) l.2 ∙ ap (slice_get (front ++ m ∷ [])) (sym l.3) ∙ get_last front m in
+      let before = all_by n front l.3 (λ k x found. each k x (ap (λ xs. slice_get xs k) l.2 ∙ get_front front m k x found)) in
+      let here = each n m at in
+      (
+        ap (list_all (stands_at (place_of level))) l.2 ∙ all_last (stands_at (place_of level)) front m
+        ∙ ap (λ b. b && list_all (stands_at (place_of level)) front) (stands_as level is (past st n) (want_at net st left n) m here)
+        ∙ ap (λ b. licence.stands_at net st left level n && b) before.0,
+        ap (worst_early (place_of level)) l.2 ∙ worst_last (place_of level) front m
+        ∙ ap (λ code. worst_of code (worst_early (place_of level) front)) (early_as level is (past st n) (want_at net st left n) m here)
+        ∙ ap (worst_of (licence.early_code level (past st n))) before.1
+      )
+
+-- a unit that has the strands of a net by their numbers answers as the licence of each strand does
+pub answers_by_number : (net : Net) (st : State) (left : Left) (s : Who) (unit : List Member) (level : ℤ) → IsLevel level → length unit ≡ length net.strands →
+    ((k : Who) (m : Member) → slice_get unit k ≡ Some m → IsStrand (past st k) (want_at net st left k) m) → answer unit level ≡ level_of net st left s level
+answers_by_number net st left s unit level is count each =
+    let by = all_by level is net st left (length net.strands) unit count each in
+    ap (λ all. cond all (Some (worst_early (place_of level) unit)) None) by.0
+    ∙ ap (λ code. cond (list_all (licence.stands_at net st left level) (members net st s)) (Some code) None) by.1
 
 -- Calls
 

@@ -19,7 +19,7 @@ worst_zero : (a : ℤ) → worst_of (pos 0) a ≡ a
 worst_zero a = search rules
 
 -- two codes change places
-worst_swap : (a b c : ℤ) → worst_of a (worst_of b c) ≡ worst_of b (worst_of a c)
+pub worst_swap : (a b c : ℤ) → worst_of a (worst_of b c) ≡ worst_of b (worst_of a c)
 worst_swap a b c = sym (worst_groups a b c) ∙ ap (λ z. worst_of z c) (worst_order a b) ∙ worst_groups b a c
 
 -- Members

@@ -5,10 +5,10 @@ use Rattle.pipe_model.specs.declared.net.Net.{Net}
 use Rattle.pipe_model.specs.declared.net.Link.{Link}
 use Rattle.pipe_model.specs.Event.{Want, has_ended, has_seen, last_seen_on}
 use Rattle.pipe_model.specs.Event.Want.{Commit, Read, Any, Gate, Take, Write, Prime, Issue, Join, Sever, Done}
-use Rattle.pipe_model.specs.State.{Who, State, past, same, below, link_in, link_out}
+use Rattle.pipe_model.specs.State.{Who, State, past, same, link_in, link_out}
 use Rattle.pipe_model.specs.Licence.{Left, want_at, puts, tooks, out_closed, in_closed, offered, first_part}
-use Rattle.commit_levels.specs.UnitState.{IsLevel}
-use Rattle.commit_levels.specs.Licensed.{AreStrands}
+use Rattle.commit_levels.specs.UnitState.{IsLevel, Member}
+use Rattle.commit_levels.specs.Licensed.{IsStrand}
 use Rattle.connectors.specs.WireState.{WireState}
 use Rattle.run_desk.specs.declared.seat.Ask.{Ask}
 use Rattle.run_desk.specs.declared.seat.Ask.TheVariants as Now
@@ -81,6 +81,8 @@ pub record IsKept (net : Net) (texts : ℕ → List ℕ) (st : State) (left : Le
   pub sights : (j : ℕ) (link : Link) (sight : Option ℕ) → slice_get net.links j ≡ Some link → slice_get d.sights j ≡ Some sight → IsSight texts st link sight
   -- nothing was seen where there is no link
   pub unseen : (s : Who) (i : ℕ) → link_in net st s i ≡ None → last_seen_on i (past st s) ≡ []
-  pub unit : AreStrands net st left (below (length net.strands)) d.unit
+  -- the members of the unit are the strands, by their numbers
+  pub member_count : length d.unit ≡ length net.strands
+  pub members : (s : Who) (m : Member) → slice_get d.unit s ≡ Some m → IsStrand (past st s) (want_at net st left s) m
   -- a strand wants a commit level only where it is one
   pub early : (s : Who) (level : ℤ) → want_at net st left s ≡ Some (Commit level) → IsLevel level
