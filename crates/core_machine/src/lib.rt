@@ -5,5 +5,6 @@ mod bits;
 mod ready;
 #[cfg(test)]
 mod tests;
+mod wake;
 
 pub use ready::Ready;
