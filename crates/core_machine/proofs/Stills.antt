@@ -54,7 +54,7 @@ changed_both {A} xs f (Some k) j = go (equal_or_not j k)
     go (inl e) = ap (λ z. is_some (slice_get (changed xs f (Some k)) z)) e ∙ ap is_some (changed_here xs f k) ∙ map_some f (slice_get xs k) ∙ ap (λ z. is_some (slice_get xs z)) (sym e)
     go (inr apart) = ap is_some (changed_there xs f k j apart)
 
-mapped : {A : Type 0} (f : A → A) (x : Option A) (y : A) → option_map f x ≡ Some y → (z : A) × ((x ≡ Some z) × (f z ≡ y))
+mapped : {A : Type 0} (f : A → A) (x : Option A) (y : A) → option_map f x ≡ Some y → (z : A) × (x ≡ Some z) × (f z ≡ y)
 mapped f None y e = cc
 mapped f (Some z) y e = (z, refl, (let it : f z ≡ y = cc in it))
 
