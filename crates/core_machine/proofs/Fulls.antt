@@ -4,7 +4,7 @@ use Rattle.std.specs.List.{list_all}
 use Rattle.std.specs.Option.{option_map_or}
 use Rattle.std.proofs.lemmas.List.{get_or-set_other}
 use Rattle.confluence_laws.proofs.Basics.{both, equal_or_not, or_second}
-use Rattle.commit_levels.specs.UnitState.{Member, IsAt, answer, worst_early, stands_at, has_asked, progress_at, place_of, changed, moved, reached_by}
+use Rattle.commit_levels.specs.UnitState.{Member, IsAt, worst_early, stands_at, has_asked, progress_at, place_of, moved, reached_by}
 use Rattle.commit_levels.specs.declared.member.Progress.TheVariants.{NotAsked, Asked, Reached}
 use Rattle.run_desk.specs.Desk.{DeskState}
 use Rattle.run_desk.specs.Pure as Pure

@@ -1,7 +1,6 @@
 -- A strand that nothing concerns may go on only where it might before.
-use Rattle.std.proofs.Common.{◌≡◌, ◌⊎◌, ℕ, zero, suc, Bool, true, false, cond, ◌&&◌, ◌==◌, List, [], ◌∷◌, refl, sym, ◌∙◌, ap, subst, Option, Some, None, is_some, slice_get, ℤ}
+use Rattle.std.proofs.Common.{◌≡◌, ℕ, suc, Bool, true, false, cond, ◌&&◌, ◌==◌, List, [], ◌∷◌, refl, sym, ◌∙◌, ap, subst, Option, Some, None, is_some, slice_get, ℤ}
 use Rattle.std.specs.List.{list_all}
-use Rattle.pipe_model.specs.declared.step.Seen.{Seen}
 use Rattle.confluence_laws.proofs.Basics.{all_at}
 use Rattle.run_desk.specs.declared.seat.Ask.{Ask}
 use Rattle.run_desk.specs.declared.seat.Ask.TheVariants as Now

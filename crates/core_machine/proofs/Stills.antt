@@ -1,5 +1,5 @@
 -- What changes on wires lets a strand go on only where it is next to the change.
-use Rattle.std.proofs.Common.{◌≡◌, ◌≢◌, ◌⊎◌, inl, inr, ℕ, zero, suc, Bool, true, false, cond, ◌&&◌, ◌==◌, List, [], ◌∷◌, length, refl, sym, ◌∙◌, ap, subst, arith, Option, Some, None, is_some, slice_get, slice_set}
+use Rattle.std.proofs.Common.{◌≡◌, ◌≢◌, ◌⊎◌, inl, inr, ℕ, zero, suc, true, false, ◌&&◌, ◌==◌, List, [], ◌∷◌, length, refl, sym, ◌∙◌, ap, subst, arith, Option, Some, None, is_some, slice_get, slice_set}
 use Rattle.std.specs.Option.{option_map}
 use Rattle.pipe_model.specs.declared.net.Net.{Net}
 use Rattle.pipe_model.specs.declared.net.Link.{Link}
@@ -86,10 +86,11 @@ all_both f (door ∷ doors) xs j = all_both f doors (changed xs f door) j ∙ ch
 
 -- Wires
 
--- what a consumer sees on the new wire it saw on the old one, and a producer too
+-- what a consumer sees on the new wire it saw on the old one
 abbrev pub Reads : Option WireState → Option WireState → Type 0
 Reads before after = (Pure.shows after ≡ true → Pure.shows before ≡ true) × (Pure.is_over after ≡ true → Pure.is_over before ≡ true)
 
+-- and what a producer sees
 abbrev pub Writes : Option WireState → Option WireState → Type 0
 Writes before after = (Pure.can_put after ≡ true → Pure.can_put before ≡ true) × (Pure.can_refuse after ≡ true → Pure.can_refuse before ≡ true)
 
@@ -118,13 +119,13 @@ pub still_changed : (links : List Link) (u : ℕ) (before : List WireState) (f :
 still_changed links u before f door reads writes = record {
   both = changed_both before f door;
   ins = λ j link wire new l to at there.
-    changed_keeps (λ z. Reads (Some wire) (Some z)) before f door j
-    (λ e x here p. subst (λ z. Reads (Some wire) (Some (f z))) (the_same before j wire x at here) (reads j link wire e l to at))
-    (λ x here. subst (λ z. Reads (Some wire) (Some z)) (the_same before j wire x at here) (λ p. p, λ p. p)) new there;
+      changed_keeps (λ z. Reads (Some wire) (Some z)) before f door j
+      (λ e x here p. subst (λ z. Reads (Some wire) (Some (f z))) (the_same before j wire x at here) (reads j link wire e l to at))
+      (λ x here. subst (λ z. Reads (Some wire) (Some z)) (the_same before j wire x at here) (λ p. p, λ p. p)) new there;
   outs = λ j link wire new l from at there.
-    changed_keeps (λ z. Writes (Some wire) (Some z)) before f door j
-    (λ e x here p. subst (λ z. Writes (Some wire) (Some (f z))) (the_same before j wire x at here) (writes j link wire e l from at))
-    (λ x here. subst (λ z. Writes (Some wire) (Some z)) (the_same before j wire x at here) (λ p. p, λ p. p)) new there;
+      changed_keeps (λ z. Writes (Some wire) (Some z)) before f door j
+      (λ e x here p. subst (λ z. Writes (Some wire) (Some (f z))) (the_same before j wire x at here) (writes j link wire e l from at))
+      (λ x here. subst (λ z. Writes (Some wire) (Some z)) (the_same before j wire x at here) (λ p. p, λ p. p)) new there;
 }
 
 -- where the wires behind some doors changed so that their producers see no more, and then those behind others so that their consumers don't
@@ -137,13 +138,13 @@ pub still_closed : (links : List Link) (u : ℕ) (before : List WireState) (f g 
 still_closed links u before f g outputs inputs writes reads no_reader no_writer = record {
   both = λ j. all_both g inputs (all_changed f outputs before) j ∙ all_both f outputs before j;
   ins = λ j link wire new l to at there.
-    all_keeps (λ z. Reads (Some wire) (Some z)) g inputs (all_changed f outputs before) j (λ place door x p. reads x wire p)
-    (all_keeps (λ z. Reads (Some wire) (Some z)) f outputs before j (λ place door x p. absurd (no_reader j link place door l to))
-    (λ x here. subst (λ z. Reads (Some wire) (Some z)) (the_same before j wire x at here) (λ p. p, λ p. p))) new there;
+      all_keeps (λ z. Reads (Some wire) (Some z)) g inputs (all_changed f outputs before) j (λ place door x p. reads x wire p)
+      (all_keeps (λ z. Reads (Some wire) (Some z)) f outputs before j (λ place door x p. absurd (no_reader j link place door l to))
+      (λ x here. subst (λ z. Reads (Some wire) (Some z)) (the_same before j wire x at here) (λ p. p, λ p. p))) new there;
   outs = λ j link wire new l from at there.
-    all_keeps (λ z. Writes (Some wire) (Some z)) g inputs (all_changed f outputs before) j (λ place door x p. absurd (no_writer j link place door l from))
-    (all_keeps (λ z. Writes (Some wire) (Some z)) f outputs before j (λ place door x p. writes x wire p)
-    (λ x here. subst (λ z. Writes (Some wire) (Some z)) (the_same before j wire x at here) (λ p. p, λ p. p))) new there;
+      all_keeps (λ z. Writes (Some wire) (Some z)) g inputs (all_changed f outputs before) j (λ place door x p. absurd (no_writer j link place door l from))
+      (all_keeps (λ z. Writes (Some wire) (Some z)) f outputs before j (λ place door x p. writes x wire p)
+      (λ x here. subst (λ z. Writes (Some wire) (Some z)) (the_same before j wire x at here) (λ p. p, λ p. p))) new there;
 }
 
 -- What the strand sees through its doors
@@ -155,18 +156,20 @@ beside (z ∷ zs) (y ∷ ys) zero x n at = (y, refl)
 beside (z ∷ zs) (y ∷ ys) (suc j) x n at = beside zs ys j x (omega (arith, n)) at
 
 module _ (net : Net) (st : State) (d : DeskState) (laid : IsLaid net st d) (s : ℕ) where
-  -- the link at an input leads to the strand, and the one at an output from it
+  -- the link at an input leads to the strand
   pub leads_to : (i j : ℕ) (link : Link) → Pure.in_door d s i ≡ Some j → slice_get net.links j ≡ Some link → link.to ≡ s
   leads_to i j link door at =
       let l : link_in net st s i ≡ Some link = laid.in_doors s i ∙ ap (link_through net.links) door ∙ at in
       same_number _ _ (both (same link.to s) (link.input == i) (found_at (λ k. same k.to s && k.input == i) net.links l).0).0
 
+  -- and the one at an output from it
   pub leads_from : (o j : ℕ) (link : Link) → Pure.out_door d s o ≡ Some j → slice_get net.links j ≡ Some link → link.from ≡ s
   leads_from o j link door at =
       let l : link_out net st s o ≡ Some link = laid.out_doors s o ∙ ap (link_through net.links) door ∙ at in
       same_number _ _ (both (same link.from s) (link.output == o) (found_at (λ k. same k.from s && k.output == o) net.links l).0).0
 
 module _ (net : Net) (st : State) (d : DeskState) (laid : IsLaid net st d) (u : ℕ) (after : List WireState) (still : IsStill net.links u d.wires after) where
+  -- it sees no more at its inputs
   pub still_in : (i : ℕ) → Reads (Pure.wire_in d u i) (Pure.through after (Pure.in_door d u i))
   still_in i = go (Pure.in_door d u i) refl
     where
@@ -180,6 +183,7 @@ module _ (net : Net) (st : State) (d : DeskState) (laid : IsLaid net st d) (u : 
       go None e = (λ p. p, λ p. p)
       go (Some j) e = by j e (slice_get d.wires j) (slice_get after j) refl refl
 
+  -- nor at its outputs
   pub still_out : (o : ℕ) → Writes (Pure.wire_out d u o) (Pure.through after (Pure.out_door d u o))
   still_out o = go (Pure.out_door d u o) refl
     where

@@ -1,5 +1,5 @@
 -- The set goes on covering the strands that may go on.
-use Rattle.std.proofs.Common.{◌≡◌, ◌≢◌, ◌⊎◌, inl, inr, ℕ, ◌<◌, ◌≤◌, Bool, true, false, List, length, refl, sym, ◌∙◌, ap, subst, arith, Option, Some, None, is_some, slice_get, ℤ, pos, negsuc}
+use Rattle.std.proofs.Common.{◌≡◌, ◌≢◌, ◌⊎◌, inl, inr, ℕ, ◌<◌, Bool, true, false, length, refl, sym, ◌∙◌, ap, subst, arith, Option, Some, None, is_some, slice_get, ℤ, pos, negsuc}
 use Rattle.pipe_model.specs.declared.net.Net.{Net}
 use Rattle.pipe_model.specs.State.{State}
 use Rattle.pipe_model.specs.WellFormed.{IsWellFormed}
@@ -26,7 +26,7 @@ pub record IsAround (net : Net) (d n : DeskState) (s : ℕ) (new : Members) : Ty
   pub here : (k : ℕ) → is_some (Pure.seen_at n s k) ≡ true → is_member new s ≡ true
 
 -- a strand that is not in the set is none that is
-clash : {A : Type 0} (set : Members) (u : ℕ) → is_member set u ≡ true → is_member set u ≡ false → A
+pub clash : {A : Type 0} (set : Members) (u : ℕ) → is_member set u ≡ true → is_member set u ≡ false → A
 clash set u held off = let z : true ≡ false = sym held ∙ off in absurd (let r : ⊥ = cc in r)
 
 module _ (net : Net) (st : State) (formed : IsWellFormed net) (d n : DeskState) (laid : IsLaid net st d) (s : ℕ) (new : Members)
@@ -57,7 +57,7 @@ module _ (net : Net) (st : State) (formed : IsWellFormed net) (d n : DeskState) 
       | inl e ↦ elim (around.primer (ap (λ z. is_some (Pure.primed_of (slice_get n.seats z))) (sym e) ∙ now)) [
         | inl was ↦ ap (λ z. is_some (Pure.primed_of (slice_get d.seats z))) e ∙ was
         | inr stage ↦ (let f = follows net st formed d laid s u apart e in
-          clash new u (stage u f.0 inside (λ t less most. ap (λ z. Pure.first_of t (slice_get z t)) around.doors ∙ f.1 t less most)) off)
+            clash new u (stage u f.0 inside (λ t less most. ap (λ z. Pure.first_of t (slice_get z t)) around.doors ∙ f.1 t less most)) off)
       ]
     ]
       where

@@ -1,5 +1,5 @@
 -- The words and their summary are filled.
-use Rattle.std.proofs.Common.{◌≡◌, ◌<◌, ◌≤◌, ◌==◌, inl, inr, ℕ, sym, ◌∙◌, ap, subst, arith, true}
+use Rattle.std.proofs.Common.{◌≡◌, ◌<◌, ◌==◌, sym, ap, subst, true}
 use Rattle.core_machine.specs.Members.{Members, is_member, has}
 use Rattle.core_machine.proofs.Fills.{filled_below, filled_bits}
 use Rattle.core_machine.proofs.Summaries.{least_inside}
