@@ -1,3 +1,10 @@
 pub mod BitSets
+pub mod Fills
+pub mod Followers
+pub mod Fulls
+pub mod Homes
 pub mod Outs
+pub mod Quiet
+pub mod Stills
 pub mod Summaries
+pub mod Wakes

@@ -6,7 +6,7 @@ use Rattle.core_machine.specs.Members.{Members, word_at, has, HasBits, IsLeast, 
 use Rattle.core_machine.proofs.BitSets.{equal_or_not, least_is, bit_here, low_bit}
 
 -- a word with a bit isn't 0
-some_word : (ws : List ℕ) (s : ℕ) → has ws s ≡ 1 → 0 < word_at ws (s / 64)
+pub some_word : (ws : List ℕ) (s : ℕ) → has ws s ≡ 1 → 0 < word_at ws (s / 64)
 some_word ws s held = go (word_at ws (s / 64)) held
   where
     go : (w : ℕ) → bit_at w (s % 64) ≡ 1 → 0 < w
@@ -37,7 +37,7 @@ some_before words words' s w at some fits gone others =
     apart : t ≢ s
     apart e = let none : 0 ≡ 1 = sym gone ∙ ap (has words') (sym e) ∙ held in absurd (omega (arith, none))
 
-below_or_not : (a b : ℕ) → (a < b) ⊎ (b ≤ a)
+pub below_or_not : (a b : ℕ) → (a < b) ⊎ (b ≤ a)
 below_or_not a b = grind arith
 
 module _ (size : ℕ) (words summary words' summary' : List ℕ) (s : ℕ) (less : s < size) (is : HasBits size words summary)

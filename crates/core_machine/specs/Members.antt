@@ -1,5 +1,5 @@
 -- Sets of numbers: as the bits of words, and with a size.
-use Rattle.std.specs.Prelude.{◌≡◌, ◌<◌, ◌≤◌, ◌*◌, length, ℕ, ◌/◌, ◌%◌, ◌==◌, List, slice_get, unwrap_or, Bool, true, false}
+use Rattle.std.specs.Prelude.{◌≡◌, ◌<◌, ◌≤◌, ◌*◌, ◌-◌, ◌^◌, min, length, ℕ, ◌/◌, ◌%◌, ◌==◌, List, slice_get, unwrap_or, Bool, true, false}
 use Rattle.std.specs.Int.{bit_at}
 
 -- a word by its number, which is 0 behind the end
@@ -9,6 +9,10 @@ word_at words k = unwrap_or (slice_get words k) 0
 -- 1 where the words hold the number, else 0
 abbrev pub has : List ℕ → ℕ → ℕ
 has words s = bit_at (word_at words (s / 64)) (s % 64)
+
+-- the word whose first bits, so many, are 1
+abbrev pub low_word : ℕ → ℕ
+low_word count = 2 ^ min count 64 - 1
 
 -- it is the least number that the words hold
 abbrev pub IsLeastBit : List ℕ → ℕ → Type 0

@@ -1,5 +1,5 @@
-ghost use Rattle.std.specs.Prelude.{◌≡◌, ◌≢◌, ◌<◌, ◌^◌, ◌/◌, ◌*◌, ◌==◌, ℕ, length, replicate, MatchOption, IfSome, IfOk};
-ghost use Rattle.core_machine.specs.Members.{has, word_at, IsLeastBit};
+ghost use Rattle.std.specs.Prelude.{◌≡◌, ◌≢◌, ◌<◌, ◌≤◌, ◌-◌, ◌^◌, ◌/◌, ◌*◌, ◌==◌, ℕ, length, replicate, MatchOption, IfSome, IfOk};
+ghost use Rattle.core_machine.specs.Members.{has, word_at, low_word, IsLeastBit};
 
 use pipe_model::NoMemory;
 use std::alloc::Global;
@@ -68,6 +68,19 @@ impl Bits {
         self.words[k] = word & !bit(s % 64);
     }
 
+    /// Holds the numbers below this one, and no other.
+    pub fn fill(&mut self, count: u32)
+        requires { count ≤ 64 * length self.old }
+        ensures words { (k : ℕ) → word_at self.new k ≡ low_word (count - 64 * k) }
+        ensures size { length self.new ≡ length self.old }
+    {
+        let mut k = 0;
+        while k < self.words.len() {
+            self.words[k] = low_word((count as u64).saturating_sub(64 * k as u64));
+            k += 1;
+        }
+    }
+
     /// Whether a number is in.
     pub fn has(&self, s: u32) -> bool
         ensures { result ≡ (has self.now s == 1) }
@@ -89,6 +102,17 @@ impl Bits {
             k += 1;
         }
         None
+    }
+}
+
+// The word whose first bits, so many, are 1.
+fn low_word(count: u64) -> u64
+    ensures { result ≡ low_word count }
+{
+    if count < 64 {
+        (1 << count) - 1
+    } else {
+        u64::MAX
     }
 }
 

@@ -7,6 +7,7 @@ mod job;
 mod ready;
 #[cfg(test)]
 mod tests;
+mod wake;
 
 pub use actor::Actor;
 pub use job::{Finished, Job, RunEnd, Turned};

@@ -40,6 +40,14 @@ impl Ready {
         })
     }
 
+    /// The size: all members are below it.
+    pub fn size(&self) -> u32
+        ensures size { result ≡ self.now.size }
+        ensures inside { (t : ℕ) → self.now.size ≤ t → is_member self.now t ≡ false }
+    {
+        self.size
+    }
+
     /// Puts a strand in.
     pub fn insert(&mut self, strand: u32)
         requires { strand < self.old.size }
@@ -49,6 +57,16 @@ impl Ready {
     {
         self.members.insert(strand);
         self.summary.insert(strand / 64);
+    }
+
+    /// Puts all strands in: some word writes, as long as the set is.
+    pub fn insert_all(&mut self)
+        ensures all { (t : ℕ) → t < self.old.size → is_member self.new t ≡ true }
+        ensures more { (t : ℕ) → is_member self.old t ≡ true → is_member self.new t ≡ true }
+        ensures size { self.new.size ≡ self.old.size }
+    {
+        self.members.fill(self.size);
+        self.summary.fill((self.size + 63) / 64);
     }
 
     /// Takes a strand out.

@@ -1,4 +1,4 @@
-ghost use Rattle.std.specs.Prelude.{◌≡◌, ◌<◌, ◌&&◌, ◌==◌, length, slice_get, true, Some, ℕ, IfOk, OnErr};
+ghost use Rattle.std.specs.Prelude.{◌≡◌, ◌<◌, ◌&&◌, ◌==◌, length, slice_get, true, Some, is_some, ℕ, IfOk, OnErr};
 ghost use Rattle.run_desk.specs.declared.seat.Ask.TheVariants as Now;
 ghost use Rattle.run_desk.specs.Moves.{made, moved, pool_moved, CanMove, closed, ended, CanForget, pool_without, home, home_writing, unit_home, CanAsk, CanHold, IsHold, CanCome, HasCome};
 ghost use Rattle.commit_levels.specs.UnitState.{IsLive};
@@ -356,7 +356,8 @@ impl Desk {
         }
     }
 
-    fn in_door(&self, strand: u32, i: u16) -> Option<u32>
+    /// The number of the link at a strand's input.
+    pub fn in_door(&self, strand: u32, i: u16) -> Option<u32>
         ensures { result ≡ Pure.in_door self.now strand i }
     {
         match self.doors.get(strand as usize) {
@@ -365,12 +366,33 @@ impl Desk {
         }
     }
 
-    fn out_door(&self, strand: u32, o: u16) -> Option<u32>
+    /// The number of the link at a strand's output.
+    pub fn out_door(&self, strand: u32, o: u16) -> Option<u32>
         ensures { result ≡ Pure.out_door self.now strand o }
     {
         match self.doors.get(strand as usize) {
             None => None,
             Some(doors) => doors.output(o),
+        }
+    }
+
+    /// The numbers of the links at all of a strand's inputs.
+    pub fn inputs(&self, strand: u32) -> &[Option<u32>]
+        ensures { result.now ≡ Pure.inputs_of (slice_get self.now.doors strand) }
+    {
+        match self.doors.get(strand as usize) {
+            None => &[],
+            Some(doors) => doors.inputs(),
+        }
+    }
+
+    /// The numbers of the links at all of a strand's outputs.
+    pub fn outputs(&self, strand: u32) -> &[Option<u32>]
+        ensures { result.now ≡ Pure.outputs_of (slice_get self.now.doors strand) }
+    {
+        match self.doors.get(strand as usize) {
+            None => &[],
+            Some(doors) => doors.outputs(),
         }
     }
 
@@ -383,7 +405,8 @@ impl Desk {
         }
     }
 
-    fn first_of(&self, strand: u32) -> u32
+    /// The first strand of the stage that a strand belongs to.
+    pub fn first_of(&self, strand: u32) -> u32
         ensures { result ≡ Pure.first_of strand (slice_get self.now.doors strand) }
     {
         match self.doors.get(strand as usize) {
@@ -421,7 +444,18 @@ impl Desk {
         }
     }
 
-    fn level_code(&self, level: i32) -> Option<i32>
+    /// Whether a strand has seen a record, or ended without one. Then it is settled what those are told that wait for it.
+    pub fn is_primer(&self, strand: u32) -> bool
+        ensures { result ≡ is_some (Pure.primed_of (slice_get self.now.seats strand)) }
+    {
+        match self.seat(strand) {
+            None => false,
+            Some(seat) => seat.has_seen || seat.has_ended,
+        }
+    }
+
+    /// The answer of a commit level, once all strands stand there, and None where the number is no level.
+    pub fn level_code(&self, level: i32) -> Option<i32>
         ensures { result ≡ Pure.level_code self.now level }
     {
         if -1 <= level && level <= 1_000 {

@@ -1,0 +1,100 @@
+-- Whom a strand that comes home concerns is woken.
+use Rattle.std.proofs.Common.{◌≡◌, ◌⊎◌, inl, ℕ, ◌<◌, Bool, true, false, ◌||◌, not, List, length, refl, sym, ◌∙◌, ap, subst, Option, Some, None, is_some, slice_get, ℤ, pos, negsuc}
+use Rattle.std.specs.Option.{option_map}
+use Rattle.pipe_model.specs.declared.net.Net.{Net}
+use Rattle.pipe_model.specs.declared.net.Link.{Link}
+use Rattle.pipe_model.specs.declared.step.Want.{Want}
+use Rattle.pipe_model.specs.declared.step.Want.TheVariants as want
+use Rattle.pipe_model.specs.State.{State}
+use Rattle.pipe_model.specs.Licence.{Left}
+use Rattle.pipe_model.specs.WellFormed.{IsWellFormed}
+use Rattle.record_pool.specs.declared.pool.Held.{Held}
+use Rattle.run_desk.specs.declared.seat.Ask.{Ask}
+use Rattle.run_desk.specs.declared.seat.Ask.TheVariants as Now
+use Rattle.run_desk.specs.declared.seat.Seat.{Seat}
+use Rattle.run_desk.specs.Desk.{DeskState}
+use Rattle.run_desk.specs.Kept.{IsKept, link_through}
+use Rattle.run_desk.specs.Moves.{HasCome, home, asking, changed, offers}
+use Rattle.run_desk.specs.Pure as Pure
+use Rattle.core_machine.specs.Members.{Members, is_member}
+use Rattle.core_machine.specs.Woken.{IsCovering, AsksEarly, IsWhole, IsLarger, IsReaderIn, commits}
+use Rattle.core_machine.proofs.Fulls.{same_code}
+use Rattle.core_machine.proofs.Stills.{IsStill, still_same, still_changed, changed_here, changed_there}
+use Rattle.core_machine.proofs.Wakes.{IsAround, clash, covers_on, full_levels}
+
+-- who asks for something has seen and ended as much as before
+asking_seat : (ask : Ask) (x : Option Seat) → Pure.primed_of (option_map (asking ask) x) ≡ Pure.primed_of x
+asking_seat ask None = refl
+asking_seat ask (Some seat) = refl
+
+module _ (net : Net) (d n : DeskState) (s : ℕ) (new : Members) (low zero : Bool) (here : is_member new s ≡ true)
+    (fills_low : low ≡ false → is_some (Pure.level_code n (negsuc 0)) ≡ true → IsWhole new) (fills_zero : zero ≡ false → is_some (Pure.level_code n (pos 0)) ≡ true → IsWhole new) where
+  around_home : (ask : Ask) → n.seats ≡ changed d.seats (asking ask) (Some s) → n.doors ≡ d.doors → ((u : ℕ) → is_member new u ≡ false → IsStill net.links u d.wires n.wires) →
+      ((u : ℕ) → u < new.size → is_member new u ≡ false → (level : ℤ) → (level ≡ negsuc 0) ⊎ (level ≡ pos 0) → is_some (Pure.level_code n level) ≡ true → is_some (Pure.level_code d level) ≡ true) →
+      IsAround net d n s new
+  around_home ask seats doors still levels = record {
+    seats = λ u apart. ap (λ z. slice_get z u) seats ∙ changed_there d.seats (asking ask) s u apart;
+    doors = doors;
+    still = λ u apart off. still u off;
+    levels = levels;
+    primer = λ now. inl (ap is_some (sym (ap (λ z. Pure.primed_of (slice_get z s)) seats ∙ ap Pure.primed_of (changed_here d.seats (asking ask) s) ∙ asking_seat ask (slice_get d.seats s))) ∙ now);
+    here = λ k p. here;
+  }
+
+  -- who neither writes nor asks for a level
+  around_plain : (ask : Ask) → n ≡ home d s ask → (home d s ask).unit ≡ d.unit → IsAround net d n s new
+  around_plain ask is unit = around_home ask (ap (λ (z : DeskState). z.seats) is) (ap (λ (z : DeskState). z.doors) is)
+      (λ u off. subst (IsStill net.links u d.wires) (sym (ap (λ (z : DeskState). z.wires) is)) (still_same net.links u d.wires))
+      (λ u inside off level early. same_code d n level (ap (λ (z : DeskState). z.unit) is ∙ unit))
+
+  around_want : (places after : List (Option Held)) (w : Want) → HasCome d places s w n after → IsReaderIn d net.links s w new →
+      low ≡ (not (commits w) || is_some (Pure.level_code d (negsuc 0))) → zero ≡ (not (commits w) || is_some (Pure.level_code d (pos 0))) → IsAround net d n s new
+  around_want places after (want.Write o out) come reader low_is zero_is =
+      around_home (Now.Write o) (ap (λ (z : DeskState). z.seats) come.2) (ap (λ (z : DeskState). z.doors) come.2)
+      (λ u off. subst (IsStill net.links u d.wires) (sym (ap (λ (z : DeskState). z.wires) come.2))
+      (still_changed net.links u d.wires (offers come.0) (Pure.out_door d s o)
+      (λ j link wire door l to at. clash new u (ap (is_member new) (sym to) ∙ reader link (ap (link_through net.links) door ∙ l)) off)
+      (λ j link wire door l from at. (λ p. p, λ p. p))))
+      (λ u inside off level early. same_code d n level (ap (λ (z : DeskState). z.unit) come.2))
+  around_want places after (want.Commit l) come reader low_is zero_is =
+      around_home (Now.Commit l) (ap (λ (z : DeskState). z.seats) come.0) (ap (λ (z : DeskState). z.doors) come.0)
+      (λ u off. subst (IsStill net.links u d.wires) (sym (ap (λ (z : DeskState). z.wires) come.0)) (still_same net.links u d.wires))
+      (full_levels d n new low zero low_is zero_is fills_low fills_zero)
+  around_want places after (want.Read i) come reader low_is zero_is = around_plain (Now.Read i) come.0 refl
+  around_want places after want.Any come reader low_is zero_is = around_plain Now.Any come.0 refl
+  around_want places after want.Gate come reader low_is zero_is = around_plain Now.Gate come.0 refl
+  around_want places after (want.Take i) come reader low_is zero_is = around_plain (Now.Take i) come.0 refl
+  around_want places after want.Primed come reader low_is zero_is = around_plain Now.Primed come.0 refl
+  around_want places after (want.Issue text) come reader low_is zero_is = around_plain Now.Issue come.0 refl
+  around_want places after (want.Join unit) come reader low_is zero_is = around_plain (Now.Join unit) come.0 refl
+  around_want places after (want.Cut i) come reader low_is zero_is = around_plain (Now.Cut i) come.0 refl
+  around_want places after (want.Done code) come reader low_is zero_is = around_plain (Now.Done code) come.0 refl
+
+more_readers : (d : DeskState) (links : List Link) (s : ℕ) (w : Want) (set more : Members) → ((t : ℕ) → is_member set t ≡ true → is_member more t ≡ true) → IsReaderIn d links s w set → IsReaderIn d links s w more
+more_readers d links s (want.Write o out) set more larger reader = λ link l. larger link.to (reader link l)
+more_readers d links s (want.Commit l) set more larger reader = reader
+more_readers d links s (want.Read i) set more larger reader = reader
+more_readers d links s want.Any set more larger reader = reader
+more_readers d links s want.Gate set more larger reader = reader
+more_readers d links s (want.Take i) set more larger reader = reader
+more_readers d links s want.Primed set more larger reader = reader
+more_readers d links s (want.Issue text) set more larger reader = reader
+more_readers d links s (want.Join unit) set more larger reader = reader
+more_readers d links s (want.Cut i) set more larger reader = reader
+more_readers d links s (want.Done code) set more larger reader = reader
+
+-- after a strand came home the set covers the strands that may go on, where it, who reads what it writes and those for whom it settled something were woken
+pub covers_home : (net : Net) (texts : ℕ → List ℕ) (st : State) (left : Left) (d n : DeskState) (links : List Link) → net.links ≡ links → IsWellFormed net → IsKept net texts st left d → AsksEarly n →
+    (places after : List (Option Held)) (s : ℕ) (w : Want) (old set new : Members) (low zero : Bool) → length net.strands ≡ old.size → HasCome d places s w n after →
+    IsLarger old set → is_member set s ≡ true → IsReaderIn d links s w set → IsLarger set new →
+    low ≡ (not (commits w) || is_some (Pure.level_code d (negsuc 0))) → zero ≡ (not (commits w) || is_some (Pure.level_code d (pos 0))) →
+    (low ≡ false → is_some (Pure.level_code n (negsuc 0)) ≡ true → IsWhole new) → (zero ≡ false → is_some (Pure.level_code n (pos 0)) ≡ true → IsWhole new) →
+    IsCovering d old → IsCovering n new
+covers_home net texts st left d n links same formed kept early places after s w old set new low zero size come larger here reader larger' low_is zero_is fills_low fills_zero covers =
+    covers_on net st formed d n kept.laid s new (larger'.0 ∙ larger.0 ∙ sym size) around
+    old (λ t held. larger'.1 t (larger.1 t held)) covers
+    (λ u apart level asks. early u level (ap Pure.ask_of (around.seats u apart) ∙ asks))
+  where
+    around : IsAround net d n s new
+    around = around_want net d n s new low zero (larger'.1 s here) fills_low fills_zero places after w come
+        (more_readers d net.links s w set new larger'.1 (subst (λ z. IsReaderIn d z s w set) (sym same) reader)) low_is zero_is
