@@ -1,10 +1,13 @@
+pub mod Away
 pub mod BitSets
 pub mod Fills
 pub mod Followers
 pub mod Fulls
 pub mod Homes
+pub mod Jobs
 pub mod Outs
 pub mod Quiet
+pub mod Sounds
 pub mod Stills
 pub mod Summaries
 pub mod Wakes

@@ -1,312 +1,221 @@
--- The places that are out, and the strands that they leave out.
-use Rattle.std.proofs.Common.{◌≡◌, ◌≢◌, ◌⊎◌, inl, inr, ℕ, zero, suc, ◌+◌, ◌≤◌, ◌<◌, Bool, true, false, cond, ◌&&◌, ◌||◌, not, ◌==◌, List, [], ◌∷◌, ◌++◌, length, refl, sym, ◌∙◌, ap, subst, arith, Option, Some, None, slice_get}
-use Rattle.std.specs.Prelude.{filter, take}
-use Rattle.std.specs.List.{list_any}
-use mathlib.Core.Path.{fun_ext}
+-- Whom a turn concerns is woken by it.
+use Rattle.std.proofs.Common.{◌≡◌, ◌≢◌, ◌⊎◌, inl, inr, ℕ, ◌+◌, ◌<◌, Bool, true, false, cond, ◌&&◌, ◌||◌, not, ◌==◌, List, length, refl, sym, ◌∙◌, ap, subst, arith, Option, Some, None, is_some, slice_get, ℤ, pos, negsuc}
+use Rattle.std.specs.Prelude.{IsSome}
+use Rattle.std.specs.Option.{option_map}
 use Rattle.pipe_model.specs.declared.net.Net.{Net}
-use Rattle.pipe_model.specs.declared.step.Entry.{Entry}
-use Rattle.pipe_model.specs.Event.{one_more}
-use Rattle.pipe_model.specs.State.{Who, past}
-use Rattle.pipe_model.specs.Play.{play}
-use Rattle.confluence_laws.proofs.Basics.{same_number, equal_or_not, test_same, test_apart}
-use Rattle.run_desk.specs.Kept.{left_out, left_in}
-use Rattle.core_machine.specs.Machine.{is_of, is_at, left_by, without, is_among}
-use Rattle.core_machine.specs.Sound.{IsLast, AreLast, AreApart}
+use Rattle.pipe_model.specs.declared.net.Link.{Link}
+use Rattle.pipe_model.specs.declared.step.Seen.{Seen}
+use Rattle.pipe_model.specs.declared.step.Seen.TheVariants.{Up, Saw, SawEnd, SawAllEnd, Took, Put, Refused, Cut, Primed, Opened, Joined, Ended}
+use Rattle.pipe_model.specs.State.{State}
+use Rattle.pipe_model.specs.Licence.{Left}
+use Rattle.pipe_model.specs.WellFormed.{IsWellFormed}
+use Rattle.confluence_laws.proofs.Basics.{and_false, test_apart, same_number}
+use Rattle.record_pool.specs.declared.pool.Held.{Held}
+use Rattle.connectors.specs.WireState.{WireState, at_hand, taken, settled, cleared}
+use Rattle.run_desk.specs.declared.seat.Seat.{Seat}
+use Rattle.run_desk.specs.Desk.{DeskState}
+use Rattle.run_desk.specs.Kept.{IsLaid, IsKept, link_through}
+use Rattle.run_desk.specs.Moves.{made, CanMove, seat_after, out_shut, in_shut, ends, sees}
+use Rattle.run_desk.specs.Pure as Pure
+use Rattle.core_machine.specs.Members.{Members, is_member}
+use Rattle.core_machine.specs.Woken.{IsCovering, AsksEarly, IsWhole, IsLarger, IsStageIn, AreEndsIn, primes}
+use Rattle.core_machine.proofs.Fulls.{reached_code, same_code}
+use Rattle.core_machine.proofs.Stills.{IsStill, Reads, still_same, still_changed, still_closed, leads_from, changed_here, changed_there}
+use Rattle.core_machine.proofs.Wakes.{IsAround, clash, covers_on, full_levels}
 
--- how many of the numbers below n pass the test
-abbrev tally : (ℕ → Bool) → ℕ → ℕ
-tally p zero = 0
-tally p (suc n) = one_more (p n) (tally p n)
+-- Wires
 
-pub get_before : {A : Type 0} (xs ys : List A) (i : ℕ) → i < length xs → slice_get (xs ++ ys) i ≡ slice_get xs i
-get_before [] ys i p = absurd (omega arith)
-get_before (x ∷ xs) ys zero p = refl
-get_before (x ∷ xs) ys (suc i) p = get_before xs ys i (omega (arith, p))
-
-pub get_end : {A : Type 0} (xs : List A) (x : A) → slice_get (xs ++ x ∷ []) (length xs) ≡ Some x
-get_end [] x = refl
-get_end (y ∷ ys) x = get_end ys x
-
-neither : (a b : Bool) → (a || b) ≡ false → (a ≡ false) × (b ≡ false)
-neither true b z = cc
-neither false b z = (refl, z)
-
-any_append : (p : ℕ → Bool) (xs : List ℕ) (y : ℕ) → list_any p (xs ++ y ∷ []) ≡ (list_any p xs || p y)
-any_append p [] y = or_false (p y)
+-- a record at hand was put as often as taken
+hand_even : (wire : WireState) → IsSome (at_hand wire) → (wire.puts == wire.tooks) ≡ true
+hand_even wire some = go (wire.puts == wire.tooks) some
   where
-    or_false : (b : Bool) → (b || false) ≡ b
-    or_false true = refl
-    or_false false = refl
-any_append p (x ∷ xs) y = ap (λ b. p x || b) (any_append p xs y) ∙ assoc (p x) (list_any p xs) (p y)
+    go : (b : Bool) → is_some (cond b wire.offer None) ≡ true → b ≡ true
+    go true p = refl
+    go false p = cc
+
+-- where a record was taken nobody sees it any more
+taken_reads : (wire : WireState) → IsSome (at_hand wire) → Reads (Some wire) (Some (taken wire))
+taken_reads wire some = (λ p. no_hand p, λ p. no_over p)
   where
-    assoc : (a b c : Bool) → (a || (b || c)) ≡ ((a || b) || c)
-    assoc true b c = refl
-    assoc false b c = refl
+    odd : (wire.puts == wire.tooks + 1) ≡ false
+    odd = test_apart wire.puts (wire.tooks + 1) (λ e. let same = same_number wire.puts wire.tooks (hand_even wire some) in absurd (omega (arith, e, same)))
 
--- Going out
+    no_hand : is_some (cond (wire.puts == wire.tooks + 1) wire.offer None) ≡ true → Pure.shows (Some wire) ≡ true
+    no_hand p = let z : false ≡ true = sym (ap (λ b. is_some (cond b wire.offer None)) odd) ∙ p in cc
 
-module _ (net : Net) (journal : List Entry) (e : Entry) where
-  abbrev longer : List Entry
-  longer = journal ++ e ∷ []
+    no_over : (wire.out_closed && wire.puts == wire.tooks + 1) ≡ true → Pure.is_over (Some wire) ≡ true
+    no_over p = let z : false ≡ true = sym (ap (λ b. wire.out_closed && b) odd ∙ and_false wire.out_closed) ∙ p in cc
 
-  at_old : (s p : ℕ) → p ≤ length journal → is_at longer s p ≡ is_at journal s p
-  at_old s zero m = refl
-  at_old s (suc p) m = ap (is_of s) (get_before journal (e ∷ []) p (omega (arith, m)))
+-- nor where its offer was withdrawn
+cleared_reads : (wire : WireState) → Reads (Some wire) (Some (cleared wire))
+cleared_reads wire = (λ p. nothing (wire.puts == wire.tooks) p, λ p. p)
+  where
+    nothing : (b : Bool) → is_some (cond {A = Option ℕ} b None None) ≡ true → Pure.shows (Some wire) ≡ true
+    nothing true p = cc
+    nothing false p = cc
 
-  at_new : (s : ℕ) → is_at longer s (suc (length journal)) ≡ (e.strand == s)
-  at_new s = ap (is_of s) (get_end journal e)
+-- Seats
 
-  pub left_old : (s : ℕ) (out : List ℕ) → AreLast net journal out → left_by longer out s ≡ left_by journal out s
-  left_old s [] last = refl
-  left_old s (p ∷ ps) last = ap (λ b. b || left_by longer ps s) (at_old s p last.0.there) ∙ ap (λ b. is_at journal s p || b) (left_old s ps last.1)
+-- who is told something asks for nothing
+asks_nothing : (seen : Seen) (x : Option Seat) → Pure.ask_of (option_map (seat_after seen) x) ≡ Pure.ask_of None
+asks_nothing seen None = refl
+asks_nothing seen (Some seat) = refl
 
-  pub left_turned : (out : List ℕ) → AreLast net journal out → left_by longer (out ++ suc (length journal) ∷ []) ≡ left_out (left_by journal out) e.strand
-  left_turned out last = fun_ext (λ u. each u)
-    where
-      flip : (u : ℕ) (b : Bool) → (e.strand == u) ≡ b → (left_by journal out u || b) ≡ cond (u == e.strand) true (left_by journal out u)
-      flip u true is = go (left_by journal out u) ∙ sym (ap (λ b. cond b true (left_by journal out u)) (ap (λ z. u == z) (same_number _ _ is) ∙ test_same u))
+-- what neither shows a record nor ends the strand settles nothing for its stage
+plain_seat : (seen : Seen) → sees seen ≡ false → ends seen ≡ false → (x : Option Seat) → is_some (Pure.primed_of (option_map (seat_after seen) x)) ≡ true → is_some (Pure.primed_of x) ≡ true
+plain_seat seen blind live None p = p
+plain_seat seen blind live (Some seat) p =
+    go seat.has_seen seat.has_ended
+    (ap (λ z. is_some (cond (seat.has_seen || false) (Some true) (cond (seat.has_ended || z) (Some false) None))) (sym live)
+    ∙ ap (λ z. is_some (cond (seat.has_seen || z) (Some true) (cond (seat.has_ended || ends seen) (Some false) None))) (sym blind) ∙ p)
+  where
+    go : (a b : Bool) → is_some (cond (a || false) (Some true) (cond (b || false) (Some false) None)) ≡ true → is_some (cond a (Some true) (cond b (Some false) None)) ≡ true
+    go true b p = refl
+    go false true p = refl
+    go false false p = cc
+
+primes_or_plain : (seen : Seen) → (primes seen ≡ true) ⊎ ((sees seen ≡ false) × (ends seen ≡ false))
+primes_or_plain (Saw i) = inl refl
+primes_or_plain (Ended c) = inl refl
+primes_or_plain (Up l c) = inr (refl, refl)
+primes_or_plain (SawEnd i) = inr (refl, refl)
+primes_or_plain SawAllEnd = inr (refl, refl)
+primes_or_plain (Took i) = inr (refl, refl)
+primes_or_plain (Put o) = inr (refl, refl)
+primes_or_plain (Refused o) = inr (refl, refl)
+primes_or_plain (Cut i) = inr (refl, refl)
+primes_or_plain (Primed b) = inr (refl, refl)
+primes_or_plain (Opened k) = inr (refl, refl)
+primes_or_plain (Joined k c) = inr (refl, refl)
+
+module _ (net : Net) (st : State) (d : DeskState) (laid : IsLaid net st d) (places : List (Option Held)) (s : ℕ) (new : Members) where
+  module _ (u : ℕ) (apart : u ≢ s) (off : is_member new u ≡ false) where
+    -- a strand that wasn't woken sees no more on the wires
+    still_made : (seen : Seen) → CanMove d places s seen → AreEndsIn d net.links s seen new → IsStill net.links u d.wires (made d s seen).wires
+    still_made (Took i) can woken = still_changed net.links u d.wires taken (Pure.in_door d s i)
+        (λ j link wire door l to at. taken_reads wire (can.0 wire (ap (Pure.through d.wires) door ∙ at)))
+        (λ j link wire door l from at. clash new u (ap (is_member new) (sym from) ∙ woken link (ap (link_through net.links) door ∙ l)) off)
+    still_made (Put o) can woken = still_changed net.links u d.wires settled (Pure.out_door d s o)
+        (λ j link wire door l to at. clash new u (ap (is_member new) (sym to) ∙ woken link (ap (link_through net.links) door ∙ l)) off)
+        (λ j link wire door l from at. absurd (apart (sym from ∙ leads_from net st d laid s o j link door l)))
+    still_made (Refused o) can woken = still_changed net.links u d.wires cleared (Pure.out_door d s o)
+        (λ j link wire door l to at. cleared_reads wire)
+        (λ j link wire door l from at. (λ p. p, λ p. p))
+    still_made (Ended c) can woken = still_closed net.links u d.wires out_shut in_shut (Pure.outputs_of (slice_get d.doors s)) (Pure.inputs_of (slice_get d.doors s))
+        (λ x wire p. p) (λ x wire p. p)
+        (λ j link place door l to. clash new u (ap (is_member new) (sym to) ∙ woken.0 place (Some j) door link l) off)
+        (λ j link place door l from. clash new u (ap (is_member new) (sym from) ∙ woken.1 place (Some j) door link l) off)
+    still_made (Up l c) can woken = still_same net.links u d.wires
+    still_made (Saw i) can woken = still_same net.links u d.wires
+    still_made (SawEnd i) can woken = still_same net.links u d.wires
+    still_made SawAllEnd can woken = still_same net.links u d.wires
+    still_made (Cut i) can woken = still_same net.links u d.wires
+    still_made (Primed b) can woken = still_same net.links u d.wires
+    still_made (Opened k) can woken = still_same net.links u d.wires
+    still_made (Joined k c) can woken = still_same net.links u d.wires
+
+  same_doors : (seen : Seen) → (made d s seen).doors ≡ d.doors
+  same_doors (Up l c) = refl
+  same_doors (Saw i) = refl
+  same_doors (SawEnd i) = refl
+  same_doors SawAllEnd = refl
+  same_doors (Took i) = refl
+  same_doors (Put o) = refl
+  same_doors (Refused o) = refl
+  same_doors (Cut i) = refl
+  same_doors (Primed b) = refl
+  same_doors (Opened k) = refl
+  same_doors (Joined k c) = refl
+  same_doors (Ended c) = refl
+
+  -- what was settled before, and what was woken where it is settled now
+  module _ (primer low zero : Bool) where
+    levels_made : (seen : Seen) → CanMove d places s seen →
+        low ≡ (not (ends seen) || is_some (Pure.level_code d (negsuc 0))) → zero ≡ (not (ends seen) || is_some (Pure.level_code d (pos 0))) →
+        (low ≡ false → is_some (Pure.level_code (made d s seen) (negsuc 0)) ≡ true → IsWhole new) → (zero ≡ false → is_some (Pure.level_code (made d s seen) (pos 0)) ≡ true → IsWhole new) →
+        (u : ℕ) → u < new.size → is_member new u ≡ false → (level : ℤ) → (level ≡ negsuc 0) ⊎ (level ≡ pos 0) →
+        is_some (Pure.level_code (made d s seen) level) ≡ true → is_some (Pure.level_code d level) ≡ true
+    levels_made (Ended c) can low_is zero_is fills_low fills_zero u inside off level early = full_levels d (made d s (Ended c)) new low zero low_is zero_is fills_low fills_zero u inside off level early
+    levels_made (Up l c) can low_is zero_is fills_low fills_zero u inside off level early = reached_code d (made d s (Up l c)) s l level can.3 refl
+    levels_made (Saw i) can low_is zero_is fills_low fills_zero u inside off level early = same_code d (made d s (Saw i)) level refl
+    levels_made (SawEnd i) can low_is zero_is fills_low fills_zero u inside off level early = same_code d (made d s (SawEnd i)) level refl
+    levels_made SawAllEnd can low_is zero_is fills_low fills_zero u inside off level early = same_code d (made d s SawAllEnd) level refl
+    levels_made (Took i) can low_is zero_is fills_low fills_zero u inside off level early = same_code d (made d s (Took i)) level refl
+    levels_made (Put o) can low_is zero_is fills_low fills_zero u inside off level early = same_code d (made d s (Put o)) level refl
+    levels_made (Refused o) can low_is zero_is fills_low fills_zero u inside off level early = same_code d (made d s (Refused o)) level refl
+    levels_made (Cut i) can low_is zero_is fills_low fills_zero u inside off level early = same_code d (made d s (Cut i)) level refl
+    levels_made (Primed b) can low_is zero_is fills_low fills_zero u inside off level early = same_code d (made d s (Primed b)) level refl
+    levels_made (Opened k) can low_is zero_is fills_low fills_zero u inside off level early = same_code d (made d s (Opened k)) level refl
+    levels_made (Joined k c) can low_is zero_is fills_low fills_zero u inside off level early = same_code d (made d s (Joined k c)) level refl
+
+    module _ (seen : Seen) where
+      abbrev n : DeskState
+      n = made d s seen
+
+      seat_here : slice_get n.seats s ≡ option_map (seat_after seen) (slice_get d.seats s)
+      seat_here = changed_here d.seats (seat_after seen) s
+
+      nobody_here : (k : ℕ) → is_some (Pure.seen_at n s k) ≡ true → is_member new s ≡ true
+      nobody_here k p =
+          let nothing : is_some (Pure.seen_by n s k (Pure.ask_of None)) ≡ true =
+          subst (λ z. is_some (Pure.seen_by n s k z) ≡ true) (ap Pure.ask_of seat_here ∙ asks_nothing seen (slice_get d.seats s)) p in
+          absurd (let r : ⊥ = cc in r)
+
+      primer_made : primer ≡ (not (primes seen) || is_some (Pure.primed_of (slice_get d.seats s))) →
+          (primer ≡ false → is_some (Pure.primed_of (slice_get n.seats s)) ≡ true → IsStageIn n s new) →
+          is_some (Pure.primed_of (slice_get n.seats s)) ≡ true → (is_some (Pure.primed_of (slice_get d.seats s)) ≡ true) ⊎ IsStageIn n s new
+      primer_made is stage now = by (primes_or_plain seen)
         where
-          go : (b : Bool) → (b || true) ≡ true
-          go true = refl
-          go false = refl
-      flip u false is = go (left_by journal out u) ∙ sym (ap (λ b. cond b true (left_by journal out u)) (test_apart u e.strand (λ z. absurd (let q : true ≡ false = sym (test_same u) ∙ ap (λ y. y == u) z ∙ is in (let r : ⊥ = cc in r)))))
-        where
-          go : (b : Bool) → (b || false) ≡ b
-          go true = refl
-          go false = refl
+          go : (b : Bool) → is_some (Pure.primed_of (slice_get d.seats s)) ≡ b → primes seen ≡ true → (is_some (Pure.primed_of (slice_get d.seats s)) ≡ true) ⊎ IsStageIn n s new
+          go true was primed = inl was
+          go false was primed = inr (stage (is ∙ ap (λ z. not z || is_some (Pure.primed_of (slice_get d.seats s))) primed ∙ was) now)
 
-      each : (u : ℕ) → left_by longer (out ++ suc (length journal) ∷ []) u ≡ left_out (left_by journal out) e.strand u
-      each u = any_append (is_at longer u) out (suc (length journal)) ∙ ap (λ b. b || is_at longer u (suc (length journal))) (left_old u out last)
-          ∙ ap (λ b. left_by journal out u || b) (at_new u) ∙ flip u (e.strand == u) refl
+          by : (primes seen ≡ true) ⊎ ((sees seen ≡ false) × (ends seen ≡ false)) → (is_some (Pure.primed_of (slice_get d.seats s)) ≡ true) ⊎ IsStageIn n s new
+          by (inl primed) = go (is_some (Pure.primed_of (slice_get d.seats s))) refl primed
+          by (inr plain) = inl (plain_seat seen plain.0 plain.1 (slice_get d.seats s) (ap (λ z. is_some (Pure.primed_of z)) (sym seat_here) ∙ now))
 
-  take_longer : (xs ys : List Entry) (n : ℕ) → n ≤ length xs → take n (xs ++ ys) ≡ take n xs
-  take_longer [] ys zero m = refl
-  take_longer [] ys (suc n) m = absurd (omega arith)
-  take_longer (x ∷ xs) ys zero m = refl
-  take_longer (x ∷ xs) ys (suc n) m = ap (λ z. x ∷ z) (take_longer xs ys n (omega (arith, m)))
+      -- the desk after a turn differs by what happened at the strand
+      around_made : CanMove d places s seen → AreEndsIn d net.links s seen new →
+          primer ≡ (not (primes seen) || is_some (Pure.primed_of (slice_get d.seats s))) →
+          low ≡ (not (ends seen) || is_some (Pure.level_code d (negsuc 0))) → zero ≡ (not (ends seen) || is_some (Pure.level_code d (pos 0))) →
+          (primer ≡ false → is_some (Pure.primed_of (slice_get n.seats s)) ≡ true → IsStageIn n s new) →
+          (low ≡ false → is_some (Pure.level_code n (negsuc 0)) ≡ true → IsWhole new) → (zero ≡ false → is_some (Pure.level_code n (pos 0)) ≡ true → IsWhole new) →
+          IsAround net d n s new
+      around_made can woken primer_is low_is zero_is stage fills_low fills_zero = record {
+        seats = λ u apart. changed_there d.seats (seat_after seen) s u apart;
+        doors = same_doors seen;
+        still = λ u apart off. still_made u apart off seen can woken;
+        levels = levels_made seen can low_is zero_is fills_low fills_zero;
+        primer = primer_made primer_is stage;
+        here = nobody_here;
+      }
 
-  take_whole : (xs : List Entry) → take (length xs) xs ≡ xs
-  take_whole [] = refl
-  take_whole (x ∷ xs) = ap (λ z. x ∷ z) (take_whole xs)
+-- who was woken stays in a larger set
+more_ends : (d : DeskState) (links : List Link) (s : ℕ) (seen : Seen) (set more : Members) → ((t : ℕ) → is_member set t ≡ true → is_member more t ≡ true) → AreEndsIn d links s seen set → AreEndsIn d links s seen more
+more_ends d links s (Took i) set more larger woken = λ link l. larger link.from (woken link l)
+more_ends d links s (Put o) set more larger woken = λ link l. larger link.to (woken link l)
+more_ends d links s (Ended c) set more larger woken = (λ place door at link l. larger link.to (woken.0 place door at link l), λ place door at link l. larger link.from (woken.1 place door at link l))
+more_ends d links s (Up l c) set more larger woken = woken
+more_ends d links s (Saw i) set more larger woken = woken
+more_ends d links s (SawEnd i) set more larger woken = woken
+more_ends d links s SawAllEnd set more larger woken = woken
+more_ends d links s (Refused o) set more larger woken = woken
+more_ends d links s (Cut i) set more larger woken = woken
+more_ends d links s (Primed b) set more larger woken = woken
+more_ends d links s (Opened k) set more larger woken = woken
+more_ends d links s (Joined k c) set more larger woken = woken
 
-  end_length : (xs : List Entry) (x : Entry) → length (xs ++ x ∷ []) ≡ suc (length xs)
-  end_length [] x = refl
-  end_length (y ∷ ys) x = ap suc (end_length ys x)
-
-  module _ (inside : e.strand < length net.strands) (others : (u : ℕ) → u ≢ e.strand → past (play net longer) u ≡ past (play net journal) u) where
-    last_old : (out : List ℕ) → AreLast net journal out → left_by journal out e.strand ≡ false → AreLast net longer out
-    last_old [] last home = tt
-    last_old (p ∷ ps) last home = (
-      record {
-        some = last.0.some;
-        there = let a = last.0.there in (let b = end_length journal e in omega (arith, a, b));
-        whose = (last.0.whose.0, last.0.whose.1, at_old last.0.whose.0 p last.0.there ∙ last.0.whose.2);
-        since = λ s at.
-            let was : is_at journal s p ≡ true = sym (at_old s p last.0.there) ∙ at in
-            others s (λ z. (let no : true ≡ false = sym was ∙ ap (λ y. is_at journal y p) z ∙ (none (is_at journal e.strand p) (left_by journal ps e.strand) home).0 in (let r : ⊥ = cc in r)))
-            ∙ last.0.since s was ∙ ap (λ z. past (play net z) s) (sym (take_longer journal (e ∷ []) p last.0.there));
-      },
-      last_old ps last.1 (none (is_at journal e.strand p) (left_by journal ps e.strand) home).1,
-    )
-      where
-        none : (a b : Bool) → (a || b) ≡ false → (a ≡ false) × (b ≡ false)
-        none true b q = cc
-        none false b q = (refl, q)
-
-    new_last : IsLast net longer (suc (length journal))
-    new_last = record {
-      some = omega arith;
-      there = let b = end_length journal e in omega (arith, b);
-      whose = (e.strand, inside, at_new e.strand ∙ test_same e.strand);
-      since = λ s at. ap (λ z. past (play net z) s) (sym (ap (λ n. take n longer) (sym (end_length journal e)) ∙ take_whole longer));
-    }
-
-    append_last : (out : List ℕ) (p : ℕ) → AreLast net longer out → IsLast net longer p → AreLast net longer (out ++ p ∷ [])
-    append_last [] p a b = (b, tt)
-    append_last (q ∷ qs) p a b = (a.0, append_last qs p a.1 b)
-
-    pub last_turned : (out : List ℕ) → AreLast net journal out → left_by journal out e.strand ≡ false → AreLast net longer (out ++ suc (length journal) ∷ [])
-    last_turned out last home = append_last out (suc (length journal)) (last_old out last home) new_last
-
-  pub apart_turned : (out : List ℕ) → AreLast net journal out → AreApart journal out → left_by journal out e.strand ≡ false → AreApart longer (out ++ suc (length journal) ∷ [])
-  apart_turned [] last apart home = (λ s at. refl, tt)
-  apart_turned (p ∷ ps) last apart home = (
-    λ s at.
-        let was : is_at journal s p ≡ true = sym (at_old s p last.0.there) ∙ at in
-        let n = none (is_at journal e.strand p) (left_by journal ps e.strand) home in
-        any_append (is_at longer s) ps (suc (length journal))
-        ∙ ap (λ b. b || is_at longer s (suc (length journal))) (left_old s ps last.1 ∙ apart.0 s was)
-        ∙ at_new s ∙ test_apart e.strand s (λ z. (let no : true ≡ false = sym was ∙ ap (λ y. is_at journal y p) (sym z) ∙ n.0 in (let r : ⊥ = cc in r))),
-    apart_turned ps last.1 apart.1 (none (is_at journal e.strand p) (left_by journal ps e.strand) home).1,
-  )
-    where
-      none : (a b : Bool) → (a || b) ≡ false → (a ≡ false) × (b ≡ false)
-      none true b q = cc
-      none false b q = (refl, q)
-
--- Coming home
-
-module _ (net : Net) (journal : List Entry) (s p : ℕ) (mine : is_at journal s p ≡ true) where
-  one_strand : (u q : ℕ) → is_at journal s q ≡ true → is_at journal u q ≡ true → u ≡ s
-  one_strand u zero a b = cc
-  one_strand u (suc q) a b = go (slice_get journal q) a b
-    where
-      go : (x : Option Entry) → is_of s x ≡ true → is_of u x ≡ true → u ≡ s
-      go None a b = cc
-      go (Some e) a b = sym (same_number _ _ b) ∙ same_number _ _ a
-
-  not_mine : (u : ℕ) → u ≢ s → is_at journal u p ≡ false
-  not_mine u apart = go (is_at journal u p) refl
-    where
-      go : (b : Bool) → is_at journal u p ≡ b → is_at journal u p ≡ false
-      go true is = absurd (apart (one_strand u p mine is))
-      go false is = is
-
-  -- dropping places says nothing new
-  fewer : (u : ℕ) (out : List ℕ) → left_by journal out u ≡ false → left_by journal (without p out) u ≡ false
-  fewer u [] off = refl
-  fewer u (q ∷ qs) off = go (q == p) (fewer u qs (neither (is_at journal u q) (left_by journal qs u) off).1)
-    where
-      go : (b : Bool) → left_by journal (without p qs) u ≡ false → left_by journal (cond (not b) (q ∷ without p qs) (without p qs)) u ≡ false
-      go true rest = rest
-      go false rest = ap (λ b. b || left_by journal (without p qs) u) (neither (is_at journal u q) (left_by journal qs u) off).0 ∙ rest
-
-  same_others : (u : ℕ) → u ≢ s → (out : List ℕ) → left_by journal (without p out) u ≡ left_by journal out u
-  same_others u apart [] = refl
-  same_others u apart (q ∷ qs) = go (same_others u apart qs) (q == p) refl
-    where
-      go : left_by journal (without p qs) u ≡ left_by journal qs u → (b : Bool) → (q == p) ≡ b → left_by journal (cond (not b) (q ∷ without p qs) (without p qs)) u ≡ (is_at journal u q || left_by journal qs u)
-      go rest true is = rest ∙ ap (λ b. b || left_by journal qs u) (sym (ap (is_at journal u) (same_number q p is) ∙ not_mine u apart))
-      go rest false is = ap (λ b. is_at journal u q || b) rest
-
-  pub among_left : (out : List ℕ) → is_among p out ≡ true → left_by journal out s ≡ true
-  among_left [] in' = cc
-  among_left (q ∷ qs) in' = go (among_left qs) (q == p) refl in'
-    where
-      either : (a b : Bool) → b ≡ true → (a || b) ≡ true
-      either true b e = refl
-      either false b e = e
-
-      go : (is_among p qs ≡ true → left_by journal qs s ≡ true) → (b : Bool) → (q == p) ≡ b → (b || is_among p qs) ≡ true → (is_at journal s q || left_by journal qs s) ≡ true
-      go rest true is in' = ap (λ b. b || left_by journal qs s) (ap (is_at journal s) (same_number q p is) ∙ mine)
-      go rest false is in' = either (is_at journal s q) (left_by journal qs s) (rest in')
-
-  gone : (out : List ℕ) → AreApart journal out → is_among p out ≡ true → left_by journal (without p out) s ≡ false
-  gone [] apart in' = cc
-  gone (q ∷ qs) apart in' = go (gone qs apart.1) (q == p) refl in'
-    where
-      by : (is_among p qs ≡ true → left_by journal (without p qs) s ≡ false) → is_among p qs ≡ true → (b : Bool) → is_at journal s q ≡ b → (is_at journal s q || left_by journal (without p qs) s) ≡ false
-      by rest in' true at = let no : true ≡ false = sym (among_left qs in') ∙ apart.0 s at in cc
-      by rest in' false at = ap (λ b. b || left_by journal (without p qs) s) at ∙ rest in'
-
-      go : (is_among p qs ≡ true → left_by journal (without p qs) s ≡ false) → (b : Bool) → (q == p) ≡ b → (b || is_among p qs) ≡ true → left_by journal (cond (not b) (q ∷ without p qs) (without p qs)) s ≡ false
-      go rest true is in' = fewer s qs (apart.0 s (ap (is_at journal s) (same_number q p is) ∙ mine))
-      go rest false is in' = by rest in' (is_at journal s q) refl
-
-  pub left_home : (out : List ℕ) → AreApart journal out → is_among p out ≡ true → left_by journal (without p out) ≡ left_in (left_by journal out) s
-  left_home out apart in' = fun_ext (λ u. each u)
-    where
-      each : (u : ℕ) → left_by journal (without p out) u ≡ cond (u == s) false (left_by journal out u)
-      each u = elim (equal_or_not u s) [
-        | inl z ↦ ap (left_by journal (without p out)) z ∙ gone out apart in' ∙ sym (ap (λ b. cond b false (left_by journal out u)) (ap (λ y. y == s) z ∙ test_same s))
-        | inr z ↦ same_others u z out ∙ sym (ap (λ b. cond b false (left_by journal out u)) (test_apart u s z))
-      ]
-
-  pub apart_home : (out : List ℕ) → AreApart journal out → AreApart journal (without p out)
-  apart_home [] apart = tt
-  apart_home (q ∷ qs) apart = (elim (q == p) as (λ b. AreApart journal (cond (not b) (q ∷ without p qs) (without p qs))) [
-    | true ↦ apart_home qs apart.1
-    | false ↦ (λ u at. fewer u qs (apart.0 u at), apart_home qs apart.1)
-  ])
-
-  pub last_home : (out : List ℕ) → AreLast net journal out → AreLast net journal (without p out)
-  last_home [] last = tt
-  last_home (q ∷ qs) last = (elim (q == p) as (λ b. AreLast net journal (cond (not b) (q ∷ without p qs) (without p qs))) [
-    | true ↦ last_home qs last.1
-    | false ↦ (last.0, last_home qs last.1)
-  ])
-
-  pub among_last : (out : List ℕ) → is_among p out ≡ true → AreLast net journal out → IsLast net journal p
-  among_last [] in' last = cc
-  among_last (q ∷ qs) in' last = go (λ z. among_last qs z last.1) (q == p) refl in'
-    where
-      go : (is_among p qs ≡ true → IsLast net journal p) → (b : Bool) → (q == p) ≡ b → (b || is_among p qs) ≡ true → IsLast net journal p
-      go rest true is in' = subst (IsLast net journal) (same_number q p is) last.0
-      go rest false is in' = rest in'
-
--- No more jobs are out than there are strands
-
-tally_below : (p q : ℕ → Bool) (s n : ℕ) → ((t : ℕ) → t ≢ s → q t ≡ p t) → n ≤ s → tally q n ≡ tally p n
-tally_below p q s zero each m = refl
-tally_below p q s (suc n) each m = ap (λ b. one_more b (tally q n)) (each n (λ e. absurd (omega (arith, e)))) ∙ ap (one_more (p n)) (tally_below p q s n each (omega arith))
-
-tally_more : (p q : ℕ → Bool) (s n : ℕ) → ((t : ℕ) → t ≢ s → q t ≡ p t) → p s ≡ false → q s ≡ true → s < n → tally q n ≡ tally p n + 1
-tally_more p q s zero each off on m = absurd (omega arith)
-tally_more p q s (suc n) each off on m = elim (equal_or_not n s) [
-  | inl e ↦
-      let t : tally q n ≡ tally p n = tally_below p q s n each (omega (arith, e)) in
-      ap (λ b. one_more b (tally q n)) (ap q e ∙ on) ∙ (let z : suc (tally q n) ≡ tally p n + 1 = omega (arith, t) in z)
-      ∙ ap (λ b. one_more b (tally p n) + 1) (sym (ap p e ∙ off))
-  | inr e ↦
-      let t : tally q n ≡ tally p n + 1 = tally_more p q s n each off on (lower n s m e) in
-      ap (λ b. one_more b (tally q n)) (each n e) ∙ ap (one_more (p n)) t ∙ more (p n) (tally p n)
-]
-  where
-    lower : (n s : ℕ) → s < suc n → n ≢ s → s < n
-    lower n s m e = grind arith
-
-    more : (b : Bool) (x : ℕ) → one_more b (x + 1) ≡ one_more b x + 1
-    more true x = omega arith
-    more false x = refl
-
-same_strand : (journal : List Entry) (s u q : ℕ) → is_at journal s q ≡ true → is_at journal u q ≡ true → u ≡ s
-same_strand journal s u zero a b = cc
-same_strand journal s u (suc q) a b = go (slice_get journal q) a b
-  where
-    go : (x : Option Entry) → is_of s x ≡ true → is_of u x ≡ true → u ≡ s
-    go None a b = cc
-    go (Some e) a b = sym (same_number _ _ b) ∙ same_number _ _ a
-
-tally_none : (n : ℕ) → tally (λ s. false) n ≡ 0
-tally_none zero = refl
-tally_none (suc n) = tally_none n
-
-tally_out : (net : Net) (journal : List Entry) (out : List ℕ) → AreLast net journal out → AreApart journal out → tally (left_by journal out) (length net.strands) ≡ length out
-tally_out net journal [] last apart = tally_none (length net.strands)
-tally_out net journal (p ∷ ps) last apart =
-    let w = last.0.whose in
-    tally_more (left_by journal ps) (left_by journal (p ∷ ps)) w.0 (length net.strands)
-        (λ t other. ap (λ b. b || left_by journal ps t) (off t other (is_at journal t p) refl)) (apart.0 w.0 w.2) (ap (λ b. b || left_by journal ps w.0) w.2) w.1
-    ∙ (let i = tally_out net journal ps last.1 apart.1 in (let z : tally (left_by journal ps) (length net.strands) + 1 ≡ suc (length ps) = omega (arith, i) in z))
-  where
-    off : (t : ℕ) → t ≢ last.0.whose.0 → (b : Bool) → is_at journal t p ≡ b → is_at journal t p ≡ false
-    off t other true is = absurd (other (same_strand journal last.0.whose.0 t p last.0.whose.2 is))
-    off t other false is = is
-
-tally_bound : (p : ℕ → Bool) (n : ℕ) → tally p n ≤ n
-tally_bound p zero = omega arith
-tally_bound p (suc n) = go (p n) (tally_bound p n)
-  where
-    go : (b : Bool) → tally p n ≤ n → one_more b (tally p n) ≤ suc n
-    go true m = omega arith
-    go false m = omega arith
-
-tally_less : (p : ℕ → Bool) (s n : ℕ) → s < n → p s ≡ false → tally p n < n
-tally_less p s zero m off = absurd (omega arith)
-tally_less p s (suc n) m off = elim (equal_or_not n s) [
-  | inl e ↦ (let a : tally p (suc n) ≡ tally p n = ap (λ b. one_more b (tally p n)) (ap p e ∙ off) in (let b = tally_bound p n in omega (arith, a, b)))
-  | inr e ↦ go (p n) (tally_less p s n (lower n s m e) off)
-]
-  where
-    lower : (n s : ℕ) → s < suc n → n ≢ s → s < n
-    lower n s m e = grind arith
-
-    go : (b : Bool) → tally p n < n → one_more b (tally p n) < suc n
-    go true m = omega arith
-    go false m = omega arith
-
-pub fewer_out : (net : Net) (journal : List Entry) (out : List ℕ) (s : ℕ) → AreLast net journal out → AreApart journal out → s < length net.strands → left_by journal out s ≡ false → length out < length net.strands
-fewer_out net journal out s last apart inside home =
-    let a = tally_out net journal out last apart in
-    let b = tally_less (left_by journal out) s (length net.strands) inside home in
-    omega (arith, a, b)
+-- after a turn the set covers the strands that may go on, where those next to it and those for whom it settled something were woken
+pub covers_out : (net : Net) (texts : ℕ → List ℕ) (st : State) (left : Left) (d : DeskState) (links : List Link) → net.links ≡ links → IsWellFormed net → IsKept net texts st left d → AsksEarly d →
+    (places : List (Option Held)) (s : ℕ) (seen : Seen) (old set new : Members) (primer low zero : Bool) → length net.strands ≡ old.size → CanMove d places s seen →
+    IsLarger old set → AreEndsIn d links s seen set → IsLarger set new →
+    primer ≡ (not (primes seen) || is_some (Pure.primed_of (slice_get d.seats s))) →
+    low ≡ (not (ends seen) || is_some (Pure.level_code d (negsuc 0))) → zero ≡ (not (ends seen) || is_some (Pure.level_code d (pos 0))) →
+    (primer ≡ false → is_some (Pure.primed_of (slice_get (made d s seen).seats s)) ≡ true → IsStageIn (made d s seen) s new) →
+    (low ≡ false → is_some (Pure.level_code (made d s seen) (negsuc 0)) ≡ true → IsWhole new) → (zero ≡ false → is_some (Pure.level_code (made d s seen) (pos 0)) ≡ true → IsWhole new) →
+    IsCovering d old → IsCovering (made d s seen) new
+covers_out net texts st left d links same formed kept early places s seen old set new primer low zero size can larger woken larger' primer_is low_is zero_is stage fills_low fills_zero covers =
+    covers_on net st formed d (made d s seen) kept.laid s new (larger'.0 ∙ larger.0 ∙ sym size)
+    (around_made net st d kept.laid places s new primer low zero seen can (more_ends d net.links s seen set new larger'.1 (subst (λ z. AreEndsIn d z s seen set) (sym same) woken))
+    primer_is low_is zero_is stage fills_low fills_zero)
+    old (λ t held. larger'.1 t (larger.1 t held)) covers (λ u apart level asks. early u level asks)

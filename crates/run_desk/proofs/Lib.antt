@@ -18,6 +18,7 @@ pub mod Members
 pub mod Offers
 pub mod Pacing
 pub mod Pooled
+pub mod Runs
 pub mod Sees
 pub mod Shown
 pub mod Streams

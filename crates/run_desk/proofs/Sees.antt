@@ -93,7 +93,7 @@ told_none true = refl
 told_none false = refl
 
 module _ (net : Net) (texts : ℕ → List ℕ) (st : State) (left : Left) (d : DeskState) (formed : IsWellFormed net) (kept : IsKept net texts st left d) where
-  ask_is : (s : Who) → Pure.ask_at d s ≡ asked (want_at net st left s)
+  pub ask_is : (s : Who) → Pure.ask_at d s ≡ asked (want_at net st left s)
   ask_is s = go (slice_get d.seats s) refl
     where
       none : (b : Bool) → cond b None (want_after (slice_get net.strands s) (past st s)) ≡ cond b None (want_after None (past st s)) → asked (cond b None (want_after (slice_get net.strands s) (past st s))) ≡ asked None

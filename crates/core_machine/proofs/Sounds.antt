@@ -1,0 +1,463 @@
+-- A sound core stays sound through a turn and a coming home.
+use Rattle.std.proofs.Common.{◌≡◌, ◌≢◌, ◌⊎◌, inl, inr, ℕ, zero, suc, ◌+◌, ◌≤◌, ◌<◌, Bool, true, false, cond, ◌||◌, ◌==◌, List, [], ◌∷◌, ◌++◌, length, refl, sym, ◌∙◌, ap, subst, arith, Option, Some, None, slice_get, slice_set, length-set, is_some, map, ℤ}
+use Rattle.std.specs.Prelude.{take, slice_index_or}
+use Rattle.std.specs.Option.{option_map}
+use Rattle.pipe_model.specs.declared.net.Net.{Net}
+use Rattle.pipe_model.specs.declared.net.Strand.{Strand}
+use Rattle.pipe_model.specs.declared.step.Entry.{Entry}
+use Rattle.pipe_model.specs.declared.step.Seen.{Seen}
+use Rattle.pipe_model.specs.declared.step.Want.{Want as Asked}
+use Rattle.pipe_model.specs.declared.step.Want.TheVariants as To
+use Rattle.pipe_model.specs.declared.step.Out.TheVariants.{Same, Fresh}
+use Rattle.pipe_model.specs.Event.{Event, Want, has_ended, has_seen_end}
+use Rattle.pipe_model.specs.Event.Event.{Up, Saw, SawEnd, SawAllEnd, Took, Put, Refused, Primed, Opened, Joined, Severed, Ended}
+use Rattle.pipe_model.specs.Event.Want.{Commit, Read, Any, Gate, Take, Write, Prime, Issue, Join, Sever, Done}
+use Rattle.pipe_model.specs.Next.{next, wanted_by, IsOwn}
+use Rattle.pipe_model.specs.Table.{form}
+use Rattle.pipe_model.specs.State.{Who, State, past, nothing_yet, with_event, with_some_event, strand_at}
+use Rattle.pipe_model.specs.Licence.{Left, none_left, want_after, want_at, answer, sight_of, licence}
+use Rattle.pipe_model.specs.Play.{step, IsLicensed, play_from, IsLegalFrom, IsLegal, play}
+use Rattle.record_pool.specs.declared.pool.Held.{Held}
+use Rattle.record_pool.specs.Places.{bytes_at}
+use Rattle.stage_steps.specs.Coroutine.{told, meaning, last_seen}
+use Rattle.run_desk.specs.Desk.{DeskState}
+use Rattle.run_desk.specs.declared.seat.Ask.TheVariants as Now
+use Rattle.run_desk.specs.Kept.{left_out, left_in, asked}
+use Rattle.run_desk.specs.Moves.{made, pool_moved, CanMove, CanCome, HasCome}
+use Rattle.run_desk.specs.Order.{IsRun}
+use Rattle.run_desk.specs.Pure as Pure
+use Rattle.run_desk.proofs.Runs.{run_can, run_made, run_can_come, run_home, run_gone}
+use Rattle.run_desk.proofs.Early.{wants_early}
+use Rattle.run_desk.proofs.Sees.{seen_is, ask_is}
+use Rattle.confluence_laws.proofs.Basics.{equal_or_not, at_same, at_other, test_same, test_apart, at_some, at_place}
+use Rattle.confluence_laws.proofs.Braids.{play_reached}
+use Rattle.confluence_laws.proofs.LeftOut.{licensed_too}
+use Rattle.core_machine.specs.declared.actor.Actor.{Actor}
+use Rattle.core_machine.specs.Actors.{is_end, gone_out, come_back, bare}
+use Rattle.core_machine.specs.Answered.{LeastReady, Shows}
+use Rattle.core_machine.specs.Jobs.{JobStands, DoneStands}
+use Rattle.core_machine.specs.Machine.{is_of, is_at, left_by, without, is_among, looks_at}
+use Rattle.core_machine.specs.Members.{Members}
+use Rattle.core_machine.specs.Sound.{IsLast, AreLast, AreApart, IsActor, AreActors, IsSound}
+use Rattle.core_machine.specs.Woken.{IsCovering, AsksEarly, LeastAwake}
+use Rattle.core_machine.proofs.Away.{get_before, left_turned, last_turned, apart_turned, left_home, apart_home, last_home, among_last, among_left, one_strand, fewer_out}
+
+-- Lists
+
+get_set_same : {A : Type 0} (xs : List A) (i : ℕ) (x y : A) → slice_get xs i ≡ Some y → slice_get (slice_set xs i x) i ≡ Some x
+get_set_same [] i x y at = cc
+get_set_same (z ∷ zs) zero x y at = refl
+get_set_same (z ∷ zs) (suc i) x y at = get_set_same zs i x y at
+
+get_set_other : {A : Type 0} (xs : List A) (i k : ℕ) (x : A) → k ≢ i → slice_get (slice_set xs i x) k ≡ slice_get xs k
+get_set_other [] i k x apart = refl
+get_set_other (z ∷ zs) zero zero x apart = absurd (apart refl)
+get_set_other (z ∷ zs) zero (suc k) x apart = refl
+get_set_other (z ∷ zs) (suc i) zero x apart = refl
+get_set_other (z ∷ zs) (suc i) (suc k) x apart = get_set_other zs i k x (λ e. apart (ap suc e))
+
+get_take : {A : Type 0} (xs : List A) (q : ℕ) → slice_get (take (suc q) xs) q ≡ slice_get xs q
+get_take [] q = refl
+get_take (x ∷ xs) zero = refl
+get_take (x ∷ xs) (suc q) = get_take xs q
+
+pub end_length : (xs : List Entry) (x : Entry) → length (xs ++ x ∷ []) ≡ suc (length xs)
+end_length [] x = refl
+end_length (y ∷ ys) x = ap suc (end_length ys x)
+
+-- which strands look
+abbrev pub looks_of : {S : Type 0} → List (Actor S) → List Bool
+looks_of {S} actors = map (λ (actor : Actor S). actor.looks) actors
+
+pub looks_same : {S : Type 0} (actors : List (Actor S)) (s : ℕ) (a b : Actor S) → slice_get actors s ≡ Some a → b.looks ≡ a.looks → looks_of (slice_set actors s b) ≡ looks_of actors
+looks_same [] s a b at same = refl
+looks_same (x ∷ xs) zero a b at same = let is : x ≡ a = cc in ap (λ z. z ∷ looks_of xs) (same ∙ ap (λ z. z.looks) (sym is))
+looks_same (x ∷ xs) (suc s) a b at same = ap (λ z. x.looks ∷ z) (looks_same xs s a b at same)
+
+pub looks_here : {S : Type 0} (actors : List (Actor S)) (s : ℕ) (a : Actor S) → slice_get actors s ≡ Some a → looks_at (looks_of actors) s ≡ a.looks
+looks_here [] s a at = cc
+looks_here (x ∷ xs) zero a at = let is : x ≡ a = cc in ap (λ z. z.looks) is
+looks_here (x ∷ xs) (suc s) a at = looks_here xs s a at
+
+-- Plays
+
+-- one entry more
+pub play_one : (net : Net) (st : State) (es : List Entry) (e : Entry) → play_from net st (es ++ e ∷ []) ≡ step net (play_from net st es) e
+play_one net st [] e = refl
+play_one net st (x ∷ es) e = play_one net (step net st x) es e
+
+legal_one : (net : Net) (st : State) (es : List Entry) (e : Entry) → IsLegalFrom net st es → IsLicensed net (play_from net st es) e → IsLegalFrom net st (es ++ e ∷ [])
+legal_one net st [] e legal may = (may, tt)
+legal_one net st (x ∷ es) e legal may = (legal.0, legal_one net (step net st x) es e legal.1 may)
+
+-- a history is no longer than its journal
+step_length : (net : Net) (st : State) (e : Entry) (s : Who) → length (past (step net st e) s) ≤ suc (length (past st s))
+step_length net st e s = go (licence net st none_left e.strand e.stream)
+  where
+    longer : (f : Event) (b : Bool) → length (cond b (f ∷ past st s) (past st s)) ≤ suc (length (past st s))
+    longer f true = omega arith
+    longer f false = omega arith
+
+    go : (x : Option Event) → length (past (with_some_event st e.strand x) s) ≤ suc (length (past st s))
+    go None = omega arith
+    go (Some f) = longer f (s == e.strand)
+
+play_length : (net : Net) (st : State) (es : List Entry) (s : Who) → length (past (play_from net st es) s) ≤ length (past st s) + length es
+play_length net st [] s = omega arith
+play_length net st (e ∷ es) s = let a = step_length net st e s in let b = play_length net (step net st e) es s in omega (arith, a, b)
+
+-- Ends
+
+or_false : (b : Bool) → (b || false) ≡ b
+or_false true = refl
+or_false false = refl
+
+or_turn : (a b : Bool) → (a || b) ≡ (b || a)
+or_turn true true = refl
+or_turn true false = refl
+or_turn false true = refl
+or_turn false false = refl
+
+end_seen : (e : Event) (h : List Event) (b : Bool) → b ≡ has_seen_end 0 h → (b || is_end (told e)) ≡ has_seen_end 0 (e ∷ h)
+end_seen (SawEnd i) h b is = or_turn b (i == 0) ∙ ap (λ z. (i == 0) || z) is
+end_seen (Up l c) h b is = or_false b ∙ is
+end_seen (Saw i r) h b is = or_false b ∙ is
+end_seen SawAllEnd h b is = or_false b ∙ is
+end_seen (Took i) h b is = or_false b ∙ is
+end_seen (Put o r) h b is = or_false b ∙ is
+end_seen (Refused o) h b is = or_false b ∙ is
+end_seen (Primed p) h b is = or_false b ∙ is
+end_seen (Opened k) h b is = or_false b ∙ is
+end_seen (Joined k c) h b is = or_false b ∙ is
+end_seen (Severed s) h b is = or_false b ∙ is
+end_seen (Ended c) h b is = or_false b ∙ is
+
+-- a new record is shown as an empty one
+pub shows_bare : (h : List Event) (w : Asked) (want : Want) → want ≡ meaning w (last_seen h) → Shows h (bare w) want
+shows_bare h (To.Write o (Fresh rec)) want is = (refl, (rec, is))
+shows_bare h (To.Write o (Same i)) want is = is
+shows_bare h (To.Commit l) want is = is
+shows_bare h (To.Read i) want is = is
+shows_bare h To.Any want is = is
+shows_bare h To.Gate want is = is
+shows_bare h (To.Take i) want is = is
+shows_bare h To.Primed want is = is
+shows_bare h (To.Issue text) want is = is
+shows_bare h (To.Join k) want is = is
+shows_bare h (To.Cut i) want is = is
+shows_bare h (To.Done c) want is = is
+
+module _ {S : Type 0} (stands : S → Strand → List Event → Type 0) (is_looking : S → Bool) (net : Net) (budget : ℕ) (journal : List Entry) (out : List ℕ) (actors : List (Actor S)) (d : DeskState) (places : List (Option Held)) (ready : Members)
+    (sound : IsSound stands is_looking net budget journal out actors d places ready) where
+  abbrev pub st : State
+  st = play net journal
+
+  abbrev pub left : Left
+  left = left_by journal out
+
+  pub own : (t : Who) (q : Strand) → strand_at net st t ≡ Some q → IsOwn q (past st t)
+  own t q is = (play_reached net sound.formed journal sound.legal).own t q is
+
+  pub short : (t : Who) → length (past st t) < 18446744073709551615
+  short t = let a = play_length net nothing_yet journal t in let b = sound.within in let c = sound.bounded in omega (arith, a, b, c)
+
+  -- Readiness
+
+  pub desk_sees : (s : Who) (k : ℕ) → Pure.seen_at d s k ≡ option_map told (licence net st left s k)
+  desk_sees s k = seen_is net (bytes_at places) st left d sound.formed sound.run.kept s k
+
+  some_map : (x : Option Event) → is_some (option_map told x) ≡ is_some x
+  some_map None = refl
+  some_map (Some e) = refl
+
+  pub ready_is : (s : Who) (k : ℕ) → is_some (Pure.seen_at d s k) ≡ is_some (licence net st left s k)
+  ready_is s k = ap is_some (desk_sees s k) ∙ some_map (licence net st left s k)
+
+  pub none_is : (s : Who) (k : ℕ) → Pure.seen_at d s k ≡ None → licence net st left s k ≡ None
+  none_is s k is = go (licence net st left s k) (sym (desk_sees s k) ∙ is)
+    where
+      go : (x : Option Event) → option_map told x ≡ None → x ≡ None
+      go None e = refl
+      go (Some f) e = cc
+
+  pub some_is : (s : Who) (k : ℕ) (seen : Seen) → Pure.seen_at d s k ≡ Some seen → (e : Event) × (licence net st left s k ≡ Some e) × (told e ≡ seen)
+  some_is s k seen is = go (licence net st left s k) refl (sym (desk_sees s k) ∙ is)
+    where
+      go : (x : Option Event) → licence net st left s k ≡ x → option_map told x ≡ Some seen → (e : Event) × (licence net st left s k ≡ Some e) × (told e ≡ seen)
+      go None at e = cc
+      go (Some f) at e = (f, at, cc)
+
+  pub seen_back : (s : Who) (k : ℕ) (e : Event) → licence net st left s k ≡ Some e → Pure.seen_at d s k ≡ Some (told e)
+  seen_back s k e is = desk_sees s k ∙ ap (option_map told) is
+
+  pub least_is : (looking : List Bool) (b : Bool) (r : Option (ℕ × ℕ)) → LeastAwake d ready r → LeastReady (record { net = net; budget = budget; looking = looking; journal = journal; out = out; is_broken = b }) r
+  least_is looking b None is = λ s k. none_is s k (is sound.covers s k)
+  least_is looking b (Some r) is = (sym (ready_is r.0 r.1) ∙ is.0.0, λ k p. none_is r.0 k (is.0.1 k p), λ t k p. none_is t k (is.1 sound.covers t k p))
+
+  -- no strand wants another level than the early ones
+  pub asks_early : AsksEarly d
+  asks_early t level is = wants_early net st left own t level (commit_back (want_at net st left t) (sym (ask_is net (bytes_at places) st left d sound.formed sound.run.kept t) ∙ is))
+    where
+      commit_back : (w : Option Want) → asked w ≡ Now.Commit level → w ≡ Some (Commit level)
+      commit_back (Some (Commit l)) e = let same : l ≡ level = cc in ap (λ z. Some (Commit z)) same
+      commit_back None e = cc
+      commit_back (Some (Read i)) e = cc
+      commit_back (Some Any) e = cc
+      commit_back (Some Gate) e = cc
+      commit_back (Some (Take i)) e = cc
+      commit_back (Some (Write o r)) e = cc
+      commit_back (Some Prime) e = cc
+      commit_back (Some (Issue text)) e = cc
+      commit_back (Some (Join k)) e = cc
+      commit_back (Some (Sever i)) e = cc
+      commit_back (Some (Done c)) e = cc
+
+  -- A turn
+
+  module _ (s : Who) (k : ℕ) (e : Event) (may : licence net st left s k ≡ Some e) where
+    abbrev pub entry : Entry
+    entry = record { strand = s; stream = k }
+
+    pub is_home : left s ≡ false
+    is_home = go (left s) refl
+      where
+        go : (b : Bool) → left s ≡ b → left s ≡ false
+        go true is = let none : licence net st left s k ≡ None = ap (λ b. answer (sight_of net st left s) k (cond b None (want_after (strand_at net st s) (past st s)))) is in cc
+        go false is = is
+
+    may_all : licence net st none_left s k ≡ Some e
+    may_all = licensed_too net st left s k e may
+
+    pub now : play net (journal ++ entry ∷ []) ≡ with_event st s e
+    now = play_one net nothing_yet journal entry ∙ ap (with_some_event st s) may_all
+
+    pub in_range : s < length net.strands
+    in_range = go (strand_at net st s) refl
+      where
+        go : (x : Option Strand) → strand_at net st s ≡ x → s < length net.strands
+        go None is =
+            let none : licence net st left s k ≡ None = ap (λ x. answer (sight_of net st left s) k (cond (left s) None (want_after x (past st s)))) is ∙ ap (answer (sight_of net st left s) k) (nothing (left s)) in cc
+          where
+            nothing : (b : Bool) → cond b None (want_after None (past st s)) ≡ None
+            nothing true = refl
+            nothing false = refl
+        go (Some p) is = at_place net.strands s is
+
+    pub out_room : length out < length net.strands
+    out_room = fewer_out net journal out s sound.last sound.apart in_range is_home
+
+    pub its_actor : (a : Actor S) × (slice_get actors s ≡ Some a)
+    its_actor = at_some actors s (let b = in_range in let c = sound.strands.count in omega (arith, b, c))
+
+    pub its_stage : (a : Actor S) × (x : S) × (slice_get actors s ≡ Some a) × (a.stage ≡ Some x)
+    its_stage =
+        let a = its_actor in
+        let x = there a.0.stage (sound.strands.home s a.0 a.1 is_home) in
+        (a.0, x.0, a.1, x.1)
+      where
+        there : (y : Option S) → is_some y ≡ true → (x : S) × (y ≡ Some x)
+        there None e = cc
+        there (Some x) e = (x, refl)
+
+    pub can_turn : (seen : Seen) → told e ≡ seen → CanMove d places s seen
+    can_turn seen at = subst (CanMove d places s) at (run_can net st left d places sound.formed own sound.few sound.run short s k e may)
+
+    module _ (a : Actor S) (stage : S) (there : slice_get actors s ≡ Some a) (was : a.stage ≡ Some stage) (seen : Seen) (seen_at : told e ≡ seen) (space : length journal < budget) (d' : DeskState) (places' : List (Option Held)) (ready' : Members)
+        (desk_is : d' ≡ made d s seen) (pool_is : places' ≡ pool_moved d places s seen) (size : ready'.size ≡ ready.size) (covers : IsCovering d' ready') where
+      abbrev longer : List Entry
+      longer = journal ++ entry ∷ []
+
+      abbrev out' : List ℕ
+      out' = out ++ suc (length journal) ∷ []
+
+      left_is : left_by longer out' ≡ left_out left s
+      left_is = left_turned net journal entry out sound.last
+
+      same_past : (u : Who) → u ≢ s → past (play net longer) u ≡ past st u
+      same_past u apart = ap (λ z. past z u) now ∙ at_other st s e u apart
+
+      want_same : (u : Who) → u ≢ s → want_at net (play net longer) (left_by longer out') u ≡ want_at net st left u
+      want_same u apart = ap (λ l. want_at net (play net longer) l u) left_is
+          ∙ ap (λ b. cond (cond b true (left u)) None (want_after (strand_at net st u) (past (play net longer) u))) (test_apart u s apart)
+          ∙ ap (λ h. cond (left u) None (want_after (strand_at net st u) h)) (same_past u apart)
+
+      want_none : want_at net (play net longer) (left_by longer out') s ≡ None
+      want_none = ap (λ l. want_at net (play net longer) l s) left_is ∙ ap (λ b. cond (cond b true (left s)) None (want_after (strand_at net st s) (past (play net longer) s))) (test_same s)
+
+      actors_turned : AreActors stands is_looking net longer out' (slice_set actors s (gone_out seen a))
+      actors_turned = record {
+        count = length-set actors s (gone_out seen a) ∙ sound.strands.count;
+        each = λ u p x is at. elim (equal_or_not u s) [
+          | inl z ↦ here u p x z is at
+          | inr z ↦
+              let old = sound.strands.each u p x is (sym (get_set_other actors s u (gone_out seen a) z) ∙ at) in
+              subst (λ h. IsActor stands is_looking h (want_at net (play net longer) (left_by longer out') u) p x) (sym (same_past u z)) (subst (λ w. IsActor stands is_looking (past st u) w p x) (sym (want_same u z)) old)
+        ];
+        home = λ u x at home.
+            let l : left_out left s u ≡ false = ap (λ z. z u) (sym left_is) ∙ home in
+            (elim (equal_or_not u s) [
+              | inl z ↦ (let no : true ≡ false = sym (ap (λ b. cond b true (left u)) (ap (λ y. y == s) z ∙ test_same s)) ∙ l in absurd (let q : ⊥ = cc in q))
+              | inr z ↦ sound.strands.home u x (sym (get_set_other actors s u (gone_out seen a) z) ∙ at) (sym (ap (λ b. cond b true (left u)) (test_apart u s z)) ∙ l)
+            ]);
+      }
+        where
+          here : (u : Who) (p : Strand) (x : Actor S) → u ≡ s → strand_at net (play net longer) u ≡ Some p → slice_get (slice_set actors s (gone_out seen a)) u ≡ Some x →
+              IsActor stands is_looking (past (play net longer) u) (want_at net (play net longer) (left_by longer out') u) p x
+          here u p x z is at =
+              let old = sound.strands.each s p a (ap (strand_at net st) (sym z) ∙ is) there in
+              let got : Some (gone_out seen a) ≡ Some x = sym (get_set_same actors s (gone_out seen a) a there) ∙ ap (slice_get (slice_set actors s (gone_out seen a))) (sym z) ∙ at in
+              let x_is : gone_out seen a ≡ x = cc in
+              let h_is : past (play net longer) u ≡ e ∷ past st s = ap (past (play net longer)) z ∙ ap (λ y. past y s) now ∙ at_same st s e in
+              let w_is : want_at net (play net longer) (left_by longer out') u ≡ None = ap (want_at net (play net longer) (left_by longer out')) z ∙ want_none in
+              let P : List Event → Option Want → Actor S → Type 0 = λ h w y. IsActor stands is_looking h w p y in
+              let new : P (e ∷ past st s) None (gone_out seen a) = record {
+                saw_end = ap (λ y. a.saw_end || is_end y) (sym seen_at) ∙ end_seen e (past st s) a.saw_end old.saw_end;
+                asked = λ w q. cc;
+                stands_for = λ y q. cc;
+                looks = λ y q. cc;
+              } in
+              subst (λ h. P h (want_at net (play net longer) (left_by longer out') u) x) (sym h_is) (subst (λ w. P (e ∷ past st s) w x) (sym w_is) (subst (P (e ∷ past st s) None) x_is new))
+
+      pub sound_turned : IsSound stands is_looking net budget longer out' (slice_set actors s (gone_out seen a)) d' places' ready'
+      sound_turned = record {
+        formed = sound.formed;
+        few = sound.few;
+        legal = legal_one net nothing_yet journal entry sound.legal (ap is_some may_all);
+        within = let a = end_length journal entry in omega (arith, a, space);
+        bounded = sound.bounded;
+        last = last_turned net journal entry in_range same_past out sound.last is_home;
+        apart = apart_turned net journal entry out sound.last sound.apart is_home;
+        run = subst (λ y. IsRun net y (left_by longer out') d' places') (sym now)
+            (subst (λ y. IsRun net (with_event st s e) y d' places') (sym left_is)
+            (subst (λ y. IsRun net (with_event st s e) (left_out left s) y places') (sym desk_is ∙ refl)
+            (subst (λ y. IsRun net (with_event st s e) (left_out left s) (made d s seen) y) (sym pool_is)
+            (subst (λ y. IsRun net (with_event st s e) (left_out left s) (made d s y) (pool_moved d places s y)) seen_at
+            (run_made net st left d places sound.formed own sound.few sound.run short s k e may)))));
+        strands = actors_turned;
+        size = size ∙ sound.size;
+        covers = covers;
+      }
+
+      pub job_turned : JobStands stands is_looking net (looks_of (slice_set actors s (gone_out seen a))) longer s (suc (length journal)) seen stage
+      job_turned = record {
+        place_is = sym (end_length journal entry);
+        before = journal;
+        entry = entry;
+        entry_is = refl;
+        journal_is = refl;
+        event = e;
+        licensed = may_all;
+        seen_is = seen_at;
+        stood = λ p is. (sound.strands.each s p a is there).stands_for stage was;
+        looks =
+            let p = at_some net.strands s in_range in
+            (sound.strands.each s p.0 a p.1 there).looks stage was ∙ sym (looks_here actors s a there) ∙ ap (λ l. looks_at l s) (sym (looks_same actors s a (gone_out seen a) there refl));
+        room = let a = play_length net nothing_yet journal s in let b = sound.bounded in omega (arith, a, b, space);
+      }
+
+  -- A coming home
+
+  module _ (s : Who) (p : ℕ) (stage : S) (want : Asked) (among : is_among p out ≡ true) (done : DoneStands stands is_looking net (looks_of actors) (take p journal) s p stage want) where
+    its : is_at journal s p ≡ true
+    its = go p done.mine
+      where
+        go : (q : ℕ) → is_at (take q journal) s q ≡ true → is_at journal s q ≡ true
+        go zero m = cc
+        go (suc q) m = ap (is_of s) (sym (get_take journal q)) ∙ m
+
+    last : IsLast net journal p
+    last = among_last net journal s p its out among sound.last
+
+    home_past : past st s ≡ past (play net (take p journal)) s
+    home_past = last.since s its
+
+    away : left s ≡ true
+    away = among_left net journal s p its out among
+
+    pub place : s < length net.strands
+    place = subst (λ z. z < length net.strands) (one_strand net journal s p its last.whose.0 p its last.whose.2) last.whose.1
+
+    strand : (q : Strand) × (strand_at net st s ≡ Some q)
+    strand = at_some net.strands s place
+
+    pub actor : (a : Actor S) × (slice_get actors s ≡ Some a)
+    actor = at_some actors s (let b = place in let c = sound.strands.count in omega (arith, b, c))
+
+    asks : has_ended (past st s) ≡ false → Some (meaning want (last_seen (past st s))) ≡ next strand.0 (past st s)
+    asks going = subst (λ h. has_ended h ≡ false → Some (meaning want (last_seen h)) ≡ next strand.0 h) (sym home_past) (done.asks strand.0 strand.1) going
+
+    pub can_home : has_ended (past st s) ≡ false → CanCome d places s want
+    can_home going = run_can_come net st left d places sound.formed own sound.few sound.run s strand.0 want away strand.1 going (asks going)
+
+    left_now : left_by journal (without p out) ≡ left_in left s
+    left_now = left_home net journal s p its out sound.apart among
+
+    module _ (d' : DeskState) (places' : List (Option Held)) (ready' : Members) (a : Actor S) (there : slice_get actors s ≡ Some a) (run : IsRun net st (left_in left s) d' places') (size : ready'.size ≡ ready.size) (covers : IsCovering d' ready') where
+      abbrev new : Actor S
+      new = come_back stage (bare want) a
+
+      want_stays : (u : Who) → u ≢ s → want_at net st (left_by journal (without p out)) u ≡ want_at net st left u
+      want_stays u apart = ap (λ l. want_at net st l u) left_now
+          ∙ ap (λ b. cond (cond b false (left u)) None (want_after (strand_at net st u) (past st u))) (test_apart u s apart)
+
+      want_now : want_at net st (left_by journal (without p out)) s ≡ next strand.0 (past st s)
+      want_now = ap (λ l. want_at net st l s) left_now ∙ ap (λ b. cond (cond b false (left s)) None (want_after (strand_at net st s) (past st s))) (test_same s)
+          ∙ ap (λ x. want_after x (past st s)) strand.1
+
+      actors_home : AreActors stands is_looking net journal (without p out) (slice_set actors s new)
+      actors_home = record {
+        count = length-set actors s new ∙ sound.strands.count;
+        each = λ u q x is at. elim (equal_or_not u s) [
+          | inl z ↦ here u q x z is at
+          | inr z ↦
+              subst (λ w. IsActor stands is_looking (past st u) w q x) (sym (want_stays u z)) (sound.strands.each u q x is (sym (get_set_other actors s u new z) ∙ at))
+        ];
+        home = λ u x at home. elim (equal_or_not u s) [
+          | inl z ↦
+              let got : Some new ≡ Some x = sym (get_set_same actors s new a there) ∙ ap (slice_get (slice_set actors s new)) (sym z) ∙ at in
+              let x_is : new ≡ x = cc in
+              ap (λ y. is_some y.stage) (sym x_is)
+          | inr z ↦
+              let l : left_in left s u ≡ false = ap (λ y. y u) (sym left_now) ∙ home in
+              sound.strands.home u x (sym (get_set_other actors s u new z) ∙ at) (sym (ap (λ b. cond b false (left u)) (test_apart u s z)) ∙ l)
+        ];
+      }
+        where
+          shown : (w : Want) → next strand.0 (past st s) ≡ Some w → Shows (past st s) (bare want) w
+          shown w is = shows_bare (past st s) want w (go (has_ended (past st s)) refl)
+            where
+              go : (b : Bool) → has_ended (past st s) ≡ b → w ≡ meaning want (last_seen (past st s))
+              go true ended = let none : next strand.0 (past st s) ≡ None = ap (λ b. cond b None (wanted_by (form strand.0).row strand.0.ports.has_output (past st s))) ended in cc
+              go false going = let m : Some (meaning want (last_seen (past st s))) ≡ Some w = asks going ∙ is in cc
+
+          here : (u : Who) (q : Strand) (x : Actor S) → u ≡ s → strand_at net st u ≡ Some q → slice_get (slice_set actors s new) u ≡ Some x →
+              IsActor stands is_looking (past st u) (want_at net st (left_by journal (without p out)) u) q x
+          here u q x z is at =
+              let one : Some strand.0 ≡ Some q = sym strand.1 ∙ ap (strand_at net st) (sym z) ∙ is in
+              let q_is : strand.0 ≡ q = cc in
+              let old = sound.strands.each s strand.0 a strand.1 there in
+              let got : Some new ≡ Some x = sym (get_set_same actors s new a there) ∙ ap (slice_get (slice_set actors s new)) (sym z) ∙ at in
+              let x_is : new ≡ x = cc in
+              let P : Who → Strand → Actor S → Type 0 = λ t r y. IsActor stands is_looking (past st t) (want_at net st (left_by journal (without p out)) t) r y in
+              let fresh : P s strand.0 new = record {
+                saw_end = old.saw_end;
+                asked = λ w w_is. shown w (sym want_now ∙ w_is);
+                stands_for = λ y y_is. (let y_at : stage ≡ y = cc in subst (λ v. stands v strand.0 (past st s)) y_at (subst (stands stage strand.0) (sym home_past) (done.stood strand.0 strand.1)));
+                looks = λ y y_is. (let y_at : stage ≡ y = cc in ap is_looking (sym y_at) ∙ done.looks ∙ looks_here actors s a there);
+              } in
+              subst (λ t. P t q x) (sym z) (subst (λ r. P s r x) q_is (subst (P s strand.0) x_is fresh))
+
+      pub sound_home : IsSound stands is_looking net budget journal (without p out) (slice_set actors s new) d' places' ready'
+      sound_home = record {
+        formed = sound.formed;
+        few = sound.few;
+        legal = sound.legal;
+        within = sound.within;
+        bounded = sound.bounded;
+        last = last_home net journal s p its out sound.last;
+        apart = apart_home net journal s p its out sound.apart;
+        run = subst (λ l. IsRun net st l d' places') (sym left_now) run;
+        strands = actors_home;
+        size = size ∙ sound.size;
+        covers = covers;
+      }
