@@ -1,9 +1,9 @@
 -- What one event does to counts and facts of a history, and to a want that it answers.
-use Rattle.std.proofs.Common.{◌≡◌, ℕ, Bool, true, false, cond, ◌||◌, ◌==◌, List, [], ◌∷◌, refl, sym, ◌∙◌, ap, ℤ, Option, Some, None}
-use Rattle.pipe_model.specs.Event.{Event, Want, answers, is_put, is_took, last_seen_on, has_ended, has_seen}
+use Rattle.std.proofs.Common.{◌≡◌, ℕ, Bool, true, false, cond, ◌||◌, ◌==◌, List, ◌∷◌, refl, sym, ◌∙◌, ap, Option, Some, None}
+use Rattle.pipe_model.specs.Event.{Event, Want, answers, is_put, last_seen_on, has_ended, has_seen}
 use Rattle.pipe_model.specs.Event.Event.{Up, Saw, SawEnd, SawAllEnd, Took, Put, Refused, Primed, Opened, Joined, Severed, Ended}
-use Rattle.pipe_model.specs.Event.Want.{Commit, Read, Any, Gate, Take, Write, Prime, Issue, Join, Sever, Done}
-use Rattle.pipe_model.specs.Licence.{offered, commits_to}
+use Rattle.pipe_model.specs.Event.Want.{Commit, Write}
+use Rattle.pipe_model.specs.Licence.{offered}
 use Rattle.confluence_laws.proofs.Basics.{same_number}
 use Rattle.commit_levels.specs.Licensed.{WantsNoLevel}
 use Rattle.stage_steps.specs.Coroutine.{told}

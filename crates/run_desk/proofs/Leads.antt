@@ -1,5 +1,5 @@
 -- The doors of a desk lead to the net's links.
-use Rattle.std.proofs.Common.{◌≡◌, ℕ, Bool, true, false, ◌&&◌, ◌==◌, List, refl, sym, ◌∙◌, ap, Option, Some, None, slice_get}
+use Rattle.std.proofs.Common.{◌≡◌, ℕ, Bool, true, false, ◌&&◌, ◌==◌, List, sym, ◌∙◌, ap, Option, Some, None, slice_get}
 use Rattle.pipe_model.specs.declared.net.Net.{Net}
 use Rattle.pipe_model.specs.declared.net.Link.{Link}
 use Rattle.pipe_model.specs.State.{Who, State, same, link_in, link_out}
@@ -8,12 +8,8 @@ use Rattle.confluence_laws.proofs.Basics.{both, same_number, test_same, found_at
 use Rattle.run_desk.specs.Desk.{DeskState}
 use Rattle.run_desk.specs.Pure.{inputs_of, outputs_of, in_door, out_door}
 use Rattle.run_desk.specs.Kept.{link_through, IsLaid}
+use Rattle.run_desk.proofs.Sees.{same_bool}
 use Rattle.run_desk.proofs.Lists.{leads, leads_any, leads_one, which_leads}
-
-same_test : (a b : Bool) → (a ≡ true → b ≡ true) → (b ≡ true → a ≡ true) → a ≡ b
-same_test true b f g = sym (f refl)
-same_test false true f g = g refl
-same_test false false f g = refl
 
 both_hold : (a b : Bool) → a ≡ true → b ≡ true → (a && b) ≡ true
 both_hold true b p q = q
@@ -25,7 +21,7 @@ module _ (net : Net) (formed : IsWellFormed net) (st : State) (d : DeskState) (l
   out_leads s o j l at = by_door (out_door d s o) (laid.out_doors s o)
     where
       by_door : (x : Option ℕ) → link_out net st s o ≡ link_through net.links x → leads j x ≡ (same l.from s && (l.output == o))
-      by_door x is = same_test (leads j x) (same l.from s && (l.output == o)) (there x is) (back x is)
+      by_door x is = same_bool (leads j x) (same l.from s && (l.output == o)) (there x is) (back x is)
         where
           there : (x : Option ℕ) → link_out net st s o ≡ link_through net.links x → leads j x ≡ true → (same l.from s && (l.output == o)) ≡ true
           there None is it = cc
@@ -56,7 +52,7 @@ module _ (net : Net) (formed : IsWellFormed net) (st : State) (d : DeskState) (l
   in_leads s i j l at = by_door (in_door d s i) (laid.in_doors s i)
     where
       by_door : (x : Option ℕ) → link_in net st s i ≡ link_through net.links x → leads j x ≡ (same l.to s && (l.input == i))
-      by_door x is = same_test (leads j x) (same l.to s && (l.input == i)) (there x is) (back x is)
+      by_door x is = same_bool (leads j x) (same l.to s && (l.input == i)) (there x is) (back x is)
         where
           there : (x : Option ℕ) → link_in net st s i ≡ link_through net.links x → leads j x ≡ true → (same l.to s && (l.input == i)) ≡ true
           there None is it = cc
@@ -84,7 +80,7 @@ module _ (net : Net) (formed : IsWellFormed net) (st : State) (d : DeskState) (l
 
   -- one of a strand's outputs leads to a link exactly where the link leaves that strand
   pub outputs_lead : (s : Who) (j : ℕ) (l : Link) → slice_get net.links j ≡ Some l → leads_any j (outputs_of (slice_get d.doors s)) ≡ same l.from s
-  outputs_lead s j l at = same_test (leads_any j doors) (same l.from s)
+  outputs_lead s j l at = same_bool (leads_any j doors) (same l.from s)
       (λ it. let w = which_leads j doors it in (both (same l.from s) (l.output == w.0) (sym (out_leads s w.0 j l at) ∙ w.1)).0)
       (λ it. leads_one j doors l.output (out_leads s l.output j l at ∙ both_hold (same l.from s) (l.output == l.output) it (test_same l.output)))
     where
@@ -93,7 +89,7 @@ module _ (net : Net) (formed : IsWellFormed net) (st : State) (d : DeskState) (l
 
   -- and one of its inputs, where it arrives there
   pub inputs_lead : (s : Who) (j : ℕ) (l : Link) → slice_get net.links j ≡ Some l → leads_any j (inputs_of (slice_get d.doors s)) ≡ same l.to s
-  inputs_lead s j l at = same_test (leads_any j doors) (same l.to s)
+  inputs_lead s j l at = same_bool (leads_any j doors) (same l.to s)
       (λ it. let w = which_leads j doors it in (both (same l.to s) (l.input == w.0) (sym (in_leads s w.0 j l at) ∙ w.1)).0)
       (λ it. leads_one j doors l.input (in_leads s l.input j l at ∙ both_hold (same l.to s) (l.input == l.input) it (test_same l.input)))
     where

@@ -1,5 +1,5 @@
 -- The wires of a desk after a turn stand for their links.
-use Rattle.std.proofs.Common.{◌≡◌, ◌≢◌, ◌⊎◌, inl, inr, ℕ, ℤ, suc, ◌+◌, Bool, true, false, cond, ◌&&◌, ◌==◌, List, ◌∷◌, refl, sym, ◌∙◌, ap, subst, arith, Option, Some, None, slice_get}
+use Rattle.std.proofs.Common.{◌≡◌, ◌≢◌, inl, inr, ℕ, ℤ, suc, ◌+◌, Bool, true, false, cond, ◌&&◌, ◌==◌, List, ◌∷◌, refl, sym, ◌∙◌, ap, subst, arith, Option, Some, None, slice_get}
 use Rattle.pipe_model.specs.declared.net.Net.{Net}
 use Rattle.pipe_model.specs.declared.net.Link.{Link}
 use Rattle.pipe_model.specs.Event.{Event, is_put, is_took, one_more, puts_on, tooks_on, has_ended}

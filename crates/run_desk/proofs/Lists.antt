@@ -1,7 +1,7 @@
 -- Lists in which what is behind a door is changed.
 use Rattle.std.proofs.Common.{◌≡◌, ◌≢◌, ◌⊎◌, inl, inr, ℕ, zero, suc, Bool, true, false, cond, ◌||◌, ◌==◌, List, [], ◌∷◌, length, refl, sym, ◌∙◌, ap, Option, Some, None, slice_get, slice_set, length-set}
 use Rattle.std.specs.Option.{option_map}
-use Rattle.confluence_laws.proofs.Basics.{equal_or_not, test_same, test_apart}
+use Rattle.confluence_laws.proofs.Basics.{equal_or_not, test_same, test_apart, or_second}
 use Rattle.connectors.specs.WireState.{WireState}
 use Rattle.run_desk.specs.Moves.{placed, changed, all_changed, unseen, sights_without}
 use Rattle.run_desk.specs.Pure.{joined}
@@ -96,11 +96,7 @@ leads_any j (door ∷ doors) = leads j door || leads_any j doors
 pub leads_one : (j : ℕ) (doors : List (Option ℕ)) (i : ℕ) → leads j (joined (slice_get doors i)) ≡ true → leads_any j doors ≡ true
 leads_one j [] i it = cc
 leads_one j (door ∷ doors) zero it = ap (λ b. b || leads_any j doors) it
-leads_one j (door ∷ doors) (suc i) it = second (leads j door) (leads_any j doors) (leads_one j doors i it)
-  where
-    second : (a b : Bool) → b ≡ true → (a || b) ≡ true
-    second true b e = refl
-    second false b e = e
+leads_one j (door ∷ doors) (suc i) it = or_second (leads j door) (leads_any j doors) (leads_one j doors i it)
 
 -- and one of them has a number
 pub which_leads : (j : ℕ) (doors : List (Option ℕ)) → leads_any j doors ≡ true → (i : ℕ) × (leads j (joined (slice_get doors i)) ≡ true)

@@ -1,20 +1,19 @@
 -- The members of a desk's unit after a turn are the strands still.
-use Rattle.std.proofs.Common.{◌≡◌, ◌≢◌, ◌⊎◌, inl, inr, ℕ, ℤ, Bool, true, false, cond, ◌||◌, List, ◌∷◌, length, refl, sym, ◌∙◌, ap, subst, Option, Some, None, slice_get, slice_set, length-set}
+use Rattle.std.proofs.Common.{◌≡◌, ◌≢◌, inl, inr, ℕ, ℤ, false, cond, List, ◌∷◌, length, refl, sym, ◌∙◌, ap, subst, Option, Some, None, slice_get, slice_set, length-set}
 use Rattle.std.specs.Option.{option_map_or}
-use Rattle.std.specs.Ordering.{int_eq}
 use Rattle.pipe_model.specs.declared.net.Net.{Net}
 use Rattle.pipe_model.specs.Event.{Event, Want, answers, has_ended, code_of}
 use Rattle.pipe_model.specs.Event as event
 use Rattle.pipe_model.specs.Event.Event.{Up, Saw, SawEnd, SawAllEnd, Took, Put, Refused, Primed, Opened, Joined, Severed, Ended}
 use Rattle.pipe_model.specs.Event.Want.{Commit}
 use Rattle.pipe_model.specs.State.{Who, State, past, with_event}
-use Rattle.pipe_model.specs.Licence.{Left, want_at, commits_to, licence}
+use Rattle.pipe_model.specs.Licence.{Left, want_at, licence}
 use Rattle.confluence_laws.proofs.Basics.{equal_or_not, at_same, at_other}
 use Rattle.stage_steps.specs.Coroutine.{told}
 use Rattle.commit_levels.specs.declared.member.Progress.TheVariants.{NotAsked, Asked, Reached}
 use Rattle.commit_levels.specs.UnitState.{Member, IsLevel, place_of}
 use Rattle.commit_levels.specs.UnitState as units
-use Rattle.commit_levels.specs.Licensed.{IsStrand, progress_of, end_of, WantsNoLevel}
+use Rattle.commit_levels.specs.Licensed.{IsStrand, WantsNoLevel}
 use Rattle.commit_levels.proofs.Agreement.{reaches_as, ends_as}
 use Rattle.run_desk.specs.Desk.{DeskState}
 use Rattle.run_desk.specs.Kept.{IsKept, left_out}
@@ -51,7 +50,7 @@ unit_there unit s f u apart = go (slice_get unit s)
 
 -- Members and strands
 
--- nobody wants nothing
+-- where nothing is wanted, no level is
 pub nothing_wanted : WantsNoLevel None
 nothing_wanted level = refl
 

@@ -45,7 +45,8 @@ all_from : {A : Type 0} (p : A → Bool) (xs : List A) → ((j : ℕ) (x : A) �
 all_from p [] f = refl
 all_from p (x ∷ xs) f = ap (λ b. b && list_all p xs) (f 0 x refl) ∙ all_from p xs (λ j y e. f (suc j) y e)
 
-same_bool : (a b : Bool) → (a ≡ true → b ≡ true) → (b ≡ true → a ≡ true) → a ≡ b
+-- two tests that hold where the other does are one
+pub same_bool : (a b : Bool) → (a ≡ true → b ≡ true) → (b ≡ true → a ≡ true) → a ≡ b
 same_bool true b f g = sym (f refl)
 same_bool false true f g = g refl
 same_bool false false f g = refl

@@ -1,6 +1,5 @@
 -- The sights of a desk after a turn hold what was seen last.
-use Rattle.std.proofs.Common.{◌≡◌, ◌≢◌, ◌⊎◌, inl, inr, ℕ, ℤ, ◌<◌, Bool, true, false, cond, ◌&&◌, ◌==◌, List, [], ◌∷◌, length, refl, sym, ◌∙◌, ap, subst, Option, Some, None, slice_get}
-use Rattle.std.specs.Option.{option_map, option_map_or}
+use Rattle.std.proofs.Common.{◌≡◌, ◌≢◌, ◌⊎◌, inl, inr, ℕ, ℤ, ◌<◌, Bool, true, false, cond, ◌&&◌, ◌==◌, List, ◌∷◌, refl, sym, ◌∙◌, ap, subst, Option, Some, None, slice_get}
 use Rattle.pipe_model.specs.declared.net.Net.{Net}
 use Rattle.pipe_model.specs.declared.net.Link.{Link}
 use Rattle.pipe_model.specs.Event.{Event, records_on, last_seen_on, has_ended}
@@ -14,7 +13,7 @@ use Rattle.connectors.specs.WireState.{WireState}
 use Rattle.run_desk.specs.Desk.{DeskState}
 use Rattle.run_desk.specs.Pure.{through, wire_in, inputs_of, in_door}
 use Rattle.run_desk.specs.Kept.{IsWire, IsSight, IsKept, link_through}
-use Rattle.run_desk.specs.Moves.{changed, hand_on, sights_seen, sights_without, ends, moved}
+use Rattle.run_desk.specs.Moves.{hand_on, sights_seen, sights_without, ends, moved}
 use Rattle.run_desk.proofs.Lists.{leads, leads_any, changed_back, sights_without_back, map_back}
 use Rattle.run_desk.proofs.Leads.{in_leads, inputs_lead}
 use Rattle.run_desk.proofs.Events.{looks_at, last_stays, ended_stays}
