@@ -3,12 +3,16 @@
 
 mod actor;
 mod bits;
+mod core;
 mod job;
 mod ready;
+mod run;
+mod tells;
 #[cfg(test)]
 mod tests;
 mod wake;
 
 pub use actor::Actor;
+pub use core::Core;
 pub use job::{Finished, Job, RunEnd, Turned};
 pub use ready::Ready;

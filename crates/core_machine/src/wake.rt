@@ -47,20 +47,20 @@ pub(crate) fn move_home(
     ready: &mut Ready,
     links: &[Link],
     strand: u32,
-    want: Want,
+    want: &Want,
 ) -> Result<(), NoMemory>
-    requires can { CanCome desk.old pool.old strand want }
+    requires can { CanCome desk.old pool.old strand want.now }
     requires strand { strand < ready.old.size }
     requires links { AreInside links.now ready.old.size }
-    ensures home { IfOk result (λ done. HasCome desk.old pool.old strand want desk.new pool.new) }
+    ensures home { IfOk result (λ done. HasCome desk.old pool.old strand want.now desk.new pool.new) }
     ensures err { OnErr result (desk.new ≡ desk.old) }
     ensures err_pool { OnErr result (pool.new ≡ pool.old) }
     ensures size { ready.new.size ≡ ready.old.size }
     ensures covers { (net : NetIs) (texts : ℕ → List ℕ) (st : State) (left : Left) → net.links ≡ links.now → length net.strands ≡ ready.old.size →
         IsWellFormed net → IsKept net texts st left desk.old → AsksEarly desk.new → IsCovering desk.old ready.old → IsCovering desk.new ready.new }
 {
-    let before = settled_before(desk, strand, false, commits(&want));
-    wake_reader(ready, desk, links, strand, &want);
+    let before = settled_before(desk, strand, false, commits(want));
+    wake_reader(ready, desk, links, strand, want);
     desk.come_home(pool, strand, want)?;
     wake_settled(ready, desk, strand, before);
     Ok(())

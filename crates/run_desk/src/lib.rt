@@ -6,6 +6,7 @@ mod desk;
 mod doors;
 mod laws;
 mod looks;
+mod records;
 mod seat;
 mod sights;
 #[cfg(test)]

@@ -10,7 +10,7 @@ pub returns-clause-covers : goal.returns-clause-covers
 returns-clause-covers c = λ net texts st left same size formed kept early covers.
     let d = c.args.desk.now in
     let s = c.args.strand in
-    let w = c.args.want in
+    let w = c.args.want.now in
     let new = c.wake_settled.new.ready in
     let before = c.settled_before-before in
     let come : HasCome d c.args.pool.now s w c.come_home.new.self c.come_home.new.pool = c.in_ok-come_home.ensures.home in

@@ -1,0 +1,228 @@
+ghost use Rattle.std.specs.Prelude.{◌≡◌, vec_capacity};
+ghost use Rattle.core_machine.specs.Machine.{without};
+
+use crate::actor::{Actor, bare, send_out, take_back};
+use crate::job::{Finished, Job, Turned};
+use crate::ready::Ready;
+use crate::wake::{move_home, move_out};
+use pipe_model::{Entry, Net, NoMemory, Seen, Want};
+use record_pool::Pool;
+use run_desk::Desk;
+use stage_steps::Stage;
+use std::alloc::Global;
+use std::marker::Model;
+
+/// A net, its coroutines, and how far they are: it makes one event after another, and keeps each as an entry of its
+/// journal.
+pub struct Core<S: Stage> {
+    pub(crate) alloc: Global,
+    pub(crate) net: Net,
+    pub(crate) budget: u64,
+    pub(crate) actors: Vec<Actor<S>>,
+    // the places of the jobs that are out
+    pub(crate) out: Vec<u64>,
+    pub(crate) desk: Desk,
+    pub(crate) pool: Pool,
+    // the strands that may be ready
+    pub(crate) ready: Ready,
+    pub(crate) journal: Vec<Entry>,
+    pub(crate) is_broken: bool,
+}
+
+impl<S: Stage> Model for Core<S> {
+    ghost use Rattle.std.specs.Prelude.{◌≡◌, ◌≤◌, length, map, vec_capacity};
+    ghost use Rattle.core_machine.specs.declared.actor.Actor.{Actor as ActorIs};
+    ghost use Rattle.core_machine.specs.Machine.{Machine};
+    ghost use Rattle.core_machine.specs.Sound.{IsSound};
+
+    ghost Value = { Machine };
+
+    ghost view = { λ c. record { net = c.net; budget = c.budget; looking = map (λ (actor : ActorIs S). actor.looks) c.actors.items; journal = c.journal.items; out = c.out.items; is_broken = c.is_broken } };
+
+    ghost invariant = { λ c. IsSound S.stands S.is_looking c.net c.budget c.journal.items c.out.items c.actors.items c.desk c.pool c.ready × (c.budget ≤ vec_capacity c.journal) × (length c.net.strands ≤ vec_capacity c.out) };
+}
+
+impl<S: Stage> Core<S> {
+    ghost use Rattle.std.specs.Prelude.{◌≡◌, ◌<◌, ◌≤◌, ◌++◌, ◌∷◌, [], Some, None, true, false, length, IfOk, OnOk, OnErr, is_some, take, vec_capacity, ℕ, List};
+    ghost use Rattle.pipe_model.specs.Event.{Event, has_ended};
+    ghost use Rattle.pipe_model.specs.State.{past};
+    ghost use Rattle.stage_steps.specs.Coroutine.{told, bytes_with};
+    ghost use Rattle.core_machine.specs.Machine.{licence_of, state_of, looks_at, turned, came_home, broke_down, is_among, IsLawful};
+    ghost use Rattle.core_machine.specs.Jobs.{JobStands, DoneStands};
+    ghost use Rattle.core_machine.specs.Answered.{TurnedAs};
+
+    /// Whether a strand may have an event on a stream.
+    pub fn is_ready(&self, strand: u32, stream: u16) -> bool
+        ensures { result ≡ is_some (licence_of self.now strand stream) }
+    {
+        self.desk.seen_at(strand, stream).is_some()
+    }
+
+    /// Makes a strand's event on a stream: its entry is appended to the journal, and the strand is out until its job
+    /// comes home by `finish`. `room` then holds the record where the strand looks and saw one, and is empty otherwise.
+    /// On another answer nothing changes. It takes no memory.
+    pub fn turn(&mut self, strand: u32, stream: u16, room: &mut Vec<u8>) -> Turned<S>
+        ensures turned { TurnedAs S.stands S.is_looking self.old strand stream (vec_capacity room.old) result self.new room.new.items }
+        ensures lawful { IsLawful self.new }
+    {
+        if self.is_broken {
+            return Turned::Broken;
+        }
+        let Some(seen) = self.desk.seen_at(strand, stream) else {
+            return Turned::NotReady;
+        };
+        if self.journal.len() as u64 >= self.budget {
+            return Turned::Spent;
+        }
+        let size = self.size_of_look(strand, seen);
+        if size > room.capacity() {
+            return Turned::Room(size);
+        }
+        let job = self.go_out(strand, stream, seen);
+        room.clear();
+        room.extend_from_slice(self.bytes_seen(strand, seen)).unwrap();
+        Turned::Work(job)
+    }
+
+    /// Takes back a job that is out, after it was run, with what its strand wants now. After want of memory, in the
+    /// job or here, the core is broken: the strand stays out, and no turn is made any more.
+    pub fn finish(&mut self, done: Finished<S>) -> Result<(), NoMemory>
+        requires among { is_among done.place self.old.out ≡ true }
+        requires stands { IfOk done.want (λ want. DoneStands S.stands S.is_looking self.old.net self.old.looking (take done.place self.old.journal) done.strand done.place done.stage want) }
+        ensures whole { OnOk result (self.old.is_broken ≡ false) }
+        ensures home { OnOk result (self.new ≡ came_home self.old done.place) }
+        ensures broken { OnErr result (self.new ≡ broke_down self.old) }
+        ensures lawful { IsLawful self.new }
+    {
+        if self.is_broken {
+            return Err(NoMemory);
+        }
+        let Finished {
+            strand,
+            place,
+            seen: _,
+            stage,
+            want,
+        } = done;
+        let Ok(want) = want else {
+            self.is_broken = true;
+            return Err(NoMemory);
+        };
+        let home = self.come_home(strand, place, stage, want);
+        if home.is_err() {
+            self.is_broken = true;
+        }
+        home
+    }
+
+    // Makes an event that may be: the strand is out with the job that is answered.
+    pub(crate) fn go_out(&mut self, strand: u32, stream: u16, seen: Seen) -> Job<S>
+        requires may { (e : Event) × (licence_of self.old strand stream ≡ Some e) × (told e ≡ seen) }
+        requires space { length self.old.journal < self.old.budget }
+        ensures after { self.new ≡ turned self.old (record { strand = strand; stream = stream }) }
+        ensures strand { result.strand ≡ strand }
+        ensures seen { result.seen ≡ seen }
+        ensures job { JobStands S.stands S.is_looking self.new.net self.new.looking self.new.journal result.strand result.place result.seen result.stage }
+    {
+        let stage = send_out(&mut self.actors, strand as usize, seen);
+        move_out(
+            &mut self.desk,
+            &mut self.pool,
+            &mut self.ready,
+            self.net.links.as_slice(),
+            strand,
+            seen,
+        );
+        self.journal.push_reserved(Entry { strand, stream });
+        let place = self.journal.len() as u64;
+        self.out.push_reserved(place);
+        Job {
+            strand,
+            place,
+            seen,
+            stage,
+        }
+    }
+
+    // The end of `finish`, where there was memory so far. Out of memory leaves all as it was.
+    fn come_home(&mut self, strand: u32, place: u64, stage: S, want: Want) -> Result<(), NoMemory>
+        requires among { is_among place self.old.out ≡ true }
+        requires stands { DoneStands S.stands S.is_looking self.old.net self.old.looking (take place self.old.journal) strand place stage want }
+        ensures home { OnOk result (self.new ≡ came_home self.old place) }
+        ensures err { OnErr result (self.new ≡ self.old) }
+    {
+        if !self.desk.has_ended(strand) {
+            move_home(
+                &mut self.desk,
+                &mut self.pool,
+                &mut self.ready,
+                self.net.links.as_slice(),
+                strand,
+                &want,
+            )?;
+        }
+        take_back(
+            &mut self.actors,
+            strand as usize,
+            stage,
+            bare(self.alloc, want),
+        );
+        remove(&mut self.out, place);
+        Ok(())
+    }
+
+    // The number of bytes of the record that the strand would see, where it looks.
+    fn size_of_look(&self, strand: u32, seen: Seen) -> usize
+        ensures { (k : ℕ) (e : Event) → licence_of self.now strand k ≡ Some e → told e ≡ seen → result ≡ length (bytes_with (looks_at self.now.looking strand) e) }
+    {
+        match seen {
+            Seen::Saw(i) if self.looks(strand) => self.desk.size_at_hand(&self.pool, strand, i),
+            _ => 0,
+        }
+    }
+
+    // The bytes that go with the last event of a strand that is out.
+    pub(crate) fn bytes_seen(&self, strand: u32, seen: Seen) -> &[u8]
+        ensures { (e : Event) (h : List Event) → past (state_of self.now) strand ≡ e ∷ h → has_ended h ≡ false → told e ≡ seen → result.now ≡ bytes_with (looks_at self.now.looking strand) e }
+    {
+        match seen {
+            Seen::Saw(i) if self.looks(strand) => self.desk.seen_bytes(&self.pool, strand, i),
+            _ => &[],
+        }
+    }
+
+    fn looks(&self, strand: u32) -> bool
+        ensures { result ≡ looks_at self.now.looking strand }
+    {
+        match self.actors.get(strand as usize) {
+            None => false,
+            Some(actor) => actor.looks,
+        }
+    }
+}
+
+fn remove(out: &mut Vec<u64>, place: u64)
+    ensures items { out.new.items ≡ without place out.old.items }
+    ensures capacity { vec_capacity out.new ≡ vec_capacity out.old }
+{
+    out.retain(|q| *q != place);
+}
+
+impl<S: Stage> Drop for Core<S> {
+    /// Gives up the core with its records.
+    fn drop(self) {
+        let Core {
+            alloc: _,
+            net: _,
+            budget: _,
+            actors: _,
+            out: _,
+            desk,
+            mut pool,
+            ready: _,
+            journal: _,
+            is_broken: _,
+        } = self;
+        desk.drain(&mut pool);
+    }
+}
