@@ -1,33 +1,40 @@
 -- A sound core stays sound through a turn and a coming home.
 use Rattle.std.proofs.Common.{◌≡◌, ◌≢◌, ◌⊎◌, inl, inr, ℕ, zero, suc, ◌+◌, ◌≤◌, ◌<◌, Bool, true, false, cond, ◌||◌, ◌==◌, List, [], ◌∷◌, ◌++◌, length, refl, sym, ◌∙◌, ap, subst, arith, Option, Some, None, slice_get, slice_set, length-set, is_some, map, ℤ}
 use Rattle.std.specs.Prelude.{take, slice_index_or}
-use Rattle.std.specs.Option.{option_map}
+use Rattle.std.specs.Option.{option_map, option_map_or}
 use Rattle.pipe_model.specs.declared.net.Net.{Net}
 use Rattle.pipe_model.specs.declared.net.Strand.{Strand}
 use Rattle.pipe_model.specs.declared.step.Entry.{Entry}
 use Rattle.pipe_model.specs.declared.step.Seen.{Seen}
+use Rattle.pipe_model.specs.declared.step.Seen.TheVariants as Told
 use Rattle.pipe_model.specs.declared.step.Want.{Want as Asked}
 use Rattle.pipe_model.specs.declared.step.Want.TheVariants as To
 use Rattle.pipe_model.specs.declared.step.Out.TheVariants.{Same, Fresh}
-use Rattle.pipe_model.specs.Event.{Event, Want, has_ended, has_seen_end}
+use Rattle.pipe_model.specs.Event.{Event, Want, has_ended, has_seen_end, last_seen_on}
 use Rattle.pipe_model.specs.Event.Event.{Up, Saw, SawEnd, SawAllEnd, Took, Put, Refused, Primed, Opened, Joined, Severed, Ended}
 use Rattle.pipe_model.specs.Event.Want.{Commit, Read, Any, Gate, Take, Write, Prime, Issue, Join, Sever, Done}
 use Rattle.pipe_model.specs.Next.{next, wanted_by, IsOwn}
 use Rattle.pipe_model.specs.Table.{form}
-use Rattle.pipe_model.specs.State.{Who, State, past, nothing_yet, with_event, with_some_event, strand_at}
-use Rattle.pipe_model.specs.Licence.{Left, none_left, want_after, want_at, answer, sight_of, licence}
+use Rattle.pipe_model.specs.State.{Who, State, past, nothing_yet, with_event, with_some_event, strand_at, link_in}
+use Rattle.pipe_model.specs.Licence.{Left, none_left, want_after, want_at, at_hand, answer, sight_of, licence}
 use Rattle.pipe_model.specs.Play.{step, IsLicensed, play_from, IsLegalFrom, IsLegal, play}
 use Rattle.record_pool.specs.declared.pool.Held.{Held}
 use Rattle.record_pool.specs.Places.{bytes_at}
-use Rattle.stage_steps.specs.Coroutine.{told, meaning, last_seen}
+use Rattle.stage_steps.specs.Coroutine.{told, bytes_with, meaning, last_seen}
 use Rattle.run_desk.specs.Desk.{DeskState}
 use Rattle.run_desk.specs.declared.seat.Ask.TheVariants as Now
-use Rattle.run_desk.specs.Kept.{left_out, left_in, asked}
-use Rattle.run_desk.specs.Moves.{made, pool_moved, CanMove, CanCome, HasCome}
+use Rattle.run_desk.specs.Kept.{left_out, left_in, asked, IsKept}
+use Rattle.run_desk.specs.Moves.{made, pool_moved, CanMove, CanCome, HasCome, hand_on, sight_through}
+use Rattle.connectors.specs.WireState.{IsHeldIn}
 use Rattle.run_desk.specs.Order.{IsRun}
 use Rattle.run_desk.specs.Pure as Pure
 use Rattle.run_desk.proofs.Runs.{run_can, run_made, run_can_come, run_home, run_gone}
+use Rattle.run_desk.proofs.Acts.{goes, saw_at_hand}
+use Rattle.run_desk.proofs.Conditions as conditions
 use Rattle.run_desk.proofs.Early.{wants_early}
+use Rattle.run_desk.proofs.Limits.{sights_held}
+use Rattle.run_desk.proofs.Offers.{sight_text}
+use Rattle.run_desk.proofs.Shown.{shows_it}
 use Rattle.run_desk.proofs.Sees.{seen_is, ask_is}
 use Rattle.confluence_laws.proofs.Basics.{equal_or_not, at_same, at_other, test_same, test_apart, at_some, at_place}
 use Rattle.confluence_laws.proofs.Braids.{play_reached}
@@ -36,10 +43,10 @@ use Rattle.core_machine.specs.declared.actor.Actor.{Actor}
 use Rattle.core_machine.specs.Actors.{is_end, gone_out, come_back, bare}
 use Rattle.core_machine.specs.Answered.{LeastReady, Shows}
 use Rattle.core_machine.specs.Jobs.{JobStands, DoneStands}
-use Rattle.core_machine.specs.Machine.{is_of, is_at, left_by, without, is_among, looks_at}
+use Rattle.core_machine.specs.Machine.{is_of, is_at, left_by, without, is_among, looks_at, IsLawful}
 use Rattle.core_machine.specs.Members.{Members}
 use Rattle.core_machine.specs.Sound.{IsLast, AreLast, AreApart, IsActor, AreActors, IsSound}
-use Rattle.core_machine.specs.Woken.{IsCovering, AsksEarly, LeastAwake}
+use Rattle.core_machine.specs.Woken.{IsCovering, AsksEarly, AreInside, HasReturned, LeastAwake}
 use Rattle.core_machine.proofs.Away.{get_before, left_turned, last_turned, apart_turned, left_home, apart_home, last_home, among_last, among_left, one_strand, fewer_out}
 
 -- Lists
@@ -78,6 +85,33 @@ pub looks_here : {S : Type 0} (actors : List (Actor S)) (s : ℕ) (a : Actor S) 
 looks_here [] s a at = cc
 looks_here (x ∷ xs) zero a at = let is : x ≡ a = cc in ap (λ z. z.looks) is
 looks_here (x ∷ xs) (suc s) a at = looks_here xs s a at
+
+-- an event that brings bytes, more of them than nothing, is a look
+pub look_of : (b : Bool) (e : Event) (n room : ℕ) → n ≡ length (bytes_with b e) → room < n → (b ≡ true) × ((i : ℕ) × (rec : List ℕ) × (e ≡ Saw i rec) × (length rec ≡ n))
+look_of true (Saw i rec) n room is more = (refl, (i, rec, refl, sym is))
+look_of false (Saw i rec) n room is more = absurd (omega (arith, is, more))
+look_of true (Up l c) n room is more = absurd (omega (arith, is, more))
+look_of false (Up l c) n room is more = absurd (omega (arith, is, more))
+look_of true (SawEnd i) n room is more = absurd (omega (arith, is, more))
+look_of false (SawEnd i) n room is more = absurd (omega (arith, is, more))
+look_of true SawAllEnd n room is more = absurd (omega (arith, is, more))
+look_of false SawAllEnd n room is more = absurd (omega (arith, is, more))
+look_of true (Took i) n room is more = absurd (omega (arith, is, more))
+look_of false (Took i) n room is more = absurd (omega (arith, is, more))
+look_of true (Put o r) n room is more = absurd (omega (arith, is, more))
+look_of false (Put o r) n room is more = absurd (omega (arith, is, more))
+look_of true (Refused o) n room is more = absurd (omega (arith, is, more))
+look_of false (Refused o) n room is more = absurd (omega (arith, is, more))
+look_of true (Primed p) n room is more = absurd (omega (arith, is, more))
+look_of false (Primed p) n room is more = absurd (omega (arith, is, more))
+look_of true (Opened k) n room is more = absurd (omega (arith, is, more))
+look_of false (Opened k) n room is more = absurd (omega (arith, is, more))
+look_of true (Joined k c) n room is more = absurd (omega (arith, is, more))
+look_of false (Joined k c) n room is more = absurd (omega (arith, is, more))
+look_of true (Severed s) n room is more = absurd (omega (arith, is, more))
+look_of false (Severed s) n room is more = absurd (omega (arith, is, more))
+look_of true (Ended c) n room is more = absurd (omega (arith, is, more))
+look_of false (Ended c) n room is more = absurd (omega (arith, is, more))
 
 -- Plays
 
@@ -195,8 +229,8 @@ module _ {S : Type 0} (stands : S → Strand → List Event → Type 0) (is_look
   least_is looking b (Some r) is = (sym (ready_is r.0 r.1) ∙ is.0.0, λ k p. none_is r.0 k (is.0.1 k p), λ t k p. none_is t k (is.1 sound.covers t k p))
 
   -- no strand wants another level than the early ones
-  pub asks_early : AsksEarly d
-  asks_early t level is = wants_early net st left own t level (commit_back (want_at net st left t) (sym (ask_is net (bytes_at places) st left d sound.formed sound.run.kept t) ∙ is))
+  early_on : (texts : ℕ → List ℕ) (l : Left) (x : DeskState) → IsKept net texts st l x → AsksEarly x
+  early_on texts l x kept t level is = wants_early net st l own t level (commit_back (want_at net st l t) (sym (ask_is net texts st l x sound.formed kept t) ∙ is))
     where
       commit_back : (w : Option Want) → asked w ≡ Now.Commit level → w ≡ Some (Commit level)
       commit_back (Some (Commit l)) e = let same : l ≡ level = cc in ap (λ z. Some (Commit z)) same
@@ -211,6 +245,93 @@ module _ {S : Type 0} (stands : S → Strand → List Event → Type 0) (is_look
       commit_back (Some (Join k)) e = cc
       commit_back (Some (Sever i)) e = cc
       commit_back (Some (Done c)) e = cc
+
+  pub asks_early : AsksEarly d
+  asks_early = early_on (bytes_at places) left d sound.run.kept
+
+  -- the same with another set of strands that may be ready
+  pub sound_ready : (ready' : Members) → ready'.size ≡ ready.size → IsCovering d ready' → IsSound stands is_looking net budget journal out actors d places ready'
+  sound_ready ready' size covers = record {
+    formed = sound.formed;
+    few = sound.few;
+    legal = sound.legal;
+    within = sound.within;
+    bounded = sound.bounded;
+    last = sound.last;
+    apart = sound.apart;
+    run = sound.run;
+    strands = sound.strands;
+    size = size ∙ sound.size;
+    covers = covers;
+  }
+
+  pub lawful : (looking : List Bool) (b : Bool) → IsLawful (record { net = net; budget = budget; looking = looking; journal = journal; out = out; is_broken = b })
+  lawful looking b = record { legal = sound.legal; within = sound.within; bounded = sound.bounded }
+
+  -- Records
+
+  pub sight_held : (s i : ℕ) → IsHeldIn places (sight_through d.sights (Pure.in_door d s i))
+  sight_held s i = sights_held d.wires d.sights places sound.run.pooled (Pure.in_door d s i)
+
+  pub hand_held : (s i : ℕ) → IsHeldIn places (hand_on (Pure.wire_in d s i))
+  hand_held s i = go (hand_on (Pure.wire_in d s i)) refl
+    where
+      go : (x : Option ℕ) → hand_on (Pure.wire_in d s i) ≡ x → IsHeldIn places x
+      go None is = tt
+      go (Some grip) is = conditions.hand_held net st left d places sound.formed sound.run (Pure.in_door d s i) grip is
+
+  -- the record that a licensed look shows
+  pub looks_long : (s k : ℕ) (e : Event) (i : ℕ) → licence net st left s k ≡ Some e → told e ≡ Told.Saw i →
+      length (option_map_or (bytes_at places) (hand_on (Pure.wire_in d s i)) []) ≡ length (bytes_with true e)
+  looks_long s k e i may is = go e may is
+    where
+      go : (f : Event) → licence net st left s k ≡ Some f → told f ≡ Told.Saw i → length (option_map_or (bytes_at places) (hand_on (Pure.wire_in d s i)) []) ≡ length (bytes_with true f)
+      go (Saw j rec) may is =
+          let same : j ≡ i = cc in
+          let there = shows_it net (bytes_at places) st left d sound.run.kept s i rec (subst (λ z. at_hand net st left (link_in net st s z) ≡ Some rec) same (saw_at_hand net st left s k j rec may)) in
+          ap (λ x. length (option_map_or (bytes_at places) x [])) there.1 ∙ ap length there.2
+      go (Up l c) may is = cc
+      go (SawEnd j) may is = cc
+      go SawAllEnd may is = cc
+      go (Took j) may is = cc
+      go (Put o r) may is = cc
+      go (Refused o) may is = cc
+      go (Primed b) may is = cc
+      go (Opened j) may is = cc
+      go (Joined j c) may is = cc
+      go (Severed j) may is = cc
+      go (Ended c) may is = cc
+
+  -- the record that a strand saw last, where that was its last event
+  pub bytes_are : (s : Who) (e : Event) (h : List Event) (i : ℕ) → past st s ≡ e ∷ h → has_ended h ≡ false → told e ≡ Told.Saw i →
+      option_map_or (bytes_at places) (sight_through d.sights (Pure.in_door d s i)) [] ≡ bytes_with true e
+  bytes_are s e h i past_is going is = go e past_is is
+    where
+      go : (f : Event) → past st s ≡ f ∷ h → told f ≡ Told.Saw i → option_map_or (bytes_at places) (sight_through d.sights (Pure.in_door d s i)) [] ≡ bytes_with true f
+      go (Saw j rec) past_is is =
+          let same : j ≡ i = cc in
+          sight_text net (bytes_at places) st left d sound.run.kept s (ap has_ended past_is ∙ going) i
+          ∙ ap (last_seen_on i) past_is ∙ ap (λ b. cond b rec (last_seen_on i h)) (ap (λ z. z == i) same ∙ test_same i)
+      go (Up l c) past_is is = cc
+      go (SawEnd j) past_is is = cc
+      go SawAllEnd past_is is = cc
+      go (Took j) past_is is = cc
+      go (Put o r) past_is is = cc
+      go (Refused o) past_is is = cc
+      go (Primed b) past_is is = cc
+      go (Opened j) past_is is = cc
+      go (Joined j c) past_is is = cc
+      go (Severed j) past_is is = cc
+      go (Ended c) past_is is = cc
+
+  -- the links join strands of the set
+  pub inside : AreInside net.links ready.size
+  inside j link at =
+      let joined = sound.formed.joined j link at in
+      let from = at_place net.strands link.from joined.from_strand in
+      let to = at_place net.strands link.to joined.to_strand in
+      let size = sound.size in
+      (omega (arith, from, size), omega (arith, to, size))
 
   -- A turn
 
@@ -258,6 +379,19 @@ module _ {S : Type 0} (stands : S → Strand → List Event → Type 0) (is_look
         there : (y : Option S) → is_some y ≡ true → (x : S) × (y ≡ Some x)
         there None e = cc
         there (Some x) e = (x, refl)
+
+    pub turned_past : past (play net (journal ++ entry ∷ [])) s ≡ e ∷ past st s
+    turned_past = ap (λ y. past y s) now ∙ at_same st s e
+
+    pub goes_on : has_ended (past st s) ≡ false
+    goes_on = goes net st left s k e may
+
+    pub lawful_turned : length journal < budget → (looking : List Bool) (b : Bool) → IsLawful (record { net = net; budget = budget; looking = looking; journal = journal ++ entry ∷ []; out = out ++ suc (length journal) ∷ []; is_broken = b })
+    lawful_turned space looking b = record {
+      legal = legal_one net nothing_yet journal entry sound.legal (ap is_some may_all);
+      within = let a = end_length journal entry in omega (arith, a, space);
+      bounded = sound.bounded;
+    }
 
     pub can_turn : (seen : Seen) → told e ≡ seen → CanMove d places s seen
     can_turn seen at = subst (CanMove d places s) at (run_can net st left d places sound.formed own sound.few sound.run short s k e may)
@@ -386,8 +520,22 @@ module _ {S : Type 0} (stands : S → Strand → List Event → Type 0) (is_look
     asks : has_ended (past st s) ≡ false → Some (meaning want (last_seen (past st s))) ≡ next strand.0 (past st s)
     asks going = subst (λ h. has_ended h ≡ false → Some (meaning want (last_seen h)) ≡ next strand.0 h) (sym home_past) (done.asks strand.0 strand.1) going
 
-    pub can_home : has_ended (past st s) ≡ false → CanCome d places s want
-    can_home going = run_can_come net st left d places sound.formed own sound.few sound.run s strand.0 want away strand.1 going (asks going)
+    ended_is : Pure.ended_at d s ≡ has_ended (past st s)
+    ended_is =
+        let a = at_some d.seats s (subst (λ n. s < n) (sym sound.run.kept.laid.seat_count) place) in
+        ap Pure.ended_of a.1 ∙ (sound.run.kept.seats s a.0 a.1).ended
+
+    pub can_home : Pure.ended_at d s ≡ false → CanCome d places s want
+    can_home not_ended = run_can_come net st left d places sound.formed own sound.few sound.run s strand.0 want away strand.1 (sym ended_is ∙ not_ended) (asks (sym ended_is ∙ not_ended))
+
+    pub came : (d' : DeskState) (places' : List (Option Held)) → HasReturned d places s want d' places' → IsRun net st (left_in left s) d' places'
+    came d' places' returned = elim returned [
+      | inl gone ↦ subst (λ x. IsRun net st (left_in left s) x places') (sym gone.1) (subst (IsRun net st (left_in left s) d) (sym gone.2) (run_gone net st left d places sound.formed own sound.few sound.run s (sym ended_is ∙ gone.0)))
+      | inr come ↦ run_home net st left d places sound.formed own sound.few sound.run s strand.0 want away strand.1 (sym ended_is ∙ come.0) (asks (sym ended_is ∙ come.0)) d' places' come.1
+    ]
+
+    pub came_early : (d' : DeskState) (places' : List (Option Held)) → HasReturned d places s want d' places' → AsksEarly d'
+    came_early d' places' returned = early_on (bytes_at places') (left_in left s) d' (came d' places' returned).kept
 
     left_now : left_by journal (without p out) ≡ left_in left s
     left_now = left_home net journal s p its out sound.apart among

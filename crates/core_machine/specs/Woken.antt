@@ -7,7 +7,9 @@ use Rattle.pipe_model.specs.declared.step.Want.{Want}
 use Rattle.pipe_model.specs.declared.step.Want.TheVariants as want
 use Rattle.run_desk.specs.declared.seat.Ask.TheVariants as Ask
 use Rattle.run_desk.specs.Desk.{DeskState}
+use Rattle.record_pool.specs.declared.pool.Held.{Held}
 use Rattle.run_desk.specs.Kept.{link_through}
+use Rattle.run_desk.specs.Moves.{HasCome}
 use Rattle.run_desk.specs.Pure as Pure
 use Rattle.core_machine.specs.Members.{Members, is_member}
 
@@ -27,6 +29,11 @@ AreInside links size = (j : ℕ) (link : Link) → slice_get links j ≡ Some li
 abbrev pub LeastAwake : DeskState → Members → Option (ℕ × ℕ) → Type 0
 LeastAwake d set None = IsCovering d set → (s k : ℕ) → Pure.seen_at d s k ≡ None
 LeastAwake d set (Some r) = Pure.IsFirst d r.0 (Some r.1) × (IsCovering d set → (t k : ℕ) → t < r.0 → Pure.seen_at d t k ≡ None)
+
+-- the strand came home with this want, or had ended and changed nothing
+abbrev pub HasReturned : DeskState → List (Option Held) → ℕ → Want → DeskState → List (Option Held) → Type 0
+HasReturned d places s w new after =
+    ((Pure.ended_at d s ≡ true) × (new ≡ d) × (after ≡ places)) ⊎ ((Pure.ended_at d s ≡ false) × HasCome d places s w new after)
 
 -- Who is woken
 

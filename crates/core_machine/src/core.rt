@@ -1,10 +1,10 @@
-ghost use Rattle.std.specs.Prelude.{◌≡◌, vec_capacity};
+ghost use Rattle.std.specs.Prelude.{◌≡◌, ◌≤◌, length, vec_capacity};
 ghost use Rattle.core_machine.specs.Machine.{without};
 
 use crate::actor::{Actor, bare, send_out, take_back};
 use crate::job::{Finished, Job, Turned};
 use crate::ready::Ready;
-use crate::wake::{move_home, move_out};
+use crate::wake::{bring_home, move_out};
 use pipe_model::{Entry, Net, NoMemory, Seen, Want};
 use record_pool::Pool;
 use run_desk::Desk;
@@ -79,8 +79,7 @@ impl<S: Stage> Core<S> {
             return Turned::Room(size);
         }
         let job = self.go_out(strand, stream, seen);
-        room.clear();
-        room.extend_from_slice(self.bytes_seen(strand, seen)).unwrap();
+        fill(room, self.bytes_seen(strand, seen));
         Turned::Work(job)
     }
 
@@ -151,16 +150,14 @@ impl<S: Stage> Core<S> {
         ensures home { OnOk result (self.new ≡ came_home self.old place) }
         ensures err { OnErr result (self.new ≡ self.old) }
     {
-        if !self.desk.has_ended(strand) {
-            move_home(
-                &mut self.desk,
-                &mut self.pool,
-                &mut self.ready,
-                self.net.links.as_slice(),
-                strand,
-                &want,
-            )?;
-        }
+        bring_home(
+            &mut self.desk,
+            &mut self.pool,
+            &mut self.ready,
+            self.net.links.as_slice(),
+            strand,
+            &want,
+        )?;
         take_back(
             &mut self.actors,
             strand as usize,
@@ -199,6 +196,15 @@ impl<S: Stage> Core<S> {
             Some(actor) => actor.looks,
         }
     }
+}
+
+// Puts the bytes in place of what the room holds, which can hold them.
+fn fill(room: &mut Vec<u8>, bytes: &[u8])
+    requires { length bytes.now ≤ vec_capacity room.old }
+    ensures { room.new.items ≡ bytes.now }
+{
+    room.clear();
+    room.extend_from_slice(bytes).unwrap();
 }
 
 fn remove(out: &mut Vec<u64>, place: u64)

@@ -41,6 +41,7 @@ impl<S: Stage> Core<S> {
         requires whole { self.old.is_broken ≡ false }
         ensures steps { IfOk result (λ moved. Stepped self.old moved self.new) }
         ensures lacks { OnErr result (HasBroken self.old self.new) }
+        ensures lawful { IsLawful self.new }
     {
         let Some((strand, stream)) = self.least_ready() else {
             return Ok(false);
@@ -63,6 +64,7 @@ impl<S: Stage> Core<S> {
         requires whole { self.old.is_broken ≡ false }
         ensures goes { OnOk result (self.new ≡ record self.old { journal = self.old.journal ++ (record { strand = strand; stream = stream }) ∷ [] }) }
         ensures lacks { OnErr result (HasBroken self.old self.new) }
+        ensures lawful { IsLawful self.new }
     {
         let job = self.go_out(strand, stream, seen);
         let done = job.run(alloc, self.bytes_seen(strand, seen));

@@ -8,7 +8,7 @@ ghost use Rattle.run_desk.specs.Kept.{IsKept, link_through};
 ghost use Rattle.run_desk.specs.Moves.{CanMove, CanCome, HasCome, made, pool_moved, ends};
 ghost use Rattle.run_desk.specs.Pure as Pure;
 ghost use Rattle.core_machine.specs.Members.{is_member};
-ghost use Rattle.core_machine.specs.Woken.{IsCovering, AsksEarly, AreInside, LeastAwake, IsLarger, IsWhole, IsProducerIn, IsConsumerIn, OfDoors, AreEndsIn, IsReaderIn, IsStageIn, primes, commits};
+ghost use Rattle.core_machine.specs.Woken.{IsCovering, AsksEarly, AreInside, HasReturned, LeastAwake, IsLarger, IsWhole, IsProducerIn, IsConsumerIn, OfDoors, AreEndsIn, IsReaderIn, IsStageIn, primes, commits};
 
 use crate::ready::Ready;
 use pipe_model::{Link, NoMemory, Seen, Want};
@@ -64,6 +64,32 @@ pub(crate) fn move_home(
     desk.come_home(pool, strand, want)?;
     wake_settled(ready, desk, strand, before);
     Ok(())
+}
+
+/// Brings a strand home with what it wants next, or, where it has ended, with nothing. Out of memory leaves the desk and
+/// the pool as they were.
+pub(crate) fn bring_home(
+    desk: &mut Desk,
+    pool: &mut Pool,
+    ready: &mut Ready,
+    links: &[Link],
+    strand: u32,
+    want: &Want,
+) -> Result<(), NoMemory>
+    requires can { Pure.ended_at desk.old strand ≡ false → CanCome desk.old pool.old strand want.now }
+    requires strand { strand < ready.old.size }
+    requires links { AreInside links.now ready.old.size }
+    ensures home { IfOk result (λ done. HasReturned desk.old pool.old strand want.now desk.new pool.new) }
+    ensures err { OnErr result (desk.new ≡ desk.old) }
+    ensures err_pool { OnErr result (pool.new ≡ pool.old) }
+    ensures size { ready.new.size ≡ ready.old.size }
+    ensures covers { (net : NetIs) (texts : ℕ → List ℕ) (st : State) (left : Left) → net.links ≡ links.now → length net.strands ≡ ready.old.size →
+        IsWellFormed net → IsKept net texts st left desk.old → AsksEarly desk.new → IsCovering desk.old ready.old → IsCovering desk.new ready.new }
+{
+    if desk.has_ended(strand) {
+        return Ok(());
+    }
+    move_home(desk, pool, ready, links, strand, want)
 }
 
 /// The least strand that may go on, and its least stream. Who is found not to is taken out.

@@ -63,7 +63,8 @@ module _ (net : Net) (st : State) (left : Left) (d : DeskState) (places : List (
   offer_held None wire at = cc
   offer_held (Some k) wire at = offers_held d.wires d.sights places run.pooled k wire at
 
-  hand_held : (door : Option ℕ) (grip : ℕ) → hand_on (through d.wires door) ≡ Some grip → IsHeld places grip
+  -- the record at hand behind a door is held
+  pub hand_held : (door : Option ℕ) (grip : ℕ) → hand_on (through d.wires door) ≡ Some grip → IsHeld places grip
   hand_held door grip hand = by_wire (through d.wires door) refl hand
     where
       by_wire : (x : Option WireState) → through d.wires door ≡ x → hand_on x ≡ Some grip → IsHeld places grip

@@ -1,0 +1,66 @@
+-- A run is made of its steps.
+use Rattle.std.proofs.Common.{◌≡◌, ◌≤◌, ℕ, Bool, true, false, List, [], ◌∷◌, ◌++◌, length, refl, sym, ◌∙◌, ap, subst, arith, Some, None}
+use Rattle.std.specs.Prelude.{Result, Ok, Err, OnErr}
+use Rattle.pipe_model.specs.declared.step.Entry.{Entry}
+use Rattle.core_machine.specs.declared.job.RunEnd.TheVariants.{Complete, Spent}
+use Rattle.core_machine.specs.Answered.{LeastReady, AreLeast, HasRun, HasBroken, Stepped, Ends, IsLonger}
+use Rattle.core_machine.specs.Machine.{Machine, IsLawful}
+
+append_twice : (xs : List Entry) (x : Entry) (ys : List Entry) → (xs ++ x ∷ []) ++ ys ≡ xs ++ x ∷ ys
+append_twice [] x ys = refl
+append_twice (z ∷ zs) x ys = ap (λ l. z ∷ l) (append_twice zs x ys)
+
+append_three : (xs ys zs : List Entry) → (xs ++ ys) ++ zs ≡ xs ++ (ys ++ zs)
+append_three [] ys zs = refl
+append_three (x ∷ xs) ys zs = ap (λ l. x ∷ l) (append_three xs ys zs)
+
+append_none : (xs : List Entry) → xs ++ [] ≡ xs
+append_none [] = refl
+append_none (x ∷ xs) = ap (λ l. x ∷ l) (append_none xs)
+
+-- one more least step
+least_more : (m : Machine) (es : List Entry) (e : Entry) → AreLeast m es → LeastReady (record m { journal = m.journal ++ es }) (Some (e.strand, e.stream)) → AreLeast m (es ++ e ∷ [])
+least_more m [] e least next = (subst (λ j. LeastReady (record m { journal = j }) (Some (e.strand, e.stream))) (append_none m.journal) next, tt)
+least_more m (x ∷ es) e least next = (least.0, least_more (record m { journal = m.journal ++ x ∷ [] }) es e least.1 (subst (λ j. LeastReady (record m { journal = j }) (Some (e.strand, e.stream))) (sym (append_twice m.journal x es)) next))
+
+-- a run of no step
+pub run_none : (m : Machine) → HasRun m m
+run_none m = record { more = []; least = tt; after = ap (λ j. record m { journal = j }) (sym (append_none m.journal)) }
+
+-- a run goes on by a step
+pub run_step : (m n k : Machine) → HasRun m n → Stepped n true k → HasRun m k
+run_step m n k run step =
+    let e = step.0 in
+    let next = subst (λ (z : Machine). LeastReady z (Some (e.strand, e.stream))) run.after step.1 in
+    let now : k ≡ record m { journal = m.journal ++ (run.more ++ e ∷ []) } = step.2 ∙ ap (λ (z : Machine). record z { journal = z.journal ++ e ∷ [] }) run.after ∙ ap (λ j. record m { journal = j }) (append_three m.journal run.more (e ∷ [])) in
+    record { more = run.more ++ e ∷ []; least = least_more m run.more e run.least next; after = now }
+
+pub step_out : (n k : Machine) → Stepped n true k → (k.out ≡ n.out) × (k.is_broken ≡ n.is_broken)
+step_out n k step = (ap (λ (z : Machine). z.out) step.2, ap (λ (z : Machine). z.is_broken) step.2)
+
+-- a run that finds no step is complete
+pub run_stops : (m n k : Machine) → HasRun m n → n.out ≡ [] → Stepped n false k → HasRun m k × Ends Complete k
+run_stops m n k run out step = subst (λ (z : Machine). HasRun m z × Ends Complete z) (sym step.0) (run, (out, step.1))
+
+-- a run at its budget is complete, or there is more to do
+pub run_idles : (m n k : Machine) → HasRun m n → n.out ≡ [] → k ≡ n → LeastReady n None → HasRun m k × Ends Complete k
+run_idles m n k run out same none = subst (λ (z : Machine). HasRun m z × Ends Complete z) (sym same) (run, (out, none))
+
+pub run_spends : (m n k : Machine) (r : ℕ × ℕ) → HasRun m n → IsLawful n → n.budget ≤ length n.journal → k ≡ n → LeastReady n (Some r) → HasRun m k × Ends Spent k
+run_spends m n k r run lawful full same ready =
+    let at : length n.journal ≡ n.budget = (let a = lawful.within in omega (arith, a, full)) in
+    subst (λ (z : Machine). HasRun m z × Ends Spent z) (sym same) (run, (at, (r, ready)))
+
+-- a run that breaks in a step is broken
+pub run_breaks : (m n k : Machine) → HasRun m n → HasBroken n k → HasBroken m k
+run_breaks m n k run broke = record {
+  broken = broke.broken;
+  net = broke.net ∙ ap (λ (z : Machine). z.net) run.after;
+  budget = broke.budget ∙ ap (λ (z : Machine). z.budget) run.after;
+  looking = broke.looking ∙ ap (λ (z : Machine). z.looking) run.after;
+  longer = (run.more ++ broke.longer.0, broke.longer.1 ∙ ap (λ (z : Machine). z.journal ++ broke.longer.0) run.after ∙ append_three m.journal run.more broke.longer.0);
+}
+
+pub on_err : {A E : Type 0} {P : Type 0} (r : Result A E) → P → OnErr r P
+on_err (Ok x) p = tt
+on_err (Err e) p = p
