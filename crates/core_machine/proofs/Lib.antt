@@ -10,4 +10,5 @@ pub mod Quiet
 pub mod Sounds
 pub mod Stills
 pub mod Summaries
+pub mod Tales
 pub mod Wakes
