@@ -11,4 +11,5 @@ pub mod Sounds
 pub mod Steps
 pub mod Stills
 pub mod Summaries
+pub mod Tales
 pub mod Wakes
