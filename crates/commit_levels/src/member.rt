@@ -51,6 +51,13 @@ impl MemberState {
         self.progress[place]
     }
 
+    /// The code with which it ended, if it has.
+    pub fn end_code(&self) -> Option<i32>
+        ensures { result ≡ self.now.ended }
+    {
+        self.ended
+    }
+
     /// Goes on to this progress at the level of this place.
     pub fn go(&mut self, place: usize, progress: Progress)
         requires { place < level_count }

@@ -1,6 +1,6 @@
 ghost use Rattle.std.specs.Prelude.{◌≡◌, ◌<◌, ◌≤◌, ◌^◌, ◌-◌, ℕ, length, Some, None, IfOk, slice_get};
 ghost use Rattle.std.specs.Option.{option_map};
-ghost use Rattle.commit_levels.specs.UnitState.{IsLevel, IsLive, IsAt, level_count, progress_at, new_unit, asked_by, reached_by, ended_by, answer};
+ghost use Rattle.commit_levels.specs.UnitState.{Member, IsLevel, IsLive, IsAt, level_count, progress_at, new_unit, asked_by, reached_by, ended_by, answer};
 ghost use Rattle.commit_levels.specs.Kept.{closed_level};
 ghost use Rattle.commit_levels.specs.declared.member.Progress.TheVariants.{NotAsked, Asked};
 
@@ -108,6 +108,14 @@ impl Unit {
         let member = &mut self.members[member as usize];
         close(&mut self.levels, member, code);
         member.end(code);
+    }
+
+    /// The code with which a member ended, and none before.
+    pub fn end_of(&self, member: u32) -> Option<i32>
+        requires { member < length self.now }
+        ensures { (m : Member) → slice_get self.now member ≡ Some m → result ≡ m.ended }
+    {
+        self.members[member as usize].end_code()
     }
 
     /// The answer of a level, from -1 to 1,000: none while a member doesn't stand there, and then the worst code of

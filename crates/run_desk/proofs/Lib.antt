@@ -1,10 +1,12 @@
 pub mod Begins
+pub mod Blanks
 pub mod Comings
 pub mod Conditions
 pub mod Counts
 pub mod Early
 pub mod Gives
 pub mod Holds
+pub mod Leads
 pub mod Limits
 pub mod Pooled
 pub mod Sees

@@ -1,5 +1,5 @@
 -- The order that a run keeps: who holds each record of the pool, and how far each wire is.
-use Rattle.std.specs.Prelude.{◌≡◌, ◌<◌, ◌+◌, ◌==◌, ℕ, Bool, true, false, List, Option, Some, None, IsSome, slice_get, length, count_by}
+use Rattle.std.specs.Prelude.{◌≡◌, ◌<◌, ◌+◌, ◌==◌, ◌&&◌, not, nat_lt, ℕ, Bool, true, false, List, Option, Some, None, IsSome, slice_get, length, count_by}
 use Rattle.pipe_model.specs.declared.net.Net.{Net}
 use Rattle.pipe_model.specs.Event.{has_ended, in_sight}
 use Rattle.pipe_model.specs.State.{Who, State, past}
@@ -32,6 +32,10 @@ pub record IsPooled (wires : List WireState) (sights : List (Option ℕ)) (place
 pub record IsPacing (st : State) (d : DeskState) : Type 0 where
   pub paced : (j : ℕ) (wire : WireState) → slice_get d.wires j ≡ Some wire → IsPaced wire.offer wire.puts wire.tooks
   pub shown : (s : Who) (i : ℕ) (wire : WireState) → has_ended (past st s) ≡ false → in_sight i (past st s) ≡ true → Pure.wire_in d s i ≡ Some wire → IsSome (at_hand wire)
+
+-- the strands from this one on are out
+abbrev pub out_from : ℕ → ℕ → Left
+out_from s count = λ t. not (nat_lt t s) && nat_lt t count
 
 -- the desk and the pool stand for the state, where these strands are out
 pub record IsRun (net : Net) (st : State) (left : Left) (d : DeskState) (places : List (Option Held)) : Type 0 where

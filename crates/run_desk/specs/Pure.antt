@@ -92,6 +92,14 @@ abbrev pub primed_of : Option Seat → Option Bool
 primed_of None = None
 primed_of (Some seat) = if seat.has_seen then Some true else (if seat.has_ended then Some false else None)
 
+abbrev pub ended_of : Option Seat → Bool
+ended_of None = false
+ended_of (Some seat) = seat.has_ended
+
+-- the strand has ended
+abbrev pub ended_at : DeskState → ℕ → Bool
+ended_at d s = ended_of (slice_get d.seats s)
+
 abbrev pub primed_at : DeskState → ℕ → Option Bool
 primed_at d s = primed_of (slice_get d.seats (first_of s (slice_get d.doors s)))
 
@@ -135,6 +143,11 @@ ask_of (Some seat) = seat.ask
 
 abbrev pub ask_at : DeskState → ℕ → Ask
 ask_at d s = ask_of (slice_get d.seats s)
+
+-- who asks so is out, or has ended
+abbrev pub asks_nothing : Ask → Bool
+asks_nothing Now.Nothing = true
+asks_nothing _ = false
 
 -- what a strand would be told on a stream, if it may go on there
 abbrev pub seen_at : DeskState → ℕ → ℕ → Option Seen

@@ -18,11 +18,11 @@ use std::marker::Model;
 /// What is kept of a run, and all that a licence rests on: the seats and doors of the strands, the wires of the links
 /// with what their consumers saw last, and how far each strand is at each commit level.
 pub struct Desk {
-    seats: Vec<Seat>,
-    wires: Vec<Wire>,
-    sights: Vec<Option<Grip>>,
-    doors: Vec<Doors>,
-    unit: Unit,
+    pub(crate) seats: Vec<Seat>,
+    pub(crate) wires: Vec<Wire>,
+    pub(crate) sights: Vec<Option<Grip>>,
+    pub(crate) doors: Vec<Doors>,
+    pub(crate) unit: Unit,
 }
 
 impl Model for Desk {
@@ -59,8 +59,8 @@ impl Desk {
         }
     }
 
-    /// Ends the desk at the end of a run. The wires are the caller's to drain, and the sights to give back.
-    pub fn into_holders(self) -> (Vec<Wire>, Vec<Option<Grip>>)
+    // Ends the desk. The wires are the caller's to drain, and the sights to give back.
+    pub(crate) fn into_holders(self) -> (Vec<Wire>, Vec<Option<Grip>>)
         ensures wires { result.0.items ≡ self.wires }
         ensures sights { result.1.items ≡ self.sights }
     {
@@ -115,24 +115,24 @@ impl Desk {
 
     /// A strand comes home with what it wants next. Where it writes, it offers the record that it saw last on an
     /// input, which is empty where it saw none, or new bytes. Out of memory leaves all as it was.
-    pub fn come_home(&mut self, pool: &mut Pool, strand: u32, want: Want) -> Result<(), NoMemory>
-        requires { CanCome self.old pool.old strand want }
-        ensures home { IfOk result (λ done. HasCome self.old pool.old strand want self.new pool.new) }
+    pub fn come_home(&mut self, pool: &mut Pool, strand: u32, want: &Want) -> Result<(), NoMemory>
+        requires { CanCome self.old pool.old strand want.now }
+        ensures home { IfOk result (λ done. HasCome self.old pool.old strand want.now self.new pool.new) }
         ensures err { OnErr result (self.new ≡ self.old) }
         ensures err_pool { OnErr result (pool.new ≡ pool.old) }
     {
         match want {
-            Want::Write(o, out) => return self.write(pool, strand, o, out),
-            Want::Commit(level) => self.ask(strand, Ask::Commit(level)),
-            Want::Read(i) => self.ask(strand, Ask::Read(i)),
+            Want::Write(o, out) => return self.write(pool, strand, *o, out),
+            Want::Commit(level) => self.ask(strand, Ask::Commit(*level)),
+            Want::Read(i) => self.ask(strand, Ask::Read(*i)),
             Want::Any => self.ask(strand, Ask::Any),
             Want::Gate => self.ask(strand, Ask::Gate),
-            Want::Take(i) => self.ask(strand, Ask::Take(i)),
+            Want::Take(i) => self.ask(strand, Ask::Take(*i)),
             Want::Primed => self.ask(strand, Ask::Primed),
             Want::Issue(_) => self.ask(strand, Ask::Issue),
-            Want::Join(unit) => self.ask(strand, Ask::Join(unit)),
-            Want::Cut(i) => self.ask(strand, Ask::Cut(i)),
-            Want::Done(code) => self.ask(strand, Ask::Done(code)),
+            Want::Join(unit) => self.ask(strand, Ask::Join(*unit)),
+            Want::Cut(i) => self.ask(strand, Ask::Cut(*i)),
+            Want::Done(code) => self.ask(strand, Ask::Done(*code)),
         }
         Ok(())
     }
@@ -147,10 +147,10 @@ impl Desk {
     }
 
     // One that writes a record on an output.
-    fn write(&mut self, pool: &mut Pool, strand: u32, o: u16, out: Out) -> Result<(), NoMemory>
+    fn write(&mut self, pool: &mut Pool, strand: u32, o: u16, out: &Out) -> Result<(), NoMemory>
         requires ask { CanAsk self.old strand (Now.Write o) }
-        requires hold { CanHold self.old pool.old strand out }
-        ensures ok { IfOk result (λ done. (grip : ℕ) × IsHold self.old pool.old strand out grip pool.new × (self.new ≡ home_writing self.old strand o grip)) }
+        requires hold { CanHold self.old pool.old strand out.now }
+        ensures ok { IfOk result (λ done. (grip : ℕ) × IsHold self.old pool.old strand out.now grip pool.new × (self.new ≡ home_writing self.old strand o grip)) }
         ensures err { OnErr result (self.new ≡ self.old) }
         ensures err_pool { OnErr result (pool.new ≡ pool.old) }
     {
@@ -159,13 +159,13 @@ impl Desk {
         Ok(())
     }
 
-    fn hold(&self, pool: &mut Pool, strand: u32, out: Out) -> Result<Grip, NoMemory>
-        requires { CanHold self.now pool.old strand out }
-        ensures hold { IfOk result (λ grip. IsHold self.now pool.old strand out grip pool.new) }
+    fn hold(&self, pool: &mut Pool, strand: u32, out: &Out) -> Result<Grip, NoMemory>
+        requires { CanHold self.now pool.old strand out.now }
+        ensures hold { IfOk result (λ grip. IsHold self.now pool.old strand out.now grip pool.new) }
         ensures err { OnErr result (pool.new ≡ pool.old) }
     {
         match out {
-            Out::Same(i) => hold_of(&self.sights, pool, self.in_door(strand, i)),
+            Out::Same(i) => hold_of(&self.sights, pool, self.in_door(strand, *i)),
             Out::Fresh(rec) => pool.put(rec.bytes()),
         }
     }
@@ -356,7 +356,7 @@ impl Desk {
         }
     }
 
-    fn in_door(&self, strand: u32, i: u16) -> Option<u32>
+    pub(crate) fn in_door(&self, strand: u32, i: u16) -> Option<u32>
         ensures { result ≡ Pure.in_door self.now strand i }
     {
         match self.doors.get(strand as usize) {
@@ -392,13 +392,13 @@ impl Desk {
         }
     }
 
-    fn seat(&self, strand: u32) -> Option<Seat>
+    pub(crate) fn seat(&self, strand: u32) -> Option<Seat>
         ensures { result ≡ slice_get self.now.seats strand }
     {
         self.seats.get(strand as usize).copied()
     }
 
-    fn ask_of(&self, strand: u32) -> Ask
+    pub(crate) fn ask_of(&self, strand: u32) -> Ask
         ensures { result ≡ Pure.ask_at self.now strand }
     {
         match self.seat(strand) {

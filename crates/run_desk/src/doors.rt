@@ -9,9 +9,9 @@ use std::marker::Model;
 /// The numbers of the links at a strand's inputs and outputs, and the first strand of its stage.
 #[derive(Drop)]
 pub struct Doors {
-    inputs: Vec<Option<u32>>,
-    outputs: Vec<Option<u32>>,
-    first: u32,
+    pub(crate) inputs: Vec<Option<u32>>,
+    pub(crate) outputs: Vec<Option<u32>>,
+    pub(crate) first: u32,
 }
 
 impl Model for Doors {

@@ -2,10 +2,12 @@
 //! would be told is answered in constant time.
 #![tactic(auto)]
 
+mod blank;
 mod desk;
 mod doors;
 mod laws;
 mod looks;
+mod records;
 mod seat;
 mod sights;
 #[cfg(test)]
