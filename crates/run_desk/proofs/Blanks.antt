@@ -1,5 +1,5 @@
 -- The desk of a net before the first step stands for the state in which nothing has happened, where every strand is out.
-use Rattle.std.proofs.Common.{◌≡◌, inl, ℕ, zero, suc, ◌+◌, ◌<◌, ◌≤◌, Bool, true, false, cond, ◌&&◌, not, nat_lt, List, [], ◌∷◌, length, get_or, replicate, refl, sym, ◌∙◌, ap, subst, arith, Option, Some, None, slice_get, ℤ}
+use Rattle.std.proofs.Common.{◌≡◌, inl, ℕ, zero, suc, ◌≤◌, Bool, true, false, cond, ◌&&◌, not, nat_lt, List, [], length, get_or, replicate, refl, sym, ◌∙◌, ap, subst, arith, Option, Some, None, slice_get}
 use Rattle.std.specs.Prelude.{count_by}
 use Rattle.std.proofs.lemmas.Bool.Decides.{nat_tests}
 use Rattle.std.proofs.lemmas.Option.{slice_get_past}
@@ -11,12 +11,12 @@ use Rattle.pipe_model.specs.Licence.{want_after, want_at, offered}
 use Rattle.pipe_model.specs.WellFormed.{IsWellFormed}
 use Rattle.record_pool.specs.Places.{bytes_at}
 use Rattle.connectors.specs.WireState.{WireState, new_wire}
-use Rattle.commit_levels.specs.UnitState.{level_count, place_of, progress_at, new_member, Member}
-use Rattle.commit_levels.specs.Licensed.{IsStrand, progress_of}
+use Rattle.commit_levels.specs.UnitState.{level_count, place_of, new_member, Member}
+use Rattle.commit_levels.specs.Licensed.{IsStrand}
 use Rattle.commit_levels.specs.declared.member.Progress.TheVariants.{NotAsked}
 use Rattle.run_desk.specs.declared.seat.Seat.{Seat}
 use Rattle.run_desk.specs.Kept.{asked, IsSeat, IsWire, IsSight, IsLaid, IsKept}
-use Rattle.run_desk.specs.Order.{holds, offer_holds, IsPooled, IsPacing, IsRun, out_from}
+use Rattle.run_desk.specs.Order.{holds, offer_holds, IsPooled, IsRun, out_from}
 use Rattle.run_desk.specs.Blank.{new_seat, blank_desk}
 use Rattle.run_desk.proofs.Counts.{one, count_first}
 use Rattle.run_desk.proofs.Leads.{leads_in, leads_out, knows_first}

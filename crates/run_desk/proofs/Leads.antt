@@ -224,8 +224,8 @@ module _ (net : Net) (formed : IsWellFormed net) where
       leads ins (λ link. link.to) (λ link. link.input) in_here in_there net.links first_doors s i
       (ap (λ x. joined (slice_get (inputs_of x) i)) (at_from net.strands 0 s) ∙ in_closed (0 + s) i (slice_get net.strands s)) net.links 0
       (λ k link at. let is = formed.joined k link at in
-          let e : inputs_of (slice_get first_doors link.to) ≡ replicate is.consumer.ports.inputs None = ap inputs_of (at_from net.strands 0 link.to ∙ ap (option_map (closed_doors (0 + link.to))) is.to_strand) in
-          omega (arith, is.input, ap length e, length-replicate {A = Option ℕ} is.consumer.ports.inputs None))
+      let e : inputs_of (slice_get first_doors link.to) ≡ replicate is.consumer.ports.inputs None = ap inputs_of (at_from net.strands 0 link.to ∙ ap (option_map (closed_doors (0 + link.to))) is.to_strand) in
+      omega (arith, is.input, ap length e, length-replicate {A = Option ℕ} is.consumer.ports.inputs None))
       (λ k. ap (slice_get net.links) (let e : 0 + k ≡ k = omega arith in e))
 
   -- an output leads to its link
@@ -234,8 +234,8 @@ module _ (net : Net) (formed : IsWellFormed net) where
       leads outs (λ link. link.from) (λ link. link.output) out_here out_there net.links first_doors s o
       (ap (λ x. joined (slice_get (outputs_of x) o)) (at_from net.strands 0 s) ∙ out_closed (0 + s) o (slice_get net.strands s)) net.links 0
       (λ k link at. let is = formed.joined k link at in
-          let e : outputs_of (slice_get first_doors link.from) ≡ replicate is.producer.ports.outputs None = ap outputs_of (at_from net.strands 0 link.from ∙ ap (option_map (closed_doors (0 + link.from))) is.from_strand) in
-          omega (arith, is.output, ap length e, length-replicate {A = Option ℕ} is.producer.ports.outputs None))
+      let e : outputs_of (slice_get first_doors link.from) ≡ replicate is.producer.ports.outputs None = ap outputs_of (at_from net.strands 0 link.from ∙ ap (option_map (closed_doors (0 + link.from))) is.from_strand) in
+      omega (arith, is.output, ap length e, length-replicate {A = Option ℕ} is.producer.ports.outputs None))
       (λ k. ap (slice_get net.links) (let e : 0 + k ≡ k = omega arith in e))
 
   first_still : (links : List Link) (j s : ℕ) → first_of s (slice_get (with_links first_doors j links) s) ≡ first_of s (slice_get first_doors s)

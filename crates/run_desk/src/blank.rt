@@ -56,10 +56,7 @@ fn new_seats(alloc: Global, count: usize) -> Result<Vec<Seat>, NoMemory>
 }
 
 // A wire and a sight for each link, which hold nothing.
-fn new_holders(
-    alloc: Global,
-    count: usize,
-) -> Result<(Vec<Wire>, Vec<Option<Grip>>), NoMemory>
+fn new_holders(alloc: Global, count: usize) -> Result<(Vec<Wire>, Vec<Option<Grip>>), NoMemory>
     ensures wires { IfOk result (λ holders. holders.0.items ≡ replicate count new_wire) }
     ensures sights { IfOk result (λ holders. holders.1.items ≡ replicate count None) }
 {
