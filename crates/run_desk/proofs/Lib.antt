@@ -1,6 +1,7 @@
 pub mod Acts
 pub mod Begins
 pub mod Behind
+pub mod Blanks
 pub mod Comings
 pub mod Conditions
 pub mod Counts
@@ -9,6 +10,7 @@ pub mod Events
 pub mod Gives
 pub mod Holds
 pub mod Homes
+pub mod Laying
 pub mod Leads
 pub mod Limits
 pub mod Links

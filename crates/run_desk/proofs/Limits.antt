@@ -1,14 +1,14 @@
 -- What the desk holds is held in the pool, by no more holders than a record can count.
-use Rattle.std.proofs.Common.{◌≡◌, ℕ, zero, suc, ◌+◌, ◌≤◌, ◌<◌, Bool, true, List, [], ◌∷◌, length, refl, ◌∙◌, ap, arith, Option, Some, None, slice_get}
+use Rattle.std.proofs.Common.{◌≡◌, ℕ, zero, suc, ◌+◌, ◌≤◌, ◌<◌, Bool, true, false, cond, ◌==◌, List, [], ◌∷◌, length, refl, ◌∙◌, ap, arith, Option, Some, None, slice_get}
 use Rattle.std.specs.Prelude.{count_by}
 use Rattle.std.proofs.lemmas.List.Sums.{count_by-le-length}
 use Rattle.record_pool.specs.declared.pool.Held.{Held}
 use Rattle.record_pool.specs.Places.{holders_at}
 use Rattle.connectors.specs.WireState.{WireState, IsHeldIn, given_in}
 use Rattle.confluence_laws.proofs.Basics.{test_same}
-use Rattle.run_desk.specs.Pure.{joined}
+use Rattle.run_desk.specs.Pure.{joined, through}
 use Rattle.run_desk.specs.Order.{holds, offer_holds, IsPooled}
-use Rattle.run_desk.specs.Moves.{changed, sight_through, unseen, CanForget}
+use Rattle.run_desk.specs.Moves.{changed, hand_on, sight_through, unseen, CanForget}
 use Rattle.run_desk.proofs.Counts.{one, count_first, count_unseen}
 use Rattle.run_desk.proofs.Pooled.{held_by, pooled_given}
 
@@ -31,6 +31,19 @@ offers_held wires sights places pooled k wire at = by_offer wire.offer refl
     by_offer (Some grip) is =
         let some : 0 < count_by (offer_holds grip) wires = count_some (offer_holds grip) wires k wire at (ap (holds grip) is ∙ test_same grip) in
         held_by wires sights places pooled grip (omega (arith, some))
+
+-- and so is the record at hand
+pub hands_held : (wires : List WireState) (sights : List (Option ℕ)) (places : List (Option Held)) → IsPooled wires sights places → (door : Option ℕ) → IsHeldIn places (hand_on (through wires door))
+hands_held wires sights places pooled None = tt
+hands_held wires sights places pooled (Some k) = by_wire (slice_get wires k) refl
+  where
+    by_test : (b : Bool) (wire : WireState) → IsHeldIn places wire.offer → IsHeldIn places (cond b wire.offer None)
+    by_test true wire held = held
+    by_test false wire held = tt
+
+    by_wire : (x : Option WireState) → slice_get wires k ≡ x → IsHeldIn places (hand_on x)
+    by_wire None at = tt
+    by_wire (Some wire) at = by_test (wire.puts == wire.tooks) wire (offers_held wires sights places pooled k wire at)
 
 -- and so is that of a sight
 pub sights_held : (wires : List WireState) (sights : List (Option ℕ)) (places : List (Option Held)) → IsPooled wires sights places → (door : Option ℕ) → IsHeldIn places (sight_through sights door)

@@ -1,3 +1,4 @@
+pub mod Blank
 pub mod Desk
 pub mod Kept
 pub mod Moves

@@ -1,5 +1,5 @@
 -- The order that a run keeps: who holds each record of the pool, and how far each wire is.
-use Rattle.std.specs.Prelude.{◌≡◌, ◌<◌, ◌+◌, ◌==◌, ◌&&◌, not, nat_lt, ℕ, Bool, true, false, List, Option, Some, None, IsSome, slice_get, length, count_by}
+use Rattle.std.specs.Prelude.{◌≡◌, ◌<◌, ◌+◌, ◌==◌, ◌&&◌, not, nat_lt, ℕ, Bool, true, false, List, Option, Some, None, IsSome, slice_get, count_by}
 use Rattle.pipe_model.specs.declared.net.Net.{Net}
 use Rattle.pipe_model.specs.Event.{has_ended, in_sight}
 use Rattle.pipe_model.specs.State.{Who, State, past}

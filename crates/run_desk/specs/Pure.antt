@@ -92,16 +92,18 @@ abbrev pub primed_of : Option Seat → Option Bool
 primed_of None = None
 primed_of (Some seat) = if seat.has_seen then Some true else (if seat.has_ended then Some false else None)
 
+abbrev pub primed_at : DeskState → ℕ → Option Bool
+primed_at d s = primed_of (slice_get d.seats (first_of s (slice_get d.doors s)))
+
+-- The end
+
+-- the strand has ended: who has no seat has not
 abbrev pub ended_of : Option Seat → Bool
 ended_of None = false
 ended_of (Some seat) = seat.has_ended
 
--- the strand has ended
 abbrev pub ended_at : DeskState → ℕ → Bool
 ended_at d s = ended_of (slice_get d.seats s)
-
-abbrev pub primed_at : DeskState → ℕ → Option Bool
-primed_at d s = primed_of (slice_get d.seats (first_of s (slice_get d.doors s)))
 
 -- What is told
 

@@ -2,6 +2,7 @@
 //! would be told is answered in constant time.
 #![tactic(auto)]
 
+mod blank;
 mod desk;
 mod doors;
 mod laws;

@@ -1,9 +1,13 @@
-ghost use Rattle.std.specs.Prelude.{◌≡◌, ◌∷◌, [], MatchResult};
+ghost use Rattle.std.specs.Prelude.{◌≡◌, ◌<◌, ◌^◌, ◌∷◌, [], length, IfOk, MatchResult};
+ghost use Rattle.confluence_laws.specs.Examples.{strand, filtering, link, locate};
 
 use crate::{Ask, Desk, Doors, Seat, tells_the_licence, wants_early_levels};
 use commit_levels::Unit;
 use connectors::Wire;
-use pipe_model::{NoMemory, Seen, Want};
+use pipe_model::{
+    Flags, Kind, Link, Links, Net, NoMemory, Ports, Range, Rec, Seen, Span, StageName, Strand,
+    Strands, Want,
+};
 use record_pool::Pool;
 use std::alloc::Global;
 use std::test::Fail;
@@ -147,6 +151,117 @@ fn a_strand_goes_out_and_comes_home(rt: HostRuntime) -> Result<(), Fail> {
         [first, out, home],
         [Some(Seen::SawEnd(0)), None, Some(Seen::Ended(4))]
     );
+    Ok(())
+}
+
+// A strand whose stage has one strand, named by its number.
+fn strand(
+    alloc: Global,
+    number: u32,
+    kind: Kind,
+    inputs: &[bool],
+    outputs: &[bool],
+) -> Result<Strand, NoMemory>
+    requires few_inputs { length inputs.now < 2 ^ 16 }
+    requires few_outputs { length outputs.now < 2 ^ 16 }
+    ensures { IfOk result (λ made. made ≡ strand number kind inputs.now outputs.now) }
+{
+    let mut path = Vec::new(alloc);
+    path.push(number)?;
+    Ok(Strand {
+        name: StageName::from_vec(path),
+        kind,
+        part: 0,
+        unit: 0,
+        ports: Ports {
+            inputs: inputs.len() as u16,
+            outputs: outputs.len() as u16,
+            has_input: Flags::from_vec(Vec::from_slice(alloc, inputs)?),
+            has_output: Flags::from_vec(Vec::from_slice(alloc, outputs)?),
+        },
+    })
+}
+
+fn located(alloc: Global, string: &[u8]) -> Result<Kind, NoMemory>
+    ensures { IfOk result (λ kind. kind ≡ locate string.now) }
+{
+    let range = Range {
+        span: Span::Columns,
+        first: 1,
+        last: None,
+    };
+    Ok(Kind::Locate {
+        range,
+        text: Some(Rec::from_slice(alloc, string)?),
+    })
+}
+
+const fn rendezvous(from: u32, to: u32) -> Link
+    ensures { result ≡ link from 0 to 0 }
+{
+    Link {
+        from,
+        output: 0,
+        to,
+        input: 0,
+        queue: false,
+    }
+}
+
+// `console | locate /b/ | console`.
+fn filtering_net(alloc: Global) -> Result<Net, NoMemory>
+    ensures { IfOk result (λ net. net ≡ filtering) }
+{
+    let bytes = Rec::from_slice(alloc, b"ab\ncd\nb")?;
+    let reader = strand(alloc, 0, Kind::ConsoleIn { bytes }, &[], &[true])?;
+    let selector = strand(alloc, 1, located(alloc, b"b")?, &[true], &[true])?;
+    let writer = strand(alloc, 2, Kind::ConsoleOut, &[true], &[false])?;
+    let strands = vec![in alloc; reader, selector, writer]?;
+    let links = vec![in alloc; rendezvous(0, 1), rendezvous(1, 2)]?;
+    Ok(Net {
+        strands: Strands::from_vec(strands),
+        links: Links::from_vec(links),
+    })
+}
+
+// Before the first step nobody asks for anything, nothing is at hand or was seen, and nothing is to be given back.
+#[test]
+fn a_run_begins_with_nothing(rt: HostRuntime) -> Result<(), Fail> {
+    let alloc = rt.alloc();
+    let net = filtering_net(alloc)?;
+    let mut pool = Pool::new(alloc);
+    let desk = Desk::blank(alloc, &net)?;
+    let size = desk.size_at_hand(&pool, 1, 0);
+    let seen = desk.seen_bytes(&pool, 1, 0).len();
+    let told = [desk.asks_nothing(2), desk.has_ended(2)];
+    let end = desk.end_of(2);
+    desk.drain(&mut pool);
+    assert_eq!(rt; [size, seen], [0, 0]);
+    assert_eq!(rt; told, [true, false]);
+    assert_eq!(rt; end, None);
+    assert_eq!(rt; pool.in_use(), 0);
+    Ok(())
+}
+
+// The bytes that a strand saw are read until they are given back.
+#[test]
+fn a_sight_is_read_and_given_back(rt: HostRuntime) -> Result<(), Fail> {
+    let alloc = rt.alloc();
+    let doors = vec![in alloc; doors(alloc, Some(0), None)?]?;
+    let unit = Unit::new(alloc, 1)?;
+    let mut sights = Vec::with_capacity(alloc, 1)?;
+    let mut pool = Pool::new(alloc);
+    let Ok(grip) = pool.put(b"one") else {
+        sights.destroy_empty();
+        return Err("no memory")?;
+    };
+    sights.push_reserved(Some(grip));
+    let desk = Desk::new(Vec::new(alloc), Vec::new(alloc), sights, doors, unit);
+    let is_read = desk.seen_bytes(&pool, 0, 0) == b"one".as_slice();
+    let used = pool.in_use();
+    desk.drain(&mut pool);
+    assert!(rt; is_read);
+    assert_eq!(rt; [used, pool.in_use()], [1, 0]);
     Ok(())
 }
 

@@ -1,0 +1,120 @@
+-- The desk of a net before the first step stands for the state in which nothing has happened, where every strand is out.
+use Rattle.std.proofs.Common.{◌≡◌, inl, ℕ, zero, suc, ◌≤◌, Bool, true, false, cond, ◌&&◌, not, nat_lt, List, [], length, get_or, replicate, refl, sym, ◌∙◌, ap, subst, arith, Option, Some, None, slice_get}
+use Rattle.std.specs.Prelude.{count_by}
+use Rattle.std.proofs.lemmas.Bool.Decides.{nat_tests}
+use Rattle.std.proofs.lemmas.Option.{slice_get_past}
+use Rattle.std.proofs.lemmas.List.{length-replicate}
+use Rattle.pipe_model.specs.declared.net.Net.{Net}
+use Rattle.pipe_model.specs.declared.net.Link.{Link}
+use Rattle.pipe_model.specs.State.{Who, nothing_yet, strand_at}
+use Rattle.pipe_model.specs.Licence.{want_after, want_at, offered}
+use Rattle.pipe_model.specs.WellFormed.{IsWellFormed}
+use Rattle.record_pool.specs.Places.{bytes_at}
+use Rattle.connectors.specs.WireState.{WireState, new_wire}
+use Rattle.commit_levels.specs.UnitState.{level_count, place_of, new_member, Member}
+use Rattle.commit_levels.specs.Licensed.{IsStrand}
+use Rattle.commit_levels.specs.declared.member.Progress.TheVariants.{NotAsked}
+use Rattle.run_desk.specs.declared.seat.Seat.{Seat}
+use Rattle.run_desk.specs.Kept.{asked, IsSeat, IsWire, IsSight, IsLaid, IsKept}
+use Rattle.run_desk.specs.Order.{holds, offer_holds, IsPooled, IsRun, out_from}
+use Rattle.run_desk.specs.Blank.{new_seat, blank_desk}
+use Rattle.run_desk.proofs.Counts.{one, count_first}
+use Rattle.run_desk.proofs.Laying.{leads_in, leads_out, knows_first}
+
+-- Lists
+
+get_copy : {X : Type 0} (n : ℕ) (x y : X) (k : ℕ) → slice_get (replicate n x) k ≡ Some y → y ≡ x
+get_copy zero x y k at = cc
+get_copy (suc n) x y zero at = cc
+get_copy (suc n) x y (suc k) at = get_copy n x y k at
+
+read_copy : {X : Type 0} (n : ℕ) (x : X) (k : ℕ) → get_or (replicate n x) k x ≡ x
+read_copy zero x k = refl
+read_copy (suc n) x zero = refl
+read_copy (suc n) x (suc k) = read_copy n x k
+
+count_copy : {X : Type 0} (p : X → Bool) (n : ℕ) (x : X) → p x ≡ false → count_by p (replicate n x) ≡ 0
+count_copy p zero x is = refl
+count_copy p (suc n) x is = omega (arith, count_first p x (replicate n x), ap one is, count_copy p n x is)
+
+-- A member that has asked for nothing
+
+new_strand : IsStrand [] None new_member
+new_strand = record {
+  count = length-replicate level_count NotAsked;
+  progress = λ level is. read_copy level_count NotAsked (place_of level);
+  ended = refl;
+}
+
+-- The pool
+
+-- nothing is held
+pub blank_pooled : (m : ℕ) → IsPooled (replicate m new_wire) (replicate m None) []
+blank_pooled m = record {
+  counted = λ grip. omega (arith, count_copy (offer_holds grip) m new_wire refl, count_copy (holds grip) m None refl);
+  alive = λ grip held at. cc;
+}
+
+module _ (net : Net) (formed : IsWellFormed net) (rendezvous : (j : ℕ) (link : Link) → slice_get net.links j ≡ Some link → link.queue ≡ false) where
+  -- nobody is home to want anything
+  none_wants : (s : Who) → want_at net nothing_yet (out_from 0 (length net.strands)) s ≡ None
+  none_wants s = go (nat_lt s (length net.strands)) refl
+    where
+      at_zero : nat_lt s 0 ≡ false
+      at_zero = grind (arith, nat_tests)
+
+      go : (b : Bool) → nat_lt s (length net.strands) ≡ b → cond (not (nat_lt s 0) && nat_lt s (length net.strands)) None (want_after (strand_at net nothing_yet s) []) ≡ None
+      go true is = ap (λ b. cond (not b && nat_lt s (length net.strands)) None (want_after (strand_at net nothing_yet s) [])) at_zero ∙ ap (λ b. cond b None (want_after (strand_at net nothing_yet s) [])) is
+      go false is =
+          let past : length net.strands ≤ s = grind (arith, nat_tests) in
+          ap (λ b. cond (not b && nat_lt s (length net.strands)) None (want_after (strand_at net nothing_yet s) [])) at_zero
+          ∙ ap (λ b. cond b None (want_after (strand_at net nothing_yet s) [])) is ∙ ap (λ z. want_after z []) (slice_get_past net.strands s past)
+
+  blank_laid : IsLaid net nothing_yet (blank_desk net)
+  blank_laid = record {
+    seat_count = length-replicate (length net.strands) new_seat;
+    wire_count = length-replicate (length net.links) new_wire;
+    sight_count = length-replicate {A = Option ℕ} (length net.links) None;
+    in_doors = leads_in net formed;
+    out_doors = leads_out net formed;
+    firsts = knows_first net formed;
+    rendezvous = rendezvous;
+  }
+
+  blank_seat : (s : Who) (seat : Seat) → seat ≡ new_seat → IsSeat net nothing_yet (out_from 0 (length net.strands)) s seat
+  blank_seat s seat is = subst (IsSeat net nothing_yet (out_from 0 (length net.strands)) s) (sym is) (record { ask = ap asked (sym (none_wants s)); ended = refl; seen = refl })
+
+  blank_wire : (texts : ℕ → List ℕ) (link : Link) (wire : WireState) → wire ≡ new_wire → IsWire net texts nothing_yet (out_from 0 (length net.strands)) link wire
+  blank_wire texts link wire is = subst (IsWire net texts nothing_yet (out_from 0 (length net.strands)) link) (sym is)
+      (record { puts = refl; tooks = refl; offer = ap (offered link.output) (sym (none_wants link.from)); out_closed = refl; in_closed = refl })
+
+  blank_sight : (texts : ℕ → List ℕ) (link : Link) (sight : Option ℕ) → sight ≡ None → IsSight texts nothing_yet link sight
+  blank_sight texts link sight is = subst (IsSight texts nothing_yet link) (sym is) (λ going. refl)
+
+  blank_member : (s : Who) (m : Member) → m ≡ new_member → IsStrand [] (want_at net nothing_yet (out_from 0 (length net.strands)) s) m
+  blank_member s m is =
+      subst (λ (z : Member). IsStrand [] (want_at net nothing_yet (out_from 0 (length net.strands)) s) z) (sym is) (subst (λ z. IsStrand [] z new_member) (sym (none_wants s)) new_strand)
+
+  blank_kept : (texts : ℕ → List ℕ) → IsKept net texts nothing_yet (out_from 0 (length net.strands)) (blank_desk net)
+  blank_kept texts = record {
+    laid = blank_laid;
+    seats = λ s seat at. blank_seat s seat (get_copy (length net.strands) new_seat seat s at);
+    nobody = λ s at. refl;
+    wires = λ j link wire there at. blank_wire texts link wire (get_copy (length net.links) new_wire wire j at);
+    sights = λ j link sight there at. blank_sight texts link sight (get_copy (length net.links) None sight j at);
+    unseen = λ s i none. refl;
+    member_count = length-replicate (length net.strands) new_member;
+    members = λ s m at. blank_member s m (get_copy (length net.strands) new_member m s at);
+    early = λ s level wants. absurd (let z : None ≡ Some _ = sym (none_wants s) ∙ wants in cc);
+  }
+
+  -- and so a run may begin
+  pub blank_run : IsRun net nothing_yet (out_from 0 (length net.strands)) (blank_desk net) []
+  blank_run = record {
+    kept = blank_kept (bytes_at []);
+    pooled = blank_pooled (length net.links);
+    pacing = record {
+      paced = λ j wire at. let is = get_copy (length net.links) new_wire wire j at in inl (rw is refl);
+      shown = λ s i wire going sight at. cc;
+    };
+  }

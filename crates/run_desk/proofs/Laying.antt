@@ -1,0 +1,247 @@
+-- Before the first step the doors of a desk lead to the links of its net.
+use Rattle.std.proofs.Common.{◌≡◌, ◌≢◌, ◌⊎◌, inl, inr, ℕ, zero, suc, ◌+◌, ◌<◌, Bool, true, false, cond, ◌&&◌, ◌==◌, List, [], ◌∷◌, length, replicate, refl, sym, ◌∙◌, ap, subst, arith, Option, Some, None, slice_get, slice_set}
+use Rattle.std.specs.Prelude.{find}
+use Rattle.std.specs.Option.{option_map}
+use Rattle.pipe_model.specs.declared.net.Link.{Link}
+use Rattle.pipe_model.specs.declared.net.Strand.{Strand}
+use Rattle.pipe_model.specs.declared.net.Net.{Net}
+use Rattle.pipe_model.specs.State.{same, nothing_yet, link_in, link_out}
+use Rattle.pipe_model.specs.Licence.{part_down, first_part}
+use Rattle.pipe_model.specs.WellFormed.{IsWellFormed}
+use Rattle.std.proofs.lemmas.List.{length-replicate}
+use Rattle.confluence_laws.proofs.Basics.{both, same_number, equal_or_not, test_same, at_some}
+use Rattle.run_desk.specs.Desk.{DoorsState}
+use Rattle.run_desk.specs.Pure.{joined, inputs_of, outputs_of, first_of}
+use Rattle.run_desk.specs.Kept.{link_through}
+use Rattle.run_desk.specs.Moves.{placed, changed}
+use Rattle.run_desk.specs.Blank.{closed_doors, doors_from, led_in, led_out, with_link, with_links}
+
+-- Lists
+
+set_here : {A : Type 0} (xs : List A) (k : ℕ) (x y : A) → slice_get xs k ≡ Some x → slice_get (slice_set xs k y) k ≡ Some y
+set_here [] k x y at = cc
+set_here (z ∷ zs) zero x y at = refl
+set_here (z ∷ zs) (suc k) x y at = set_here zs k x y at
+
+set_there : {A : Type 0} (xs : List A) (k j : ℕ) (y : A) → j ≢ k → slice_get (slice_set xs k y) j ≡ slice_get xs j
+set_there [] k j y apart = refl
+set_there (z ∷ zs) zero zero y apart = absurd (apart refl)
+set_there (z ∷ zs) zero (suc j) y apart = refl
+set_there (z ∷ zs) (suc k) zero y apart = refl
+set_there (z ∷ zs) (suc k) (suc j) y apart = set_there zs k j y (λ e. apart (ap suc e))
+
+set_length : {A : Type 0} (xs : List A) (k : ℕ) (y : A) → length (slice_set xs k y) ≡ length xs
+set_length [] k y = refl
+set_length (z ∷ zs) zero y = refl
+set_length (z ∷ zs) (suc k) y = ap suc (set_length zs k y)
+
+-- the item behind a door is changed
+pub changed_here : {A : Type 0} (f : A → A) (xs : List A) (k : ℕ) → slice_get (changed xs f (Some k)) k ≡ option_map f (slice_get xs k)
+changed_here {A} f xs k = go (slice_get xs k) refl
+  where
+    go : (x : Option A) → slice_get xs k ≡ x → slice_get (placed xs k f x) k ≡ option_map f x
+    go None at = at
+    go (Some x) at = set_here xs k x (f x) at
+
+-- and no other one
+pub changed_there : {A : Type 0} (f : A → A) (xs : List A) (k s : ℕ) → s ≢ k → slice_get (changed xs f (Some k)) s ≡ slice_get xs s
+changed_there {A} f xs k s apart = go (slice_get xs k)
+  where
+    go : (x : Option A) → slice_get (placed xs k f x) s ≡ slice_get xs s
+    go None = refl
+    go (Some x) = set_there xs k s (f x) apart
+
+-- and the list stays as long
+pub changed_length : {A : Type 0} (f : A → A) (xs : List A) (k : ℕ) → length (changed xs f (Some k)) ≡ length xs
+changed_length {A} f xs k = go (slice_get xs k)
+  where
+    go : (x : Option A) → length (placed xs k f x) ≡ length xs
+    go None = refl
+    go (Some x) = set_length xs k (f x)
+
+-- what a change doesn't show stays
+stays : {A B : Type 0} (g : Option A → B) (f : A → A) → ((x : Option A) → g (option_map f x) ≡ g x) → (xs : List A) (k s : ℕ) → g (slice_get (changed xs f (Some k)) s) ≡ g (slice_get xs s)
+stays {A} {B} g f hidden xs k s = go (equal_or_not s k)
+  where
+    go : (s ≡ k) ⊎ (s ≢ k) → g (slice_get (changed xs f (Some k)) s) ≡ g (slice_get xs s)
+    go (inl is) = let P : ℕ → Type 0 = λ z. g (slice_get (changed xs f (Some k)) z) ≡ g (slice_get xs z) in subst P (sym is) (ap g (changed_here f xs k) ∙ hidden (slice_get xs k))
+    go (inr apart) = ap g (changed_there f xs k s apart)
+
+-- One link
+
+abbrev ins : List DoorsState → ℕ → List (Option ℕ)
+ins doors s = inputs_of (slice_get doors s)
+
+abbrev outs : List DoorsState → ℕ → List (Option ℕ)
+outs doors s = outputs_of (slice_get doors s)
+
+in_led : (i j : ℕ) (x : Option DoorsState) → inputs_of (option_map (led_in i j) x) ≡ changed (inputs_of x) (λ door. Some j) (Some i)
+in_led i j None = refl
+in_led i j (Some x) = refl
+
+out_led : (o j : ℕ) (x : Option DoorsState) → outputs_of (option_map (led_out o j) x) ≡ changed (outputs_of x) (λ door. Some j) (Some o)
+out_led o j None = refl
+out_led o j (Some x) = refl
+
+in_hidden : (o j : ℕ) (x : Option DoorsState) → inputs_of (option_map (led_out o j) x) ≡ inputs_of x
+in_hidden o j None = refl
+in_hidden o j (Some x) = refl
+
+out_hidden : (i j : ℕ) (x : Option DoorsState) → outputs_of (option_map (led_in i j) x) ≡ outputs_of x
+out_hidden i j None = refl
+out_hidden i j (Some x) = refl
+
+module _ (doors : List DoorsState) (j : ℕ) (link : Link) where
+  abbrev between : List DoorsState
+  between = changed doors (led_out link.output j) (Some link.from)
+
+  in_here : ins (with_link doors j link) link.to ≡ changed (ins doors link.to) (λ door. Some j) (Some link.input)
+  in_here =
+      ap inputs_of (changed_here (led_in link.input j) between link.to) ∙ in_led link.input j (slice_get between link.to)
+      ∙ ap (λ xs. changed xs (λ door. Some j) (Some link.input)) (stays inputs_of (led_out link.output j) (in_hidden link.output j) doors link.from link.to)
+
+  in_there : (s : ℕ) → s ≢ link.to → ins (with_link doors j link) s ≡ ins doors s
+  in_there s apart = ap inputs_of (changed_there (led_in link.input j) between link.to s apart) ∙ stays inputs_of (led_out link.output j) (in_hidden link.output j) doors link.from s
+
+  out_here : outs (with_link doors j link) link.from ≡ changed (outs doors link.from) (λ door. Some j) (Some link.output)
+  out_here =
+      stays outputs_of (led_in link.input j) (out_hidden link.input j) between link.to link.from
+      ∙ ap outputs_of (changed_here (led_out link.output j) doors link.from) ∙ out_led link.output j (slice_get doors link.from)
+
+  out_there : (s : ℕ) → s ≢ link.from → outs (with_link doors j link) s ≡ outs doors s
+  out_there s apart = stays outputs_of (led_in link.input j) (out_hidden link.input j) between link.to s ∙ ap outputs_of (changed_there (led_out link.output j) doors link.from s apart)
+
+  first_there : (s : ℕ) → first_of s (slice_get (with_link doors j link) s) ≡ first_of s (slice_get doors s)
+  first_there s = stays (first_of s) (led_in link.input j) in_first between link.to s ∙ stays (first_of s) (led_out link.output j) out_first doors link.from s
+    where
+      in_first : (x : Option DoorsState) → first_of s (option_map (led_in link.input j) x) ≡ first_of s x
+      in_first None = refl
+      in_first (Some x) = refl
+
+      out_first : (x : Option DoorsState) → first_of s (option_map (led_out link.output j) x) ≡ first_of s x
+      out_first None = refl
+      out_first (Some x) = refl
+
+-- All links
+
+-- one end of links: `lists` are the doors of strands there, `end` is the strand of a link, and `place` its place
+module _ (lists : List DoorsState → ℕ → List (Option ℕ)) (end place : Link → ℕ)
+    (here : (doors : List DoorsState) (j : ℕ) (link : Link) → lists (with_link doors j link) (end link) ≡ changed (lists doors (end link)) (λ door. Some j) (Some (place link)))
+    (there : (doors : List DoorsState) (j : ℕ) (link : Link) (s : ℕ) → s ≢ end link → lists (with_link doors j link) s ≡ lists doors s) where
+  abbrev is_at : ℕ → ℕ → Link → Bool
+  is_at s i link = same (end link) s && place link == i
+
+  long_link : (doors : List DoorsState) (j : ℕ) (link : Link) (s : ℕ) → length (lists (with_link doors j link) s) ≡ length (lists doors s)
+  long_link doors j link s = go (equal_or_not s (end link))
+    where
+      go : (s ≡ end link) ⊎ (s ≢ end link) → length (lists (with_link doors j link) s) ≡ length (lists doors s)
+      go (inl is) =
+          let P : ℕ → Type 0 = λ z. length (lists (with_link doors j link) z) ≡ length (lists doors z) in
+          subst P (sym is) (ap length (here doors j link) ∙ changed_length (λ door. Some j) (lists doors (end link)) (place link))
+      go (inr apart) = ap length (there doors j link s apart)
+
+  long_links : (doors : List DoorsState) (j : ℕ) (links : List Link) (s : ℕ) → length (lists (with_links doors j links) s) ≡ length (lists doors s)
+  long_links doors j [] s = refl
+  long_links doors j (link ∷ links) s = long_link (with_links doors (suc j) links) j link s ∙ long_links doors (suc j) links s
+
+  leads_here : (doors : List DoorsState) (j : ℕ) (link : Link) → place link < length (lists doors (end link)) → joined (slice_get (lists (with_link doors j link) (end link)) (place link)) ≡ Some j
+  leads_here doors j link fits =
+      let old = at_some (lists doors (end link)) (place link) fits in
+      ap (λ xs. joined (slice_get xs (place link))) (here doors j link)
+      ∙ ap joined (changed_here (λ door. Some j) (lists doors (end link)) (place link) ∙ ap (option_map (λ door. Some j)) old.1)
+
+  leads_on : (doors : List DoorsState) (j : ℕ) (link : Link) (s i : ℕ) → is_at s i link ≡ false → joined (slice_get (lists (with_link doors j link) s) i) ≡ joined (slice_get (lists doors s) i)
+  leads_on doors j link s i other = go (equal_or_not s (end link)) (equal_or_not i (place link))
+    where
+      go : (s ≡ end link) ⊎ (s ≢ end link) → (i ≡ place link) ⊎ (i ≢ place link) → joined (slice_get (lists (with_link doors j link) s) i) ≡ joined (slice_get (lists doors s) i)
+      go (inl is) (inl too) =
+          let it : is_at s i link ≡ true = ap (λ z. same z s && place link == i) (sym is) ∙ ap (λ b. b && place link == i) (test_same s) ∙ ap (λ z. z == i) (sym too) ∙ test_same i in
+          absurd (let z : true ≡ false = sym it ∙ other in cc)
+      go (inl is) (inr apart) =
+          let P : ℕ → Type 0 = λ z. joined (slice_get (lists (with_link doors j link) z) i) ≡ joined (slice_get (lists doors z) i) in
+          subst P (sym is) (ap (λ xs. joined (slice_get xs i)) (here doors j link) ∙ ap joined (changed_there (λ door. Some j) (lists doors (end link)) (place link) i apart))
+      go (inr apart) which = ap (λ xs. joined (slice_get xs i)) (there doors j link s apart)
+
+  -- a door leads to the link that is found there
+  leads : (whole : List Link) (doors : List DoorsState) (s i : ℕ) → joined (slice_get (lists doors s) i) ≡ None → (links : List Link) (j : ℕ) →
+      ((k : ℕ) (link : Link) → slice_get links k ≡ Some link → place link < length (lists doors (end link))) → ((k : ℕ) → slice_get whole (j + k) ≡ slice_get links k) →
+      find (is_at s i) links ≡ link_through whole (joined (slice_get (lists (with_links doors j links) s) i))
+  leads whole doors s i closed [] j fits beside = ap (link_through whole) (sym closed)
+  leads whole doors s i closed (link ∷ links) j fits beside =
+      go (is_at s i link) refl (leads whole doors s i closed links (suc j) (λ k l at. fits (suc k) l at) (λ k. ap (slice_get whole) (let e : suc j + k ≡ j + suc k = omega arith in e) ∙ beside (suc k)))
+    where
+      old : List DoorsState
+      old = with_links doors (suc j) links
+
+      found : is_at s i link ≡ true → joined (slice_get (lists (with_link old j link) s) i) ≡ Some j
+      found is =
+          let t = both (same (end link) s) (place link == i) is in
+          let fit : place link < length (lists old (end link)) = omega (arith, fits 0 link refl, long_links doors (suc j) links (end link)) in
+          let P : ℕ → Type 0 = λ z. joined (slice_get (lists (with_link old j link) z) i) ≡ Some j in
+          let Q : ℕ → Type 0 = λ z. joined (slice_get (lists (with_link old j link) (end link)) z) ≡ Some j in
+          subst P (same_number (end link) s t.0) (subst Q (same_number (place link) i t.1) (leads_here old j link fit))
+
+      go : (b : Bool) → is_at s i link ≡ b → find (is_at s i) links ≡ link_through whole (joined (slice_get (lists old s) i)) →
+          cond (is_at s i link) (Some link) (find (is_at s i) links) ≡ link_through whole (joined (slice_get (lists (with_link old j link) s) i))
+      go true is rest =
+          ap (λ b. cond b (Some link) (find (is_at s i) links)) is
+          ∙ sym (ap (slice_get whole) (let e : j ≡ j + 0 = omega arith in e) ∙ beside 0) ∙ sym (ap (link_through whole) (found is))
+      go false is rest =
+          ap (λ b. cond b (Some link) (find (is_at s i) links)) is ∙ rest ∙ sym (ap (link_through whole) (leads_on old j link s i is))
+
+-- Strands
+
+-- each strand has its doors
+at_from : (strands : List Strand) (s k : ℕ) → slice_get (doors_from s strands) k ≡ option_map (closed_doors (s + k)) (slice_get strands k)
+at_from [] s k = refl
+at_from (strand ∷ strands) s zero = ap (λ z. Some (closed_doors z strand)) (let e : s ≡ s + 0 = omega arith in e)
+at_from (strand ∷ strands) s (suc k) = at_from strands (suc s) k ∙ ap (λ z. option_map (closed_doors z) (slice_get strands k)) (let e : suc s + k ≡ s + suc k = omega arith in e)
+
+leads_nowhere : (n i : ℕ) → joined (slice_get (replicate n None) i) ≡ None
+leads_nowhere zero i = refl
+leads_nowhere (suc n) zero = refl
+leads_nowhere (suc n) (suc i) = leads_nowhere n i
+
+in_closed : (m i : ℕ) (x : Option Strand) → joined (slice_get (inputs_of (option_map (closed_doors m) x)) i) ≡ None
+in_closed m i None = refl
+in_closed m i (Some strand) = leads_nowhere strand.ports.inputs i
+
+out_closed : (m o : ℕ) (x : Option Strand) → joined (slice_get (outputs_of (option_map (closed_doors m) x)) o) ≡ None
+out_closed m o None = refl
+out_closed m o (Some strand) = leads_nowhere strand.ports.outputs o
+
+first_closed : (s m : ℕ) (x : Option Strand) → m ≡ s → first_of s (option_map (closed_doors m) x) ≡ part_down s x
+first_closed s m None is = refl
+first_closed s m (Some strand) is = ap (λ z. part_down z (Some strand)) is
+
+module _ (net : Net) (formed : IsWellFormed net) where
+  abbrev first_doors : List DoorsState
+  first_doors = doors_from 0 net.strands
+
+  -- an input leads to its link
+  pub leads_in : (s i : ℕ) → link_in net nothing_yet s i ≡ link_through net.links (joined (slice_get (inputs_of (slice_get (with_links (doors_from 0 net.strands) 0 net.links) s)) i))
+  leads_in s i =
+      leads ins (λ link. link.to) (λ link. link.input) in_here in_there net.links first_doors s i
+      (ap (λ x. joined (slice_get (inputs_of x) i)) (at_from net.strands 0 s) ∙ in_closed (0 + s) i (slice_get net.strands s)) net.links 0
+      (λ k link at. let is = formed.joined k link at in
+      let e : inputs_of (slice_get first_doors link.to) ≡ replicate is.consumer.ports.inputs None = ap inputs_of (at_from net.strands 0 link.to ∙ ap (option_map (closed_doors (0 + link.to))) is.to_strand) in
+      omega (arith, is.input, ap length e, length-replicate {A = Option ℕ} is.consumer.ports.inputs None))
+      (λ k. ap (slice_get net.links) (let e : 0 + k ≡ k = omega arith in e))
+
+  -- an output leads to its link
+  pub leads_out : (s o : ℕ) → link_out net nothing_yet s o ≡ link_through net.links (joined (slice_get (outputs_of (slice_get (with_links (doors_from 0 net.strands) 0 net.links) s)) o))
+  leads_out s o =
+      leads outs (λ link. link.from) (λ link. link.output) out_here out_there net.links first_doors s o
+      (ap (λ x. joined (slice_get (outputs_of x) o)) (at_from net.strands 0 s) ∙ out_closed (0 + s) o (slice_get net.strands s)) net.links 0
+      (λ k link at. let is = formed.joined k link at in
+      let e : outputs_of (slice_get first_doors link.from) ≡ replicate is.producer.ports.outputs None = ap outputs_of (at_from net.strands 0 link.from ∙ ap (option_map (closed_doors (0 + link.from))) is.from_strand) in
+      omega (arith, is.output, ap length e, length-replicate {A = Option ℕ} is.producer.ports.outputs None))
+      (λ k. ap (slice_get net.links) (let e : 0 + k ≡ k = omega arith in e))
+
+  first_still : (links : List Link) (j s : ℕ) → first_of s (slice_get (with_links first_doors j links) s) ≡ first_of s (slice_get first_doors s)
+  first_still [] j s = refl
+  first_still (link ∷ links) j s = first_there (with_links first_doors (suc j) links) j link s ∙ first_still links (suc j) s
+
+  -- and the first strand of each stage is known
+  pub knows_first : (s : ℕ) → first_of s (slice_get (with_links (doors_from 0 net.strands) 0 net.links) s) ≡ first_part net nothing_yet s
+  knows_first s = first_still net.links 0 s ∙ ap (first_of s) (at_from net.strands 0 s) ∙ first_closed s (0 + s) (slice_get net.strands s) (omega arith)

@@ -1,0 +1,51 @@
+-- The desk of a net before the first step.
+use Rattle.std.specs.Prelude.{ℕ, suc, ◌-◌, false, List, [], ◌∷◌, replicate, length, Some, None}
+use Rattle.pipe_model.specs.declared.net.Net.{Net}
+use Rattle.pipe_model.specs.declared.net.Link.{Link}
+use Rattle.pipe_model.specs.declared.net.Strand.{Strand}
+use Rattle.connectors.specs.WireState.{new_wire}
+use Rattle.commit_levels.specs.UnitState.{new_unit}
+use Rattle.run_desk.specs.declared.seat.Ask.TheVariants.{Nothing}
+use Rattle.run_desk.specs.declared.seat.Seat.{Seat}
+use Rattle.run_desk.specs.Desk.{DoorsState, DeskState}
+use Rattle.run_desk.specs.Moves.{changed}
+
+-- the seat of a strand that has asked for nothing
+abbrev pub new_seat : Seat
+new_seat = record { ask = Nothing; has_ended = false; has_seen = false }
+
+-- the doors of a strand where none leads anywhere yet
+abbrev pub closed_doors : ℕ → Strand → DoorsState
+closed_doors s strand = record { inputs = replicate strand.ports.inputs None; outputs = replicate strand.ports.outputs None; first = s - strand.part }
+
+-- and those of these strands, which count from s
+abbrev pub doors_from : ℕ → List Strand → List DoorsState
+doors_from s [] = []
+doors_from s (strand ∷ strands) = closed_doors s strand ∷ doors_from (suc s) strands
+
+-- the doors, where an input leads to a link
+abbrev pub led_in : ℕ → ℕ → DoorsState → DoorsState
+led_in i j doors = record doors { inputs = changed doors.inputs (λ door. Some j) (Some i) }
+
+-- and where an output does
+abbrev pub led_out : ℕ → ℕ → DoorsState → DoorsState
+led_out o j doors = record doors { outputs = changed doors.outputs (λ door. Some j) (Some o) }
+
+-- the doors of all strands, where both ends of the j-th link lead to it
+abbrev pub with_link : List DoorsState → ℕ → Link → List DoorsState
+with_link doors j link = changed (changed doors (led_out link.output j) (Some link.from)) (led_in link.input j) (Some link.to)
+
+-- and so for all these links, which count from j
+abbrev pub with_links : List DoorsState → ℕ → List Link → List DoorsState
+with_links doors j [] = doors
+with_links doors j (link ∷ links) = with_link (with_links doors (suc j) links) j link
+
+-- nobody has asked for anything, and no record was written
+abbrev pub blank_desk : Net → DeskState
+blank_desk net = record {
+  seats = replicate (length net.strands) new_seat;
+  wires = replicate (length net.links) new_wire;
+  sights = replicate (length net.links) None;
+  doors = with_links (doors_from 0 net.strands) 0 net.links;
+  unit = new_unit (length net.strands);
+}

@@ -1,0 +1,136 @@
+//! The desk of a net before the first step.
+ghost use Rattle.std.specs.Prelude.{◌≡◌, ◌<◌, ◌≤◌, ◌++◌, ◌∷◌, [], ℕ, false, length, replicate, slice_get, Some, None, IfOk};
+ghost use Rattle.pipe_model.specs.declared.net.Link.{Link};
+ghost use Rattle.pipe_model.specs.State.{nothing_yet};
+ghost use Rattle.pipe_model.specs.WellFormed.{IsWellFormed};
+ghost use Rattle.connectors.specs.WireState.{new_wire};
+ghost use Rattle.run_desk.specs.Blank.{new_seat, closed_doors, doors_from, led_in, led_out, with_link, with_links, blank_desk};
+ghost use Rattle.run_desk.specs.Order.{IsRun, out_from};
+
+use crate::desk::Desk;
+use crate::doors::Doors;
+use crate::seat::{Ask, Seat};
+use commit_levels::Unit;
+use connectors::Wire;
+use pipe_model::{Link, Net, NoMemory, Strand};
+use record_pool::Grip;
+use std::alloc::Global;
+
+impl Desk {
+    /// The desk of a net before the first step, where every strand is out: it has asked for nothing. It takes memory
+    /// for each strand and link.
+    pub fn blank(alloc: Global, net: &Net) -> Result<Desk, NoMemory>
+        requires formed { IsWellFormed net.now }
+        requires few { length net.now.links < 2147483648 }
+        requires rendezvous { (j : ℕ) (link : Link) → slice_get net.now.links j ≡ Some link → link.queue ≡ false }
+        ensures { IfOk result (λ desk. IsRun net.now nothing_yet (out_from 0 (length net.now.strands)) desk []) }
+    {
+        lay_out(alloc, net)
+    }
+}
+
+fn lay_out(alloc: Global, net: &Net) -> Result<Desk, NoMemory>
+    requires strands { length net.now.strands ≤ 65536 }
+    requires links { length net.now.links < 2147483648 }
+    ensures { IfOk result (λ desk. desk ≡ blank_desk net.now) }
+{
+    let strands = net.strands.as_slice();
+    let links = net.links.as_slice();
+    let seats = new_seats(alloc, strands.len())?;
+    let unit = Unit::new(alloc, strands.len() as u32)?;
+    let mut doors = close_doors(alloc, strands)?;
+    lead_all(&mut doors, links);
+    let (wires, sights) = new_holders(alloc, links.len())?;
+    Ok(Desk::new(seats, wires, sights, doors, unit))
+}
+
+fn new_seats(alloc: Global, count: usize) -> Result<Vec<Seat>, NoMemory>
+    ensures { IfOk result (λ seats. seats.items ≡ replicate count new_seat) }
+{
+    let seat = Seat {
+        ask: Ask::Nothing,
+        has_ended: false,
+        has_seen: false,
+    };
+    Ok(vec![in alloc; seat; count]?)
+}
+
+// A wire and a sight for each link, which hold nothing.
+fn new_holders(alloc: Global, count: usize) -> Result<(Vec<Wire>, Vec<Option<Grip>>), NoMemory>
+    ensures wires { IfOk result (λ holders. holders.0.items ≡ replicate count new_wire) }
+    ensures sights { IfOk result (λ holders. holders.1.items ≡ replicate count None) }
+{
+    let mut wires = Vec::with_capacity(alloc, count)?;
+    let Ok(mut sights) = Vec::with_capacity(alloc, count) else {
+        wires.destroy_empty();
+        return Err(NoMemory);
+    };
+    for _ in 0..count {
+        wires.push_reserved(Wire::new(false));
+        sights.push_reserved(None);
+    }
+    Ok((wires, sights))
+}
+
+// The doors of these strands, of which none leads anywhere yet.
+fn close_doors(alloc: Global, strands: &[Strand]) -> Result<Vec<Doors>, NoMemory>
+    requires { length strands.now ≤ 65536 }
+    ensures { IfOk result (λ doors. doors.items ≡ doors_from 0 strands.now) }
+{
+    let mut doors = Vec::new(alloc);
+    for strand in strands {
+        let closed = closed(alloc, doors.len() as u32, strand)?;
+        doors.push(closed)?;
+    }
+    Ok(doors)
+}
+
+fn closed(alloc: Global, number: u32, strand: &Strand) -> Result<Doors, NoMemory>
+    ensures { IfOk result (λ doors. doors ≡ closed_doors number strand.now) }
+{
+    let inputs = vec![in alloc; None; strand.ports.inputs as usize]?;
+    let outputs = vec![in alloc; None; strand.ports.outputs as usize]?;
+    let first = number.saturating_sub(u32::from(strand.part));
+    Ok(Doors::new(inputs, outputs, first))
+}
+
+// Both ends of each link lead to it.
+fn lead_all(doors: &mut Vec<Doors>, links: &[Link])
+    requires { length links.now < 2147483648 }
+    ensures { doors.new.items ≡ with_links doors.old.items 0 links.now }
+{
+    let mut j = links.len();
+    while j > 0 {
+        j -= 1;
+        lead(doors, j as u32, links[j]);
+    }
+}
+
+fn lead(doors: &mut Vec<Doors>, j: u32, link: Link)
+    ensures { doors.new.items ≡ with_link doors.old.items j link }
+{
+    if let Some(from) = doors.get_mut(link.from as usize) {
+        from.lead_out(link.output, j);
+    }
+    if let Some(to) = doors.get_mut(link.to as usize) {
+        to.lead_in(link.input, j);
+    }
+}
+
+impl Doors {
+    fn lead_in(&mut self, i: u16, j: u32)
+        ensures { self.new ≡ led_in i j self.old }
+    {
+        if let Some(door) = self.inputs.get_mut(i as usize) {
+            *door = Some(j);
+        }
+    }
+
+    fn lead_out(&mut self, o: u16, j: u32)
+        ensures { self.new ≡ led_out o j self.old }
+    {
+        if let Some(door) = self.outputs.get_mut(o as usize) {
+            *door = Some(j);
+        }
+    }
+}
