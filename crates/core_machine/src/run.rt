@@ -75,6 +75,7 @@ impl<S: Stage> Core<S> {
     fn least_ready(&mut self) -> Option<(u32, u16)>
         ensures same { self.new ≡ self.old }
         ensures least { LeastReady self.old result }
+        ensures lawful { IsLawful self.new }
     {
         least_awake(&mut self.ready, &self.desk)
     }

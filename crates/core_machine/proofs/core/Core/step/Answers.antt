@@ -6,8 +6,8 @@ use Rattle.pipe_model.specs.Play.{play}
 use Rattle.stage_steps.specs.Coroutine.{told, bytes_with}
 use Rattle.core_machine.specs.Answered.{LeastReady, Stepped, HasBroken}
 use Rattle.core_machine.specs.Jobs.{JobStands, DoneStands}
-use Rattle.core_machine.specs.Machine.{Machine, left_by, licence_of, state_of, looks_at, turned, IsLawful}
-use Rattle.core_machine.proofs.Sounds.{looks_of, none_is, some_is, lawful}
+use Rattle.core_machine.specs.Machine.{Machine, left_by, licence_of, state_of, looks_at, turned}
+use Rattle.core_machine.proofs.Sounds.{looks_of, none_is, some_is}
 use Rattle.core_machine.proofs.core.Core.step.Goals as goal
 
 pub returns-in_default-seen_at-clause-steps : goal.returns-in_default-seen_at-clause-steps
@@ -26,9 +26,3 @@ go_on-requires-clause-may g c =
     let v : ◌≡◌ {A = Machine} (record { net = i.net; budget = i.budget; looking = looks_of i.actors.items; journal = i.journal.items; out = i.out.items; is_broken = i.is_broken }) c.least_ready.new.self = c.self.view_is in
     let some = some_is g.S.Stage.stands g.S.Stage.is_looking i.net i.budget i.journal.items i.out.items i.actors.items i.desk i.pool i.ready c.self.invariant.0 c.in-Some.strand c.in-Some.stream c.in-Some-seen_at.seen (search rules) in
     (some.0, subst (λ (z : Machine). licence_of z c.in-Some.strand c.in-Some.stream ≡ Some some.0) v some.1, some.2)
-
-pub returns-in_default-clause-lawful : goal.returns-in_default-clause-lawful
-returns-in_default-clause-lawful g c =
-    let i = c.self.inside in
-    let v : ◌≡◌ {A = Machine} (record { net = i.net; budget = i.budget; looking = looks_of i.actors.items; journal = i.journal.items; out = i.out.items; is_broken = i.is_broken }) c.least_ready.new.self = c.self.view_is in
-    subst (λ (z : Machine). IsLawful z) v (lawful g.S.Stage.stands g.S.Stage.is_looking i.net i.budget i.journal.items i.out.items i.actors.items i.desk i.pool i.ready c.self.invariant.0 (looks_of i.actors.items) i.is_broken)
