@@ -8,6 +8,7 @@ pub mod Jobs
 pub mod Outs
 pub mod Quiet
 pub mod Sounds
+pub mod Starts
 pub mod Steps
 pub mod Stills
 pub mod Summaries

@@ -18,6 +18,7 @@ use Rattle.pipe_model.specs.Table.{form}
 use Rattle.pipe_model.specs.State.{Who, State, past, nothing_yet, with_event, with_some_event, strand_at, link_in}
 use Rattle.pipe_model.specs.Licence.{Left, none_left, want_after, want_at, at_hand, answer, sight_of, licence}
 use Rattle.pipe_model.specs.Play.{step, IsLicensed, play_from, IsLegalFrom, IsLegal, play}
+use Rattle.pipe_model.specs.WellFormed.{IsWellFormed}
 use Rattle.record_pool.specs.declared.pool.Held.{Held}
 use Rattle.record_pool.specs.Places.{bytes_at}
 use Rattle.stage_steps.specs.Coroutine.{told, bytes_with, meaning, last_seen}
@@ -51,12 +52,12 @@ use Rattle.core_machine.proofs.Away.{get_before, left_turned, last_turned, apart
 
 -- Lists
 
-get_set_same : {A : Type 0} (xs : List A) (i : ℕ) (x y : A) → slice_get xs i ≡ Some y → slice_get (slice_set xs i x) i ≡ Some x
+pub get_set_same : {A : Type 0} (xs : List A) (i : ℕ) (x y : A) → slice_get xs i ≡ Some y → slice_get (slice_set xs i x) i ≡ Some x
 get_set_same [] i x y at = cc
 get_set_same (z ∷ zs) zero x y at = refl
 get_set_same (z ∷ zs) (suc i) x y at = get_set_same zs i x y at
 
-get_set_other : {A : Type 0} (xs : List A) (i k : ℕ) (x : A) → k ≢ i → slice_get (slice_set xs i x) k ≡ slice_get xs k
+pub get_set_other : {A : Type 0} (xs : List A) (i k : ℕ) (x : A) → k ≢ i → slice_get (slice_set xs i x) k ≡ slice_get xs k
 get_set_other [] i k x apart = refl
 get_set_other (z ∷ zs) zero zero x apart = absurd (apart refl)
 get_set_other (z ∷ zs) zero (suc k) x apart = refl
@@ -181,6 +182,32 @@ shows_bare h (To.Join k) want is = is
 shows_bare h (To.Cut i) want is = is
 shows_bare h (To.Done c) want is = is
 
+-- no strand of a desk that stands for a state asks for another level than the early ones
+pub early_on : (net : Net) (st : State) → IsWellFormed net → ((t : Who) (q : Strand) → strand_at net st t ≡ Some q → IsOwn q (past st t)) → (texts : ℕ → List ℕ) (l : Left) (x : DeskState) → IsKept net texts st l x → AsksEarly x
+early_on net st formed own texts l x kept t level is = wants_early net st l own t level (commit_back (want_at net st l t) (sym (ask_is net texts st l x formed kept t) ∙ is))
+  where
+    commit_back : (w : Option Want) → asked w ≡ Now.Commit level → w ≡ Some (Commit level)
+    commit_back (Some (Commit l)) e = let same : l ≡ level = cc in ap (λ z. Some (Commit z)) same
+    commit_back None e = cc
+    commit_back (Some (Read i)) e = cc
+    commit_back (Some Any) e = cc
+    commit_back (Some Gate) e = cc
+    commit_back (Some (Take i)) e = cc
+    commit_back (Some (Write o r)) e = cc
+    commit_back (Some Prime) e = cc
+    commit_back (Some (Issue text)) e = cc
+    commit_back (Some (Join k)) e = cc
+    commit_back (Some (Sever i)) e = cc
+    commit_back (Some (Done c)) e = cc
+
+-- the links join strands below their number
+pub links_inside : (net : Net) (size : ℕ) → IsWellFormed net → size ≡ length net.strands → AreInside net.links size
+links_inside net size formed is j link at =
+    let joined = formed.joined j link at in
+    let from = at_place net.strands link.from joined.from_strand in
+    let to = at_place net.strands link.to joined.to_strand in
+    (omega (arith, from, is), omega (arith, to, is))
+
 module _ {S : Type 0} (stands : S → Strand → List Event → Type 0) (is_looking : S → Bool) (net : Net) (budget : ℕ) (journal : List Entry) (out : List ℕ) (actors : List (Actor S)) (d : DeskState) (places : List (Option Held)) (ready : Members)
     (sound : IsSound stands is_looking net budget journal out actors d places ready) where
   abbrev pub st : State
@@ -228,26 +255,8 @@ module _ {S : Type 0} (stands : S → Strand → List Event → Type 0) (is_look
   least_is looking b None is = λ s k. none_is s k (is sound.covers s k)
   least_is looking b (Some r) is = (sym (ready_is r.0 r.1) ∙ is.0.0, λ k p. none_is r.0 k (is.0.1 k p), λ t k p. none_is t k (is.1 sound.covers t k p))
 
-  -- no strand wants another level than the early ones
-  early_on : (texts : ℕ → List ℕ) (l : Left) (x : DeskState) → IsKept net texts st l x → AsksEarly x
-  early_on texts l x kept t level is = wants_early net st l own t level (commit_back (want_at net st l t) (sym (ask_is net texts st l x sound.formed kept t) ∙ is))
-    where
-      commit_back : (w : Option Want) → asked w ≡ Now.Commit level → w ≡ Some (Commit level)
-      commit_back (Some (Commit l)) e = let same : l ≡ level = cc in ap (λ z. Some (Commit z)) same
-      commit_back None e = cc
-      commit_back (Some (Read i)) e = cc
-      commit_back (Some Any) e = cc
-      commit_back (Some Gate) e = cc
-      commit_back (Some (Take i)) e = cc
-      commit_back (Some (Write o r)) e = cc
-      commit_back (Some Prime) e = cc
-      commit_back (Some (Issue text)) e = cc
-      commit_back (Some (Join k)) e = cc
-      commit_back (Some (Sever i)) e = cc
-      commit_back (Some (Done c)) e = cc
-
   pub asks_early : AsksEarly d
-  asks_early = early_on (bytes_at places) left d sound.run.kept
+  asks_early = early_on net st sound.formed own (bytes_at places) left d sound.run.kept
 
   -- the same with another set of strands that may be ready
   pub sound_ready : (ready' : Members) → ready'.size ≡ ready.size → IsCovering d ready' → IsSound stands is_looking net budget journal out actors d places ready'
@@ -326,12 +335,7 @@ module _ {S : Type 0} (stands : S → Strand → List Event → Type 0) (is_look
 
   -- the links join strands of the set
   pub inside : AreInside net.links ready.size
-  inside j link at =
-      let joined = sound.formed.joined j link at in
-      let from = at_place net.strands link.from joined.from_strand in
-      let to = at_place net.strands link.to joined.to_strand in
-      let size = sound.size in
-      (omega (arith, from, size), omega (arith, to, size))
+  inside = links_inside net ready.size sound.formed sound.size
 
   -- A turn
 
@@ -535,7 +539,7 @@ module _ {S : Type 0} (stands : S → Strand → List Event → Type 0) (is_look
     ]
 
     pub came_early : (d' : DeskState) (places' : List (Option Held)) → HasReturned d places s want d' places' → AsksEarly d'
-    came_early d' places' returned = early_on (bytes_at places') (left_in left s) d' (came d' places' returned).kept
+    came_early d' places' returned = early_on net st sound.formed own (bytes_at places') (left_in left s) d' (came d' places' returned).kept
 
     left_now : left_by journal (without p out) ≡ left_in left s
     left_now = left_home net journal s p its out sound.apart among

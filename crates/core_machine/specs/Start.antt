@@ -1,13 +1,20 @@
 -- What a core is started with, and how far its strands have come while it starts.
-use Rattle.std.specs.Prelude.{◌≡◌, ℕ, ◌<◌, ◌≤◌, Bool, true, false, ◌&&◌, not, nat_lt, List, [], length, slice_get, Some, None}
+use Rattle.std.specs.Prelude.{◌≡◌, ℕ, ◌<◌, ◌≤◌, Bool, true, false, List, [], length, slice_get, Option, Some, None}
 use Rattle.pipe_model.specs.declared.net.Net.{Net}
 use Rattle.pipe_model.specs.declared.net.Link.{Link}
 use Rattle.pipe_model.specs.declared.net.Strand.{Strand}
-use Rattle.pipe_model.specs.Event.{Event, Want}
-use Rattle.pipe_model.specs.State.{Who, nothing_yet}
-use Rattle.pipe_model.specs.Licence.{Left, want_at}
+use Rattle.pipe_model.specs.declared.step.Want.{Want as Asked}
+use Rattle.pipe_model.specs.declared.step.Want.TheVariants as Ask
+use Rattle.pipe_model.specs.Event.{Event}
+use Rattle.pipe_model.specs.State.{Who, nothing_yet, strand_at}
+use Rattle.pipe_model.specs.Licence.{want_at}
+use Rattle.record_pool.specs.declared.pool.Held.{Held}
+use Rattle.run_desk.specs.Desk.{DeskState}
+use Rattle.run_desk.specs.Order.{IsRun, out_from}
 use Rattle.core_machine.specs.declared.actor.Actor.{Actor}
+use Rattle.core_machine.specs.Members.{Members}
 use Rattle.core_machine.specs.Sound.{IsActor}
+use Rattle.core_machine.specs.Woken.{IsCovering}
 
 -- no link is a queue
 abbrev pub HasNoQueue : Net → Type 0
@@ -18,6 +25,21 @@ pub record AreFresh {S : Type 0} (stands : S → Strand → List Event → Type 
   pub count : length stages ≡ length strands
   pub each : (s : ℕ) (p : Strand) (stage : S) → slice_get strands s ≡ Some p → slice_get stages s ≡ Some stage → stands stage p []
 
--- the strands from this one on are out
-abbrev pub out_from : ℕ → ℕ → Left
-out_from s count = λ t. not (nat_lt t s) && nat_lt t count
+-- what is kept of a strand before it has asked for anything
+abbrev pub new_actor : {S : Type 0} → (S → Bool) → S → Actor S
+new_actor is_looking stage = record { stage = Some stage; asked = Ask.Any; looks = is_looking stage; saw_end = false }
+
+-- what is kept of a strand that asks for this
+abbrev pub asking_for : {S : Type 0} → Asked → Actor S → Actor S
+asking_for asked actor = record { stage = actor.stage; asked = asked; looks = actor.looks; saw_end = actor.saw_end }
+
+-- the strands below a number have asked for what they want first, and the others are out
+pub record IsCalled {S : Type 0} (stands : S → Strand → List Event → Type 0) (is_looking : S → Bool) (net : Net) (s : Who) (actors : List (Actor S)) (d : DeskState) (places : List (Option Held)) (ready : Members) : Type 0 where
+  pub few : length net.links < 2147483648
+  pub run : IsRun net nothing_yet (out_from s (length net.strands)) d places
+  pub count : length actors ≡ length net.strands
+  pub each : (t : Who) (p : Strand) (actor : Actor S) → strand_at net nothing_yet t ≡ Some p → slice_get actors t ≡ Some actor →
+      IsActor stands is_looking [] (want_at net nothing_yet (out_from s (length net.strands)) t) p actor
+  pub home : (t : Who) (actor : Actor S) → slice_get actors t ≡ Some actor → (stage : S) × (actor.stage ≡ Some stage)
+  pub size : ready.size ≡ length net.strands
+  pub covers : IsCovering d ready

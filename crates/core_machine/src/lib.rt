@@ -3,16 +3,17 @@
 
 mod actor;
 mod bits;
-mod core;
+mod core_state;
 mod job;
 mod ready;
 mod run;
+mod start;
 mod tells;
 #[cfg(test)]
 mod tests;
 mod wake;
 
 pub use actor::Actor;
-pub use core::Core;
+pub use core_state::Core;
 pub use job::{Finished, Job, RunEnd, Turned};
 pub use ready::Ready;

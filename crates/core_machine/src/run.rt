@@ -1,4 +1,4 @@
-use crate::core::Core;
+use crate::core_state::Core;
 use crate::job::RunEnd;
 use crate::wake::least_awake;
 use outside::Gate;

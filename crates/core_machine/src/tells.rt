@@ -1,4 +1,4 @@
-use crate::core::Core;
+use crate::core_state::Core;
 use pipe_model::{Entry, Net, Want};
 use stage_steps::Stage;
 

@@ -1,0 +1,255 @@
+-- A core before the first step is sound.
+use Rattle.std.proofs.Common.{◌≡◌, ◌≢◌, ◌⊎◌, inl, inr, ℕ, zero, suc, ◌+◌, ◌≤◌, ◌<◌, Bool, true, false, cond, ◌&&◌, ◌||◌, not, nat_lt, ◌==◌, List, [], ◌∷◌, length, refl, sym, ◌∙◌, ap, subst, arith, Option, Some, None, slice_get, slice_set, length-set, is_some, map}
+use Rattle.std.proofs.lemmas.Bool.Decides.{nat_tests}
+use Rattle.std.specs.Option.{option_map}
+use Rattle.std.specs.Prelude.{Result, Ok, Err, IfOk, OnErr}
+use Rattle.std.specs.Result.{is_err}
+use mathlib.Core.Path.{fun_ext}
+use Rattle.pipe_model.specs.declared.net.Net.{Net}
+use Rattle.pipe_model.specs.declared.net.Strand.{Strand}
+use Rattle.pipe_model.specs.declared.step.Want.{Want as Asked}
+use Rattle.pipe_model.specs.Event.{Event, Want, has_ended}
+use Rattle.pipe_model.specs.Next.{next, IsOwn}
+use Rattle.pipe_model.specs.State.{Who, State, past, nothing_yet, strand_at}
+use Rattle.pipe_model.specs.Licence.{Left, none_left, want_after, want_at, answer, sight_of, licence}
+use Rattle.pipe_model.specs.Play.{play}
+use Rattle.pipe_model.specs.WellFormed.{IsWellFormed}
+use Rattle.record_pool.specs.declared.pool.Held.{Held}
+use Rattle.record_pool.specs.Places.{bytes_at}
+use Rattle.stage_steps.specs.Coroutine.{told, meaning, last_seen}
+use Rattle.run_desk.specs.Desk.{DeskState}
+use Rattle.run_desk.specs.Kept.{left_in}
+use Rattle.run_desk.specs.Moves.{CanCome, HasCome}
+use Rattle.run_desk.specs.Order.{IsRun, out_from}
+use Rattle.run_desk.specs.Pure as Pure
+use Rattle.run_desk.proofs.Runs.{run_can_come, run_home}
+use Rattle.run_desk.proofs.Sees.{seen_is}
+use Rattle.confluence_laws.proofs.Basics.{equal_or_not, test_same, test_apart, at_some, at_place}
+use Rattle.core_machine.specs.declared.actor.Actor.{Actor}
+use Rattle.core_machine.specs.Actors.{bare}
+use Rattle.core_machine.specs.Machine.{left_by}
+use Rattle.core_machine.specs.Members.{Members, is_member}
+use Rattle.core_machine.specs.Sound.{IsActor, AreActors, IsSound}
+use Rattle.core_machine.specs.Start.{AreFresh, IsCalled, new_actor, asking_for}
+use Rattle.core_machine.specs.Woken.{IsCovering, AsksEarly}
+use Rattle.core_machine.proofs.Sounds.{get_set_same, get_set_other, looks_of, looks_same, shows_bare, early_on}
+
+-- before the first step every history is a strand's own
+pub own_first : (net : Net) (t : Who) (q : Strand) → strand_at net nothing_yet t ≡ Some q → IsOwn q (past nothing_yet t)
+own_first net t q is = tt
+
+-- Who is out
+
+not_below : (t s : ℕ) → t < suc s → t ≢ s → t < s
+not_below t s m e = grind arith
+
+-- one strand less is out
+next_in : (s n : ℕ) → left_in (out_from s n) s ≡ out_from (suc s) n
+next_in s n = fun_ext (λ t. each t)
+  where
+    each : (t : ℕ) → left_in (out_from s n) s t ≡ out_from (suc s) n t
+    each t = elim (equal_or_not t s) [
+      | inl z ↦
+          let here : (t == s) ≡ true = ap (λ y. y == s) z ∙ test_same s in
+          let off : nat_lt t (suc s) ≡ true = ap (λ y. nat_lt y (suc s)) z ∙ below s in
+          ap (λ b. cond b false (out_from s n t)) here ∙ sym (ap (λ b. not b && nat_lt t n) off)
+      | inr z ↦
+          ap (λ b. cond b false (out_from s n t)) (test_apart t s z) ∙ ap (λ b. not b && nat_lt t n) (same t z)
+    ]
+      where
+        below : (x : ℕ) → nat_lt x (suc x) ≡ true
+        below x = grind (arith, nat_tests)
+
+        same : (x : ℕ) → x ≢ s → nat_lt x s ≡ nat_lt x (suc s)
+        same x apart = grind (arith, nat_tests)
+
+none_out : (n : ℕ) → out_from n n ≡ none_left
+none_out n = fun_ext (λ t. each t)
+  where
+    each : (t : ℕ) → out_from n n t ≡ false
+    each t = go (nat_lt t n)
+      where
+        go : (b : Bool) → (not b && b) ≡ false
+        go true = refl
+        go false = refl
+
+still_out : (s n : ℕ) → s < n → out_from s n s ≡ true
+still_out s n m = ap (λ b. not b && nat_lt s n) (at s) ∙ within
+  where
+    at : (x : ℕ) → nat_lt x x ≡ false
+    at x = grind (arith, nat_tests)
+
+    within : nat_lt s n ≡ true
+    within = grind (arith, nat_tests, m)
+
+all_out : (t n : ℕ) → t < n → out_from 0 n t ≡ true
+all_out t n m = ap (λ b. not b && nat_lt t n) (none t) ∙ within
+  where
+    none : (x : ℕ) → nat_lt x 0 ≡ false
+    none x = grind (arith, nat_tests)
+
+    within : nat_lt t n ≡ true
+    within = grind (arith, nat_tests, m)
+
+module _ {S : Type 0} (stands : S → Strand → List Event → Type 0) (is_looking : S → Bool) (net : Net) (formed : IsWellFormed net) where
+  abbrev n : ℕ
+  n = length net.strands
+
+  -- what is wanted first, but by those that are out
+  wanted : Who → Who → Option Want
+  wanted s t = want_at net nothing_yet (out_from s n) t
+
+  -- Each strand is called
+
+  module _ (s : Who) (actors : List (Actor S)) (d : DeskState) (places : List (Option Held)) (ready : Members) (called : IsCalled stands is_looking net s actors d places ready) (within : s < n) where
+    pub its_strand : (p : Strand) × (strand_at net nothing_yet s ≡ Some p)
+    its_strand = at_some net.strands s within
+
+    pub its_coroutine : (a : Actor S) × (x : S) × (slice_get actors s ≡ Some a) × (a.stage ≡ Some x)
+    its_coroutine =
+        let a = at_some actors s (let c = called.count in let w = within in omega (arith, c, w)) in
+        let x = called.home s a.0 a.1 in
+        (a.0, x.0, a.1, x.1)
+
+    module _ (want : Asked) (asks : (a : Actor S) (x : S) → slice_get actors s ≡ Some a → a.stage ≡ Some x → (p : Strand) → stands x p [] → Some (meaning want (last_seen [])) ≡ next p []) where
+      means : Some (meaning want (last_seen [])) ≡ next its_strand.0 []
+      means =
+          let c = its_coroutine in
+          asks c.0 c.1 c.2 c.3 its_strand.0 ((called.each s its_strand.0 c.0 its_strand.1 c.2).stands_for c.1 c.3)
+
+      pub can_call : CanCome d places s want
+      can_call = run_can_come net nothing_yet (out_from s n) d places formed (own_first net) called.few called.run s its_strand.0 want (still_out s n within) its_strand.1 refl means
+
+      pub called_run : (d' : DeskState) (places' : List (Option Held)) → HasCome d places s want d' places' → IsRun net nothing_yet (out_from (suc s) n) d' places'
+      called_run d' places' come = subst (λ l. IsRun net nothing_yet l d' places') (next_in s n)
+          (run_home net nothing_yet (out_from s n) d places formed (own_first net) called.few called.run s its_strand.0 want (still_out s n within) its_strand.1 refl means d' places' come)
+
+      pub called_early : (d' : DeskState) (places' : List (Option Held)) → HasCome d places s want d' places' → AsksEarly d'
+      called_early d' places' come = early_on net nothing_yet formed (own_first net) (bytes_at places') (out_from (suc s) n) d' (called_run d' places' come).kept
+
+      pub called_next : (d' : DeskState) (places' : List (Option Held)) (ready' : Members) (a : Actor S) → slice_get actors s ≡ Some a → HasCome d places s want d' places' → ready'.size ≡ ready.size → IsCovering d' ready' →
+          IsCalled stands is_looking net (suc s) (slice_set actors s (asking_for (bare want) a)) d' places' ready'
+      called_next d' places' ready' a there come size covers = record {
+        few = called.few;
+        run = called_run d' places' come;
+        count = length-set actors s (asking_for (bare want) a) ∙ called.count;
+        each = λ t p x is at. elim (equal_or_not t s) [
+          | inl z ↦ here t p x z is at
+          | inr z ↦ subst (λ w. IsActor stands is_looking [] w p x) (want_same t z) (called.each t p x is (sym (get_set_other actors s t (asking_for (bare want) a) z) ∙ at))
+        ];
+        home = λ t x at. elim (equal_or_not t s) [
+          | inl z ↦
+              let old = called.home s a there in
+              let got : Some (asking_for (bare want) a) ≡ Some x = sym (get_set_same actors s (asking_for (bare want) a) a there) ∙ ap (slice_get (slice_set actors s (asking_for (bare want) a))) (sym z) ∙ at in
+              let x_is : (asking_for (bare want) a) ≡ x = cc in
+              (old.0, ap (λ y. y.stage) (sym x_is) ∙ old.1)
+          | inr z ↦ called.home t x (sym (get_set_other actors s t (asking_for (bare want) a) z) ∙ at)
+        ];
+        size = size ∙ called.size;
+        covers = covers;
+      }
+        where
+          want_same : (t : Who) → t ≢ s → want_at net nothing_yet (out_from s n) t ≡ want_at net nothing_yet (out_from (suc s) n) t
+          want_same t apart = ap (λ b. cond (cond b false (out_from s n t)) None (want_after (strand_at net nothing_yet t) [])) (sym (test_apart t s apart))
+              ∙ ap (λ l. want_at net nothing_yet l t) (next_in s n)
+
+          want_now : want_at net nothing_yet (out_from (suc s) n) s ≡ next its_strand.0 []
+          want_now = ap (λ l. want_at net nothing_yet l s) (sym (next_in s n))
+              ∙ ap (λ b. cond (cond b false (out_from s n s)) None (want_after (strand_at net nothing_yet s) [])) (test_same s)
+              ∙ ap (λ x. want_after x []) its_strand.1
+
+          here : (t : Who) (p : Strand) (x : Actor S) → t ≡ s → strand_at net nothing_yet t ≡ Some p → slice_get (slice_set actors s (asking_for (bare want) a)) t ≡ Some x →
+              IsActor stands is_looking [] (want_at net nothing_yet (out_from (suc s) n) t) p x
+          here t p x z is at =
+              let old = called.each s p a (ap (strand_at net nothing_yet) (sym z) ∙ is) there in
+              let got : Some (asking_for (bare want) a) ≡ Some x = sym (get_set_same actors s (asking_for (bare want) a) a there) ∙ ap (slice_get (slice_set actors s (asking_for (bare want) a))) (sym z) ∙ at in
+              let x_is : (asking_for (bare want) a) ≡ x = cc in
+              let fresh : IsActor stands is_looking [] (want_at net nothing_yet (out_from (suc s) n) s) p (asking_for (bare want) a) = record {
+                saw_end = old.saw_end;
+                asked = λ w w_is. shows_bare [] want w (let m : Some w ≡ Some (meaning want (last_seen [])) = sym w_is ∙ want_now ∙ sym means in cc);
+                stands_for = old.stands_for;
+                looks = old.looks;
+              } in
+              subst (λ y. IsActor stands is_looking [] (want_at net nothing_yet (out_from (suc s) n) y) p x) (sym z) (subst (IsActor stands is_looking [] (want_at net nothing_yet (out_from (suc s) n) s) p) x_is fresh)
+
+  -- Before any
+
+  no_want : (t : Who) → want_at net nothing_yet (out_from 0 n) t ≡ None
+  no_want t = go (strand_at net nothing_yet t) refl
+    where
+      nothing : (b : Bool) → cond b None (want_after None []) ≡ None
+      nothing true = refl
+      nothing false = refl
+
+      go : (x : Option Strand) → strand_at net nothing_yet t ≡ x → want_at net nothing_yet (out_from 0 n) t ≡ None
+      go None is = ap (λ y. cond (out_from 0 n t) None (want_after y [])) is ∙ nothing (out_from 0 n t)
+      go (Some p) is = ap (λ b. cond b None (want_after (strand_at net nothing_yet t) [])) (all_out t n (at_place net.strands t is))
+
+  pub none_called : (stages : List S) (d : DeskState) (ready : Members) → length net.links < 2147483648 → AreFresh stands net.strands stages → IsRun net nothing_yet (out_from 0 n) d [] → ready.size ≡ n →
+      IsCalled stands is_looking net 0 (map (new_actor is_looking) stages) d [] ready
+  none_called stages d ready few fresh run size = record {
+    few = few;
+    run = run;
+    count = map_length stages ∙ fresh.count;
+    each = λ t p x is at.
+        let y = at_map stages t x at in
+        record {
+          saw_end = ap (λ z. z.saw_end) (sym y.2);
+          asked = λ w w_is. (let no : None ≡ Some w = sym (no_want t) ∙ w_is in cc);
+          stands_for = λ z z_is. (let same : y.0 ≡ z = (let got : Some y.0 ≡ Some z = ap (λ v. v.stage) y.2 ∙ z_is in cc) in subst (λ v. stands v p []) same (fresh.each t p y.0 is y.1));
+          looks = λ z z_is. (let same : y.0 ≡ z = (let got : Some y.0 ≡ Some z = ap (λ v. v.stage) y.2 ∙ z_is in cc) in ap is_looking (sym same) ∙ ap (λ v. v.looks) y.2);
+        };
+    home = λ t x at. (let y = at_map stages t x at in (y.0, ap (λ z. z.stage) (sym y.2)));
+    size = size;
+    covers = λ t k may.
+        let seen = seen_is net (bytes_at []) nothing_yet (out_from 0 n) d formed run.kept t k in
+        let none : licence net nothing_yet (out_from 0 n) t k ≡ None = ap (answer (sight_of net nothing_yet (out_from 0 n) t) k) (no_want t) in
+        let off : is_some (Pure.seen_at d t k) ≡ false = ap is_some (seen ∙ ap (option_map told) none) in
+        (let no : true ≡ false = sym may ∙ off in cc);
+  }
+    where
+      map_length : (xs : List S) → length (map (new_actor is_looking) xs) ≡ length xs
+      map_length [] = refl
+      map_length (x ∷ xs) = ap suc (map_length xs)
+
+      at_map : (xs : List S) (t : ℕ) (x : Actor S) → slice_get (map (new_actor is_looking) xs) t ≡ Some x → (y : S) × (slice_get xs t ≡ Some y) × (new_actor is_looking y ≡ x)
+      at_map [] t x at = cc
+      at_map (y ∷ ys) zero x at = (y, refl, cc)
+      at_map (y ∷ ys) (suc t) x at = at_map ys t x at
+
+  -- After all
+
+  pub all_called : (actors : List (Actor S)) (d : DeskState) (places : List (Option Held)) (ready : Members) (budget : ℕ) → budget ≤ 50000000 → IsCalled stands is_looking net n actors d places ready →
+      IsSound stands is_looking net budget [] [] actors d places ready
+  all_called actors d places ready budget bounded called = record {
+    formed = formed;
+    few = called.few;
+    legal = tt;
+    within = omega arith;
+    bounded = bounded;
+    last = tt;
+    apart = tt;
+    run = subst (λ l. IsRun net nothing_yet l d places) (none_out n) called.run;
+    strands = record {
+      count = called.count;
+      each = λ t p x is at. subst (λ l. IsActor stands is_looking [] (want_at net nothing_yet l t) p x) (none_out n) (called.each t p x is at);
+      home = λ t x at home. (let y = called.home t x at in ap is_some y.1);
+    };
+    size = called.size;
+    covers = called.covers;
+  }
+
+-- which strands look
+pub looks_first : {S : Type 0} (is_looking : S → Bool) (stages : List S) → looks_of (map (new_actor is_looking) stages) ≡ map is_looking stages
+looks_first is_looking [] = refl
+looks_first is_looking (x ∷ xs) = ap (λ l. is_looking x ∷ l) (looks_first is_looking xs)
+
+-- Results
+
+pub if_err : {A E : Type 0} {P : Type 0} (r : Result A E) → is_err r ≡ true → OnErr r P → P
+if_err (Ok x) is p = cc
+if_err (Err e) is p = p
+
+pub if_fine : {A E : Type 0} {P : Type 0} (r : Result A E) → is_err r ≡ false → IfOk r (λ x. P) → P
+if_fine (Ok x) is p = p
+if_fine (Err e) is p = cc

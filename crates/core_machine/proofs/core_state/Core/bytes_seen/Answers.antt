@@ -1,0 +1,28 @@
+use Rattle.std.proofs.Common.{rules, ◌≡◌, ◌<◌, ◌≤◌, ℕ, zero, suc, Some, None, Bool, true, false, length, slice_get, slice_set, take, vec_capacity, is_some, List, ◌∷◌, ◌++◌, [], arith, refl, sym, ◌∙◌, ap, subst, Option, map}
+use Rattle.std.specs.Option.{option_map_or}
+use Rattle.pipe_model.specs.declared.step.Seen.TheVariants as Told
+use Rattle.pipe_model.specs.Event.{Event, has_ended}
+use Rattle.pipe_model.specs.State.{past}
+use Rattle.pipe_model.specs.Licence.{licence}
+use Rattle.pipe_model.specs.Play.{play}
+use Rattle.record_pool.specs.Places.{bytes_at}
+use Rattle.stage_steps.specs.Coroutine.{told, bytes_with}
+use Rattle.run_desk.specs.Moves.{hand_on, sight_through}
+use Rattle.run_desk.specs.Pure as Pure
+use Rattle.core_machine.specs.Machine.{Machine, left_by, licence_of, state_of, looks_at}
+use Rattle.core_machine.proofs.Sounds.{looks_of, sight_held, bytes_are}
+use Rattle.core_machine.proofs.core_state.Core.bytes_seen.Goals as goal
+
+pub seen_bytes-requires : goal.seen_bytes-requires
+seen_bytes-requires g c =
+    let i = c.self.inside in
+    let v : ◌≡◌ {A = Machine} (record { net = i.net; budget = i.budget; looking = looks_of i.actors.items; journal = i.journal.items; out = i.out.items; is_broken = i.is_broken }) c.args.self.now = c.self.view_is in
+    sight_held g.S.Stage.stands g.S.Stage.is_looking i.net i.budget i.journal.items i.out.items i.actors.items i.desk i.pool i.ready c.self.invariant.0 c.args.strand c.in-Saw.i
+
+pub returns-in-Saw : goal.returns-in-Saw
+returns-in-Saw g c =
+    let i = c.self.inside in
+    let v : ◌≡◌ {A = Machine} (record { net = i.net; budget = i.budget; looking = looks_of i.actors.items; journal = i.journal.items; out = i.out.items; is_broken = i.is_broken }) c.args.self.now = c.self.view_is in
+    λ e h past_is going is. c.seen_bytes.ensures
+    ∙ bytes_are g.S.Stage.stands g.S.Stage.is_looking i.net i.budget i.journal.items i.out.items i.actors.items i.desk i.pool i.ready c.self.invariant.0 c.args.strand e h c.in-Saw.i (subst (λ (z : Machine). past (state_of z) c.args.strand ≡ e ∷ h) (sym v) past_is) going (is ∙ c.in-Saw.is)
+    ∙ ap (λ b. bytes_with b e) (sym c.if-looks.true ∙ c.looks.ensures)

@@ -1,0 +1,22 @@
+use Rattle.std.proofs.Common.{rules, ◌≡◌, ◌<◌, ◌≤◌, ℕ, zero, suc, Some, None, true, false, length, slice_get, slice_set, take, vec_capacity, is_some, List, ◌∷◌, ◌++◌, [], arith, refl, sym, ◌∙◌, ap, subst, Option, map}
+use Rattle.pipe_model.specs.declared.step.Entry.{Entry}
+use Rattle.pipe_model.specs.Event.{Event}
+use Rattle.pipe_model.specs.Licence.{licence}
+use Rattle.pipe_model.specs.Play.{play}
+use Rattle.record_pool.specs.Places.{bytes_at}
+use Rattle.stage_steps.specs.Coroutine.{told}
+use Rattle.run_desk.specs.Moves.{made, pool_moved, CanMove}
+use Rattle.core_machine.specs.Actors.{gone_out}
+use Rattle.core_machine.specs.Machine.{Machine, left_by, licence_of, looks_at}
+use Rattle.core_machine.specs.Jobs.{JobStands}
+use Rattle.core_machine.specs.Sound.{IsSound}
+use Rattle.core_machine.specs.Woken.{AreInside}
+use Rattle.core_machine.proofs.Sounds.{looks_of, ready_is}
+use Rattle.core_machine.proofs.core_state.Core.is_ready.Goals as goal
+
+pub returns : goal.returns
+returns g c =
+    let i = c.self.inside in
+    let v : ◌≡◌ {A = Machine} (record { net = i.net; budget = i.budget; looking = looks_of i.actors.items; journal = i.journal.items; out = i.out.items; is_broken = i.is_broken }) c.args.self.now = c.self.view_is in
+    subst (λ (z : Machine). c.is_some.result ≡ is_some (licence_of z c.args.strand c.args.stream)) v
+    (c.is_some.ensures ∙ ap is_some c.seen_at.ensures ∙ ready_is g.S.Stage.stands g.S.Stage.is_looking i.net i.budget i.journal.items i.out.items i.actors.items i.desk i.pool i.ready c.self.invariant.0 c.args.strand c.args.stream)

@@ -1,0 +1,10 @@
+use Rattle.std.proofs.Common.{rules, ◌≡◌, ◌≤◌, length, subst, sym, ap, arith}
+use Rattle.core_machine.specs.Start.{IsCalled}
+use Rattle.core_machine.proofs.start.call_all.Goals as goal
+
+pub returns-clause-called : goal.returns-clause-called
+returns-clause-called g c =
+    let i = c.loop-strand.invariant in
+    let end' = c.loop-strand-test.false in
+    let at : c.loop-strand.strand ≡ length c.args.net.now.strands = (let low = i.2 in let count = i.3 in omega (arith, end', low, count)) in
+    subst (λ s. IsCalled g.S.Stage.stands g.S.Stage.is_looking c.args.net.now s c.loop-strand.actors.items c.loop-strand.desk c.loop-strand.pool c.loop-strand.ready) at i.0

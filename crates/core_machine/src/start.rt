@@ -1,0 +1,154 @@
+//! The core before the first step.
+ghost use Rattle.std.specs.Prelude.{◌≡◌, ◌<◌, ◌≤◌, ◌+◌, [], Some, length, map, slice_get, slice_set, IfOk, OnErr};
+ghost use Rattle.pipe_model.specs.declared.net.Strand.{Strand as StrandIs};
+ghost use Rattle.pipe_model.specs.Next.{next};
+ghost use Rattle.pipe_model.specs.WellFormed.{IsWellFormed};
+ghost use Rattle.run_desk.specs.Order.{IsPooled};
+ghost use Rattle.stage_steps.specs.Coroutine.{meaning, last_seen};
+ghost use Rattle.core_machine.specs.declared.actor.Actor.{Actor as ActorIs};
+ghost use Rattle.core_machine.specs.Start.{IsCalled, new_actor, asking_for};
+
+use crate::actor::{Actor, bare};
+use crate::core_state::Core;
+use crate::ready::Ready;
+use crate::wake::move_home;
+use pipe_model::{Net, NoMemory, Want};
+use record_pool::Pool;
+use run_desk::Desk;
+use stage_steps::Stage;
+use std::alloc::Global;
+
+impl<S: Stage> Core<S> {
+    ghost use Rattle.std.specs.Prelude.{◌≡◌, ◌≤◌, map, IfOk};
+    ghost use Rattle.pipe_model.specs.WellFormed.{IsWellFormed};
+    ghost use Rattle.core_machine.specs.Machine.{started};
+    ghost use Rattle.core_machine.specs.Start.{AreFresh, HasNoQueue};
+
+    /// A core before the first step: each strand asks for what its fresh coroutine asks for first. The journal is
+    /// reserved to the budget, which is at most fifty million entries. It wants memory too for a net of 2^31 links or
+    /// more.
+    pub fn start(alloc: Global, net: Net, stages: Vec<S>, budget: u64) -> Result<Core<S>, NoMemory>
+        requires formed { IsWellFormed net }
+        requires rendezvous { HasNoQueue net }
+        requires fresh { AreFresh S.stands net.strands stages.items }
+        requires bounded { budget ≤ 50000000 }
+        ensures { IfOk result (λ core. core ≡ started net budget (map S.is_looking stages.items)) }
+    {
+        let strands = net.strands.as_slice().len();
+        if net.links.as_slice().len() >= 2_147_483_648 {
+            return Err(NoMemory);
+        }
+        let journal = Vec::with_capacity(alloc, budget as usize)?;
+        let out = Vec::with_capacity(alloc, strands)?;
+        let mut actors = new_actors(alloc, stages)?;
+        let mut ready = Ready::new(alloc, strands as u32)?;
+        let mut pool = Pool::new(alloc);
+        let mut desk = Desk::blank(alloc, &net)?;
+        let called = call_all(alloc, &net, &mut desk, &mut pool, &mut ready, &mut actors);
+        if called.is_err() {
+            desk.drain(&mut pool);
+            return Err(NoMemory);
+        }
+        Ok(Core {
+            alloc,
+            net,
+            budget,
+            actors,
+            out,
+            desk,
+            pool,
+            ready,
+            journal,
+            is_broken: false,
+        })
+    }
+}
+
+// The actors of fresh coroutines, which have asked for nothing yet.
+fn new_actors<S: Stage>(alloc: Global, stages: Vec<S>) -> Result<Vec<Actor<S>>, NoMemory>
+    ensures { IfOk result (λ actors. actors.items ≡ map (new_actor S.is_looking) stages.items) }
+{
+    let mut actors = Vec::with_capacity(alloc, stages.len())?;
+    for stage in stages {
+        actors.push(new_actor(stage))?;
+    }
+    Ok(actors)
+}
+
+fn new_actor<S: Stage>(stage: S) -> Actor<S>
+    ensures { result ≡ new_actor S.is_looking stage }
+{
+    let looks = stage.looks();
+    Actor {
+        stage: Some(stage),
+        asked: Want::Any,
+        looks,
+        saw_end: false,
+    }
+}
+
+// Each strand comes home with its first want.
+fn call_all<S: Stage>(
+    alloc: Global,
+    net: &Net,
+    desk: &mut Desk,
+    pool: &mut Pool,
+    ready: &mut Ready,
+    actors: &mut Vec<Actor<S>>,
+) -> Result<(), NoMemory>
+    requires formed { IsWellFormed net.now }
+    requires called { IsCalled S.stands S.is_looking net.now 0 actors.old.items desk.old pool.old ready.old }
+    ensures called { IfOk result (λ done. IsCalled S.stands S.is_looking net.now (length net.now.strands) actors.new.items desk.new pool.new ready.new) }
+    ensures pooled { OnErr result (IsPooled desk.new.wires desk.new.sights pool.new) }
+    ensures looks { map (λ (actor : ActorIs S). actor.looks) actors.new.items ≡ map (λ (actor : ActorIs S). actor.looks) actors.old.items }
+{
+    let count = actors.len() as u32;
+    let mut strand = 0;
+    while strand < count {
+        call(alloc, net, desk, pool, ready, actors, strand)?;
+        strand += 1;
+    }
+    Ok(())
+}
+
+// A strand comes home with its first want.
+fn call<S: Stage>(
+    alloc: Global,
+    net: &Net,
+    desk: &mut Desk,
+    pool: &mut Pool,
+    ready: &mut Ready,
+    actors: &mut Vec<Actor<S>>,
+    strand: u32,
+) -> Result<(), NoMemory>
+    requires formed { IsWellFormed net.now }
+    requires within { strand < length net.now.strands }
+    requires called { IsCalled S.stands S.is_looking net.now strand actors.old.items desk.old pool.old ready.old }
+    ensures called { IfOk result (λ done. IsCalled S.stands S.is_looking net.now (strand + 1) actors.new.items desk.new pool.new ready.new) }
+    ensures pooled { OnErr result (IsPooled desk.new.wires desk.new.sights pool.new) }
+    ensures looks { map (λ (actor : ActorIs S). actor.looks) actors.new.items ≡ map (λ (actor : ActorIs S). actor.looks) actors.old.items }
+{
+    let want = first_want(actors, strand as usize);
+    move_home(desk, pool, ready, net.links.as_slice(), strand, &want)?;
+    set_asked(actors, strand as usize, bare(alloc, want));
+    Ok(())
+}
+
+// The first want of the fresh coroutine that is there.
+fn first_want<S: Stage>(actors: &[Actor<S>], strand: usize) -> Want
+    requires { (a : ActorIs S) × (x : S) × (slice_get actors.now strand ≡ Some a) × (a.stage ≡ Some x) }
+    ensures { (a : ActorIs S) → (x : S) → slice_get actors.now strand ≡ Some a → a.stage ≡ Some x →
+        (s : StrandIs) → S.stands x s [] → Some (meaning result (last_seen [])) ≡ next s [] }
+{
+    match &actors[strand].stage {
+        None => unreachable!(),
+        Some(stage) => stage.first(),
+    }
+}
+
+fn set_asked<S: Stage>(actors: &mut Vec<Actor<S>>, strand: usize, asked: Want)
+    requires { strand < length actors.old.items }
+    ensures { (a : ActorIs S) × (slice_get actors.old.items strand ≡ Some a) × (actors.new.items ≡ slice_set actors.old.items strand (asking_for asked a)) }
+{
+    actors[strand].asked = asked;
+}
