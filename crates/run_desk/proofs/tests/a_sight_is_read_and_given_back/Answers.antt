@@ -1,11 +1,11 @@
 -- The one sight is the one hold on the one record of the pool.
-use Rattle.std.proofs.Common.{rules, ◌≡◌, ℕ, ◌+◌, List, [], ◌∷◌, refl, sym, ◌∙◌, ap, subst, arith, Option, Some, slice_get}
+use Rattle.std.proofs.Common.{rules, ◌≡◌, ℕ, List, [], ◌∷◌, refl, sym, ◌∙◌, ap, subst, arith, Option, Some, slice_get}
 use Rattle.record_pool.specs.declared.pool.Held.{Held}
 use Rattle.record_pool.specs.Places.{with_record, fresh}
 use Rattle.connectors.specs.WireState.{WireState}
 use Rattle.run_desk.specs.Pure.{joined, inputs_of}
-use Rattle.run_desk.specs.Order.{holds, holds_of, IsPooled}
-use Rattle.run_desk.proofs.Counts.{hold, count_first}
+use Rattle.run_desk.specs.Order.{holds, IsPooled}
+use Rattle.run_desk.proofs.Counts.{count_first}
 use Rattle.run_desk.proofs.Limits.{sights_held}
 use Rattle.run_desk.proofs.Pooled.{pooled_fresh}
 use Rattle.run_desk.proofs.Blanks.{blank_pooled}
