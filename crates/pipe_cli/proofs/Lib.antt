@@ -1,5 +1,6 @@
 pub mod Checks
 pub mod LineFormed
+pub mod LineLoops
 pub mod LineReply
 pub mod LineStrands
 pub mod Replies
