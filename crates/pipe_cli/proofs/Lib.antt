@@ -1,8 +1,10 @@
 pub mod Checks
 pub mod LineFormed
+pub mod LineJournals
 pub mod LineLoops
 pub mod LineReply
 pub mod LineStrands
 pub mod Replies
+pub mod Statuses
 pub mod Streams
 pub mod Words
