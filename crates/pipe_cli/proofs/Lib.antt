@@ -3,6 +3,7 @@ pub mod LineFormed
 pub mod LineJournals
 pub mod LineLoops
 pub mod LineReply
+pub mod LineRuns
 pub mod LineStrands
 pub mod Replies
 pub mod Statuses
