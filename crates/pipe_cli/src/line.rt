@@ -15,7 +15,7 @@ use std::alloc::Global;
 
 // The net of the straight line that reads these bytes and has LOCATEs of these strings.
 pub(crate) fn line_net(alloc: Global, strings: &Recs, bytes: Vec<u8>) -> Result<Net, NoMemory>
-    requires few { length strings.now ≤ 1022 }
+    requires { length strings.now ≤ 1022 }
     ensures { IfOk result (λ net. net ≡ Lines.line_net bytes.items strings.now) }
 {
     let strands = strands_of(alloc, strings, bytes)?;
@@ -28,7 +28,7 @@ pub(crate) fn line_net(alloc: Global, strings: &Recs, bytes: Vec<u8>) -> Result<
 
 // CONSOLE, a LOCATE for each string, CONSOLE.
 fn strands_of(alloc: Global, strings: &Recs, bytes: Vec<u8>) -> Result<Vec<Strand>, NoMemory>
-    requires few { length strings.now ≤ 1022 }
+    requires { length strings.now ≤ 1022 }
     ensures { IfOk result (λ strands. strands.items ≡ (Lines.line_net bytes.items strings.now).strands) }
 {
     let mut strands = Vec::new(alloc);
@@ -107,7 +107,7 @@ fn links_of(alloc: Global, count: u32) -> Result<Vec<Link>, NoMemory>
 
 // A stage for each strand of a net, before its first event.
 pub(crate) fn stages_of(alloc: Global, net: &Net) -> Result<Vec<FirstStage>, NoMemory>
-    requires first { (s : ℕ) (p : StrandIs) → strand_at net.now nothing_yet s ≡ Some p → IsFirstKind p.kind }
+    requires { (s : ℕ) (p : StrandIs) → strand_at net.now nothing_yet s ≡ Some p → IsFirstKind p.kind }
     ensures count { IfOk result (λ stages. length stages.items ≡ length net.now.strands) }
     ensures each { IfOk result (λ stages. (s : ℕ) (p : StrandIs) (stage : StageIs) → slice_get net.now.strands s ≡ Some p → slice_get stages.items s ≡ Some stage → FirstStands stage p []) }
 {
