@@ -1,4 +1,11 @@
 pub mod Checks
+pub mod LineFormed
+pub mod LineJournals
+pub mod LineLoops
+pub mod LineReply
+pub mod LineRuns
+pub mod LineStrands
 pub mod Replies
+pub mod Statuses
 pub mod Streams
 pub mod Words

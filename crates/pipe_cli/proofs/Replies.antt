@@ -3,7 +3,7 @@ use Rattle.std.proofs.Common.{◌≡◌, ◌≢◌, ◌⊎◌, ⊎_elim, inl, in
 use Rattle.std.specs.Option.{IfSome}
 use Rattle.outside.specs.Source.{Gave}
 use Rattle.pipe_cli.specs.declared.status.Status.{Status}
-use Rattle.pipe_cli.specs.declared.status.Status.TheVariants.{Zero, ReadFault, WriteFault, NoMemory, InputTooLarge, NotYet}
+use Rattle.pipe_cli.specs.declared.status.Status.TheVariants.{Zero, Spent, ReadFault, WriteFault, NoMemory, InputTooLarge, NotYet}
 use Rattle.pipe_cli.specs.Devices.{Device, Outside, Steady}
 use Rattle.pipe_cli.specs.Meaning.{Means, IsStraightLine, input_limit}
 use Rattle.pipe_cli.specs.Answer.{HasCause, Decides, Reports, AllSteady, NoneFailed, IsMeant, Answers}
@@ -36,6 +36,7 @@ decides-words words input output status reason =
 
 stopped : (words strings : List (List ℕ)) (input input' output : Device) (given : List ℕ) (status : Status) → IsStraightLine words strings → StopsReading input input' given status → HasCause words input input' output output given [] status
 stopped words strings input input' output given Zero line stops = absurd stops
+stopped words strings input input' output given Spent line stops = absurd stops
 stopped words strings input input' output given ReadFault line stops = ((strings, line), stops.0, refl, stops.1, refl)
 stopped words strings input input' output given WriteFault line stops = absurd stops
 stopped words strings input input' output given NoMemory line stops = (refl, stops, refl)
@@ -58,6 +59,7 @@ module _ (words : List (List ℕ)) (input input' output output' : Device) (given
   -- a status that is no fault was decided without one
   unfailed : (decided : Status) → decided ≢ ReadFault → decided ≢ WriteFault → HasCause words input input' output output' given wrote decided → Steady input input' × Steady output output'
   unfailed Zero no_read no_write cause = (cause.2, cause.3)
+  unfailed Spent no_read no_write cause = (cause.2, cause.3)
   unfailed ReadFault no_read no_write cause = absurd (no_read refl)
   unfailed WriteFault no_read no_write cause = absurd (no_write refl)
   unfailed NoMemory no_read no_write cause = (cause.1, cause.2)
@@ -96,6 +98,11 @@ module _ (words : List (List ℕ)) (old new : Outside) where
     wrote = d.wrote;
     gained = d.gained;
     means = weaker_some old.input.bytes (λ all same. let P : List ℕ → Type 0 = λ bytes. Means words bytes Zero d.wrote in subst P same d.cause.0) (all_given d.given old.input.bytes new.input.bytes d.gave d.cause.1);
+  })
+  meant Spent d none = inr (record {
+    wrote = d.wrote;
+    gained = d.gained;
+    means = weaker_some old.input.bytes (λ all same. let P : List ℕ → Type 0 = λ bytes. Means words bytes Spent d.wrote in subst P same d.cause.0) (all_given d.given old.input.bytes new.input.bytes d.gave d.cause.1);
   })
   meant ReadFault d none = absurd (none.input d.cause.3)
   meant WriteFault d none = absurd (none.output d.cause.3)

@@ -3,7 +3,7 @@ use Rattle.std.specs.Prelude.{◌≡◌, ◌≢◌, ◌⊎◌, ℕ, ◌<◌, ◌
 use Rattle.outside.specs.Source.{Gave}
 use Rattle.outside.specs.Sink.{Gained}
 use Rattle.pipe_cli.specs.declared.status.Status.{Status}
-use Rattle.pipe_cli.specs.declared.status.Status.TheVariants.{Zero, ReadFault, WriteFault, NoMemory, InputTooLarge, NotYet}
+use Rattle.pipe_cli.specs.declared.status.Status.TheVariants.{Zero, Spent, ReadFault, WriteFault, NoMemory, InputTooLarge, NotYet}
 use Rattle.pipe_cli.specs.Status.{text_of_status}
 use Rattle.pipe_cli.specs.Devices.{Device, Outside, Steady, Failed, IsRead}
 use Rattle.pipe_cli.specs.Meaning.{Means, IsStraightLine, input_limit}
@@ -24,6 +24,8 @@ pub record IsHalfWritten (words : List (List ℕ)) (given wrote : List ℕ) : Ty
 abbrev pub HasCause : List (List ℕ) → Device → Device → Device → Device → List ℕ → List ℕ → Status → Type 0
 HasCause words input input' output output' given wrote Zero =
     Means words given Zero wrote × IsRead input' × Steady input input' × Steady output output'
+HasCause words input input' output output' given wrote Spent =
+    Means words given Spent wrote × IsRead input' × Steady input input' × Steady output output'
 HasCause words input input' output output' given wrote ReadFault =
     ((strings : List (List ℕ)) × IsStraightLine words strings) × (length given ≤ input_limit) × (wrote ≡ []) × Failed input input' × Steady output output'
 HasCause words input input' output output' given wrote WriteFault =

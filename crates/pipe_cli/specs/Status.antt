@@ -1,11 +1,12 @@
 -- Statuses, their numbers and their texts.
 use Rattle.std.specs.Prelude.{ℕ, List, [], ◌∷◌, ◌++◌, codes}
 use Rattle.pipe_cli.specs.declared.status.Status.{Status}
-use Rattle.pipe_cli.specs.declared.status.Status.TheVariants.{Zero, ReadFault, WriteFault, NoMemory, InputTooLarge, NotYet}
+use Rattle.pipe_cli.specs.declared.status.Status.TheVariants.{Zero, Spent, ReadFault, WriteFault, NoMemory, InputTooLarge, NotYet}
 
 -- the exit status of the program
 abbrev pub number_of : Status → ℕ
 number_of Zero = 0
+number_of Spent = 4
 number_of ReadFault = 5
 number_of WriteFault = 6
 number_of NoMemory = 8
@@ -19,6 +20,7 @@ line bytes = bytes ++ 10 ∷ []
 -- what is told on standard error
 abbrev pub text_of_status : Status → List ℕ
 text_of_status Zero = []
+text_of_status Spent = line (codes "spent 4000000")
 text_of_status ReadFault = line (codes "read fault")
 text_of_status WriteFault = line (codes "write fault")
 text_of_status NoMemory = line (codes "out of memory")

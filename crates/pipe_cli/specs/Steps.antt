@@ -4,7 +4,7 @@ use Rattle.std.specs.declared.result.Result.{Result}
 use Rattle.outside.specs.Source.{Gave}
 use Rattle.outside.specs.Sink.{Gained}
 use Rattle.pipe_cli.specs.declared.status.Status.{Status}
-use Rattle.pipe_cli.specs.declared.status.Status.TheVariants.{Zero, ReadFault, WriteFault, NoMemory, InputTooLarge, NotYet}
+use Rattle.pipe_cli.specs.declared.status.Status.TheVariants.{Zero, Spent, ReadFault, WriteFault, NoMemory, InputTooLarge, NotYet}
 use Rattle.pipe_cli.specs.Devices.{Device, Steady, Failed, IsRead}
 use Rattle.pipe_cli.specs.Meaning.{input_limit}
 use Rattle.pipe_cli.specs.Answer.{IsCutShort}
@@ -27,6 +27,7 @@ StopsReading input input' given ReadFault = (length given ≤ input_limit) × Fa
 StopsReading input input' given InputTooLarge = (input_limit < length given) × Steady input input'
 StopsReading input input' given NoMemory = Steady input input'
 StopsReading input input' given Zero = ⊥
+StopsReading input input' given Spent = ⊥
 StopsReading input input' given WriteFault = ⊥
 StopsReading input input' given NotYet = ⊥
 

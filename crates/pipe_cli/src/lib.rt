@@ -2,6 +2,7 @@
 #![tactic(auto)]
 
 mod filter;
+mod line;
 mod main_call;
 mod read;
 mod status;

@@ -6,6 +6,8 @@ ghost use Rattle.pipe_cli.specs.Status.{number_of, text_of_status};
 pub enum Status {
     /// What the words say was done.
     Zero = 0,
+    /// The journal has as many entries as the budget allows, and more is to do.
+    Spent = 4,
     /// Standard input failed.
     ReadFault = 5,
     /// Standard output or standard error failed.
@@ -32,6 +34,7 @@ impl Status {
     {
         match self {
             Status::Zero => b"",
+            Status::Spent => b"spent 4000000\n",
             Status::ReadFault => b"read fault\n",
             Status::WriteFault => b"write fault\n",
             Status::NoMemory => b"out of memory\n",
