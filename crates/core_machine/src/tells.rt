@@ -114,4 +114,7 @@ impl<S: Stage> Core<S> {
     {
         self.is_broken
     }
+
+    /// Gives up the core. All its records are given back and freed.
+    pub fn drain(self) {}
 }

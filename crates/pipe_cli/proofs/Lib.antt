@@ -1,4 +1,5 @@
-pub mod Checks
+pub mod CoreRuns
+pub mod LineDone
 pub mod LineFormed
 pub mod LineJournals
 pub mod LineLoops

@@ -7,7 +7,9 @@ use Rattle.pipe_cli.specs.declared.status.Status.TheVariants.{Zero, Spent, ReadF
 use Rattle.pipe_cli.specs.Devices.{Device, Outside, Steady}
 use Rattle.pipe_cli.specs.Meaning.{Means, IsStraightLine, input_limit}
 use Rattle.pipe_cli.specs.Answer.{HasCause, Decides, Reports, AllSteady, NoneFailed, IsMeant, Answers}
-use Rattle.pipe_cli.specs.Steps.{IsPart, StopsReading}
+use Rattle.pipe_cli.specs.Steps.{status_of, IsWhole, IsPart, StopsReading, StopsRunning, IsWritten, IsPartWritten}
+use Rattle.std.specs.declared.result.Result.{Result}
+use Rattle.std.specs.Prelude.{Ok, Err, MatchResult}
 use Rattle.pipe_cli.proofs.Streams.{gained-none, gave-none}
 
 -- The words alone decide the status.
@@ -52,6 +54,45 @@ decides-reading words strings input input' output status line part = record {
   gained = gained-none output.bytes;
   cause = stopped words strings input input' output part.given status line part.stops;
 }
+
+-- The run decides the status.
+
+pub decides-running : (words strings : List (List ℕ)) (bytes : List ℕ) (input input' output : Device) (status : Status) → IsStraightLine words strings → IsWhole input input' bytes → StopsRunning bytes strings status → Decides words input input' output output status
+decides-running words strings bytes input input' output status line whole stops =
+    let P : Status → Type 0 = λ s. Decides words input input' output output s in
+    ⊎_elim
+    (λ memory. subst P (sym memory) (record { given = bytes; wrote = []; gave = whole.gave; gained = gained-none output.bytes; cause = (refl, whole.steady, refl) }))
+    (λ other.
+    let spent = other.1 in
+    subst P (sym other.0) (record {
+      given = bytes;
+      wrote = [];
+      gave = whole.gave;
+      gained = gained-none output.bytes;
+      cause = ((record { strings = strings; straight = line; fits = whole.fits; journal = spent.journal; legal = spent.legal; full = spent.full; more = spent.more }, refl), whole.ended, whole.steady, refl);
+    }))
+    stops
+
+-- The writing decides the status.
+
+pub decides-writing : (words strings : List (List ℕ)) (bytes wrote : List ℕ) (input input' output output' : Device) (done : Result (Unit {0}) Status) → IsWhole input input' bytes → Means words bytes Zero wrote →
+    MatchResult done (λ _. IsWritten wrote output output') (λ status. IsPartWritten wrote output output' status) → Decides words input input' output output' (status_of done)
+decides-writing words strings bytes wrote input input' output output' (Ok unit) whole means written = record {
+  given = bytes;
+  wrote = wrote;
+  gave = whole.gave;
+  gained = written.gained;
+  cause = (means, whole.ended, whole.steady, written.steady);
+}
+decides-writing words strings bytes wrote input input' output output' (Err status) whole means part =
+    let P : Status → Type 0 = λ s. Decides words input input' output output' s in
+    subst P (sym part.fault) (record {
+      given = bytes;
+      wrote = part.wrote;
+      gave = whole.gave;
+      gained = part.gained;
+      cause = (record { output = wrote; meant = means; cut = part.cut }, whole.ended, whole.steady, part.failed);
+    })
 
 -- The answer.
 

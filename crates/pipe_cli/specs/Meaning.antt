@@ -67,7 +67,7 @@ pub record Overflows (words : List (List ℕ)) (input : List ℕ) : Type 0 where
 
 -- the status that words have on an input, and the bytes for the output
 abbrev pub Means : List (List ℕ) → List ℕ → Status → List ℕ → Type 0
-Means words input Zero output = Filters words input output
+Means words input Zero output = Filters words input output × Completes words input output
 Means words input Spent output = Exhausts words input × (output ≡ [])
 Means words input InputTooLarge output = Overflows words input × (output ≡ [])
 Means words input NotYet output = ((strings : List (List ℕ)) → ¬ IsStraightLine words strings) × (output ≡ [])

@@ -1,12 +1,16 @@
 -- What the parts of a call do.
-use Rattle.std.specs.Prelude.{◌≡◌, ℕ, ◌<◌, ◌≤◌, List, length, Ok, Err}
+use Rattle.std.specs.Prelude.{◌≡◌, ◌⊎◌, ℕ, ◌<◌, ◌≤◌, List, [], length, Ok, Err}
 use Rattle.std.specs.declared.result.Result.{Result}
+use Rattle.pipe_model.specs.declared.step.Entry.{Entry}
+use Rattle.pipe_model.specs.Play.{play, IsLegal, IsLicensed, IsComplete}
+use Rattle.core_machine.specs.Machine.{Machine}
 use Rattle.outside.specs.Source.{Gave}
 use Rattle.outside.specs.Sink.{Gained}
 use Rattle.pipe_cli.specs.declared.status.Status.{Status}
 use Rattle.pipe_cli.specs.declared.status.Status.TheVariants.{Zero, Spent, ReadFault, WriteFault, NoMemory, InputTooLarge, NotYet}
 use Rattle.pipe_cli.specs.Devices.{Device, Steady, Failed, IsRead}
-use Rattle.pipe_cli.specs.Meaning.{input_limit}
+use Rattle.pipe_cli.specs.Line.{line_net}
+use Rattle.pipe_cli.specs.Meaning.{input_limit, step_limit}
 use Rattle.pipe_cli.specs.Answer.{IsCutShort}
 
 -- the status of what was done
@@ -36,6 +40,25 @@ pub record IsPart (input input' : Device) (status : Status) : Type 0 where
   pub given : List ℕ
   pub gave : Gave given input.bytes input'.bytes
   pub stops : StopsReading input input' given status
+
+-- a core that ran the net of a straight line to its end, within the limit
+pub record HasCompleted (bytes : List ℕ) (strings : List (List ℕ)) (core : Machine) : Type 0 where
+  pub net : core.net ≡ line_net bytes strings
+  pub home : core.out ≡ []
+  pub legal : IsLegal (line_net bytes strings) core.journal
+  pub complete : IsComplete (line_net bytes strings) core.journal
+  pub within : length core.journal ≤ step_limit
+
+-- a legal journal of that net has as many entries as the limit allows, and one more may be made
+pub record HasSpent (bytes : List ℕ) (strings : List (List ℕ)) : Type 0 where
+  pub journal : List Entry
+  pub legal : IsLegal (line_net bytes strings) journal
+  pub full : length journal ≡ step_limit
+  pub more : (e : Entry) × IsLicensed (line_net bytes strings) (play (line_net bytes strings) journal) e
+
+-- why a run of it ended before
+abbrev pub StopsRunning : List ℕ → List (List ℕ) → Status → Type 0
+StopsRunning bytes strings status = (status ≡ NoMemory) ⊎ ((status ≡ Spent) × HasSpent bytes strings)
 
 -- the bytes were written
 pub record IsWritten (bytes : List ℕ) (output output' : Device) : Type 0 where

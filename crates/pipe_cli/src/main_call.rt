@@ -6,8 +6,8 @@ ghost use Rattle.pipe_cli.specs.Meaning.{IsStraightLine};
 ghost use Rattle.pipe_cli.specs.Answer.{Answers, Decides, Reports};
 ghost use Rattle.pipe_cli.specs.Steps.{status_of};
 
-use crate::filter::filtered;
 use crate::read::read_all;
+use crate::run::run_line;
 use crate::status::Status;
 use crate::write::write_all;
 use outside::{Gate, Shelf, Sink, Source};
@@ -19,7 +19,7 @@ use std::thread::Threads;
 
 /// Does what the words after the program's name say: reads `input`, writes `output`, and tells a status other than
 /// `Zero` as a line on `diag`. It reads its words first, then the input, then writes, and tells the status last.
-/// The shelf and the gate aren't used yet.
+/// The gate is entered before the work on each record that a stage saw. The shelf isn't used yet.
 pub fn pipe_main<Rt: Threads + Wait + Sync, I: Source, O: Sink, E: Sink, F: Shelf, G: Gate + Sync>(
     _rt: &Rt,
     alloc: Global,
@@ -28,14 +28,14 @@ pub fn pipe_main<Rt: Threads + Wait + Sync, I: Source, O: Sink, E: Sink, F: Shel
     output: &mut O,
     diag: &mut E,
     shelf: &mut F,
-    _gate: &G,
+    gate: &G,
 ) -> Status
     ensures { Answers (map (λ word. string_bytes word) words.now)
         (outside (device (I.left input.old) (I.faults input.old)) (device (O.written output.old) (O.faults output.old)) (device (E.written diag.old) (E.faults diag.old)) (F.files shelf.old) (F.faults shelf.old))
         (outside (device (I.left input.new) (I.faults input.new)) (device (O.written output.new) (O.faults output.new)) (device (E.written diag.new) (E.faults diag.new)) (F.files shelf.new) (F.faults shelf.new))
         result }
 {
-    let decided = match run(alloc, words, input, output) {
+    let decided = match run(alloc, words, input, output, gate) {
         Ok(()) => Status::Zero,
         Err(status) => status,
     };
@@ -43,11 +43,12 @@ pub fn pipe_main<Rt: Threads + Wait + Sync, I: Source, O: Sink, E: Sink, F: Shel
 }
 
 // Does what the words say, apart from telling the status.
-fn run<I: Source, O: Sink>(
+fn run<I: Source, O: Sink, G: Gate>(
     alloc: Global,
     words: &[String],
     input: &mut I,
     output: &mut O,
+    gate: &G,
 ) -> Result<(), Status>
     ensures { Decides (map (λ word. string_bytes word) words.now)
         (device (I.left input.old) (I.faults input.old)) (device (I.left input.new) (I.faults input.new))
@@ -56,10 +57,11 @@ fn run<I: Source, O: Sink>(
 {
     let strings = strings_of(alloc, words)?;
     let bytes = read_all(alloc, input)?;
-    let Ok(text) = filtered(alloc, &strings, &bytes) else {
-        return Err(Status::NoMemory);
-    };
-    write_all(output, &text)
+    let core = run_line(alloc, &strings, bytes, gate)?;
+    let last = strings.len() as u32 + 1;
+    let done = write_all(output, core.kept(last));
+    core.drain();
+    done
 }
 
 // The strings of the LOCATEs of the straight line that the words are. An error is want of memory, or that they are none.
