@@ -59,9 +59,7 @@ fn run<I: Source, O: Sink, G: Gate>(
     let bytes = read_all(alloc, input)?;
     let core = run_line(alloc, &strings, bytes, gate)?;
     let last = strings.len() as u32 + 1;
-    let done = write_all(output, core.kept(last));
-    core.drain();
-    done
+    write_all(output, core.kept(last))
 }
 
 // The strings of the LOCATEs of the straight line that the words are. An error is want of memory, or that they are none.

@@ -31,14 +31,8 @@ pub(crate) fn run_line<G: Gate>(
     };
     match core.run_one_thread(alloc, gate) {
         Ok(RunEnd::Complete) => Ok(core),
-        Ok(RunEnd::Spent) => {
-            core.drain();
-            Err(Status::Spent)
-        }
-        Err(NoMemory) => {
-            core.drain();
-            Err(Status::NoMemory)
-        }
+        Ok(RunEnd::Spent) => Err(Status::Spent),
+        Err(NoMemory) => Err(Status::NoMemory),
     }
 }
 

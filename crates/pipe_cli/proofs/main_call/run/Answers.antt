@@ -21,7 +21,7 @@ kept-requires-clause-strand g c =
     omega (arith, within, c.len.ensures)
 
 pub returns : goal.returns
-returns g c = decides-done _ c.in_ok-strings.strings c.in_ok-bytes.bytes.items _ _ _ _ c.in_ok-core.core c.len.result c.kept.result.now c.write_all-done.result c.in_ok-strings.ensures.found c.in_ok-bytes.ensures c.in_ok-core.ensures c.len.ensures c.kept.ensures c.write_all-done.ensures
+returns g c = decides-done _ c.in_ok-strings.strings c.in_ok-bytes.bytes.items _ _ _ _ c.in_ok-core.core c.len.result c.kept.result.now c.write_all.result c.in_ok-strings.ensures.found c.in_ok-bytes.ensures c.in_ok-core.ensures c.len.ensures c.kept.ensures c.write_all.ensures
 
 pub returns-in_err-strings : goal.returns-in_err-strings
 returns-in_err-strings g c =
