@@ -160,6 +160,9 @@ fn wake_settled(ready: &mut Ready, desk: &Desk, strand: u32, before: Settled)
     ensures low { before.low ≡ false → is_some (Pure.level_code desk.now (negsuc 0)) ≡ true → IsWhole ready.new }
     ensures zero { before.zero ≡ false → is_some (Pure.level_code desk.now (pos 0)) ≡ true → IsWhole ready.new }
 {
+    if before.primer && before.low && before.zero {
+        return;
+    }
     let primed = !before.primer && desk.is_primer(strand);
     let low = !before.low && desk.level_code(-1).is_some();
     let zero = !before.zero && desk.level_code(0).is_some();

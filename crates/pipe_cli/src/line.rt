@@ -1,4 +1,5 @@
-ghost use Rattle.std.specs.Prelude.{◌≡◌, ◌≤◌, ℕ, [], length, slice_get, IfOk, Some};
+ghost use Rattle.std.specs.Prelude.{◌≡◌, ◌≤◌, ℕ, [], length, slice_get, IfOk, Some, Box as Boxed};
+ghost use Rattle.std.specs.declared.alloc.Global.{Global};
 ghost use Rattle.pipe_model.specs.declared.net.Strand.{Strand as StrandIs};
 ghost use Rattle.pipe_model.specs.State.{nothing_yet, strand_at};
 ghost use Rattle.pipe_model.specs.Straight.{all_columns, chain};
@@ -105,16 +106,16 @@ fn links_of(alloc: Global, count: u32) -> Result<Vec<Link>, NoMemory>
     Ok(links)
 }
 
-// A stage for each strand of a net, before its first event.
-pub(crate) fn stages_of(alloc: Global, net: &Net) -> Result<Vec<FirstStage>, NoMemory>
+// A stage for each strand of a net, before its first event. They are boxed, since a core moves them with each job.
+pub(crate) fn stages_of(alloc: Global, net: &Net) -> Result<Vec<Box<FirstStage>>, NoMemory>
     requires { (s : ℕ) (p : StrandIs) → strand_at net.now nothing_yet s ≡ Some p → IsFirstKind p.kind }
     ensures count { IfOk result (λ stages. length stages.items ≡ length net.now.strands) }
-    ensures each { IfOk result (λ stages. (s : ℕ) (p : StrandIs) (stage : StageIs) → slice_get net.now.strands s ≡ Some p → slice_get stages.items s ≡ Some stage → FirstStands stage p []) }
+    ensures each { IfOk result (λ stages. (s : ℕ) (p : StrandIs) (stage : Boxed StageIs Global) → slice_get net.now.strands s ≡ Some p → slice_get stages.items s ≡ Some stage → FirstStands stage.value p []) }
 {
     let strands = net.strands.as_slice();
     let mut stages = Vec::new(alloc);
     for k in 0..strands.len() {
-        stages.push(FirstStage::new(alloc, &strands[k])?)?;
+        stages.push(Box::new(alloc, FirstStage::new(alloc, &strands[k])?)?)?;
     }
     Ok(stages)
 }

@@ -22,7 +22,7 @@ pub(crate) fn run_line<G: Gate>(
     strings: &Recs,
     bytes: Vec<u8>,
     gate: &G,
-) -> Result<Core<FirstStage>, Status>
+) -> Result<Core<Box<FirstStage>>, Status>
     requires { length strings.now ≤ 1022 }
     ensures { MatchResult result (λ core. HasCompleted bytes.items strings.now core) (λ status. StopsRunning bytes.items strings.now status) }
 {
@@ -37,7 +37,7 @@ pub(crate) fn run_line<G: Gate>(
 }
 
 // Its core before the first step.
-fn start_line(alloc: Global, strings: &Recs, bytes: Vec<u8>) -> Result<Core<FirstStage>, NoMemory>
+fn start_line(alloc: Global, strings: &Recs, bytes: Vec<u8>) -> Result<Core<Box<FirstStage>>, NoMemory>
     requires { length strings.now ≤ 1022 }
     ensures { IfOk result (λ core. (looking : List Bool) × (core ≡ started (net_of bytes.items strings.now) step_limit looking)) }
 {

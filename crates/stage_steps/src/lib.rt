@@ -1,6 +1,7 @@
 //! The sequential parts of stages: what a stage promises, the drivers that walk its pairs, and the first stages.
 #![tactic(auto)]
 
+mod boxed;
 mod first;
 mod kept;
 mod lists;
