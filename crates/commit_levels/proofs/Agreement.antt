@@ -132,14 +132,13 @@ module _ (level : ℤ) (is : IsLevel level) (net : Net) (st : State) (left : Lef
       let m = l.1 in
       let at : slice_get ms n ≡ Some m = ap (λ xs. slice_get xs n) l.2 ∙ ap (slice_get (front ++ m ∷ [])) (sym l.3) ∙ get_last front m in
       let before = all_by n front l.3 (λ k x found. each k x (ap (λ xs. slice_get xs k) l.2 ∙ get_front front m k x found)) in
-      let here = each n m at in
-      (
+      let here = each n m at in (
         ap (list_all (stands_at (place_of level))) l.2 ∙ all_last (stands_at (place_of level)) front m
-        ∙ ap (λ b. b && list_all (stands_at (place_of level)) front) (stands_as level is (past st n) (want_at net st left n) m here)
-        ∙ ap (λ b. licence.stands_at net st left level n && b) before.0,
+            ∙ ap (λ b. b && list_all (stands_at (place_of level)) front) (stands_as level is (past st n) (want_at net st left n) m here)
+            ∙ ap (λ b. licence.stands_at net st left level n && b) before.0,
         ap (worst_early (place_of level)) l.2 ∙ worst_last (place_of level) front m
-        ∙ ap (λ code. worst_of code (worst_early (place_of level) front)) (early_as level is (past st n) (want_at net st left n) m here)
-        ∙ ap (worst_of (licence.early_code level (past st n))) before.1
+            ∙ ap (λ code. worst_of code (worst_early (place_of level) front)) (early_as level is (past st n) (want_at net st left n) m here)
+            ∙ ap (worst_of (licence.early_code level (past st n))) before.1,
       )
 
 -- a unit that has the strands of a net by their numbers answers as the licence of each strand does

@@ -276,7 +276,7 @@ tally_out net journal [] last apart = tally_none (length net.strands)
 tally_out net journal (p ∷ ps) last apart =
     let w = last.0.whose in
     tally_more (left_by journal ps) (left_by journal (p ∷ ps)) w.0 (length net.strands)
-        (λ t other. ap (λ b. b || left_by journal ps t) (off t other (is_at journal t p) refl)) (apart.0 w.0 w.2) (ap (λ b. b || left_by journal ps w.0) w.2) w.1
+    (λ t other. ap (λ b. b || left_by journal ps t) (off t other (is_at journal t p) refl)) (apart.0 w.0 w.2) (ap (λ b. b || left_by journal ps w.0) w.2) w.1
     ∙ (let i = tally_out net journal ps last.1 apart.1 in (let z : tally (left_by journal ps) (length net.strands) + 1 ≡ suc (length ps) = omega (arith, i) in z))
   where
     off : (t : ℕ) → t ≢ last.0.whose.0 → (b : Bool) → is_at journal t p ≡ b → is_at journal t p ≡ false

@@ -40,9 +40,12 @@ invariant_of-self g c =
     let same = c.in_err-bring_home.ensures in
     let kept = c.bring_home.ensures.covers i.net (bytes_at i.pool) (play i.net i.journal.items) (left_by i.journal.items i.out.items) (sym c.as_slice.ensures) (sym old.size) old.formed old.run.kept in
     let covers : IsCovering i.desk c.bring_home.new.ready = subst (λ x. IsCovering x c.bring_home.new.ready) same.err (kept (subst AsksEarly (sym same.err) (asks_early g.S.Stage.stands g.S.Stage.is_looking i.net i.budget i.journal.items i.out.items i.actors.items i.desk i.pool i.ready c.self.invariant.0)) old.covers) in
-    let sound = sound_ready g.S.Stage.stands g.S.Stage.is_looking i.net i.budget i.journal.items i.out.items i.actors.items i.desk i.pool i.ready c.self.invariant.0 c.bring_home.new.ready c.bring_home.ensures.size covers in
-    (subst (λ x. IsSound g.S.Stage.stands g.S.Stage.is_looking i.net i.budget i.journal.items i.out.items i.actors.items x c.bring_home.new.pool c.bring_home.new.ready) (sym same.err)
-    (subst (λ x. IsSound g.S.Stage.stands g.S.Stage.is_looking i.net i.budget i.journal.items i.out.items i.actors.items i.desk x c.bring_home.new.ready) (sym same.err_pool) sound), c.self.invariant.1, c.self.invariant.2)
+    let sound = sound_ready g.S.Stage.stands g.S.Stage.is_looking i.net i.budget i.journal.items i.out.items i.actors.items i.desk i.pool i.ready c.self.invariant.0 c.bring_home.new.ready c.bring_home.ensures.size covers in (
+      subst (λ x. IsSound g.S.Stage.stands g.S.Stage.is_looking i.net i.budget i.journal.items i.out.items i.actors.items x c.bring_home.new.pool c.bring_home.new.ready) (sym same.err)
+          (subst (λ x. IsSound g.S.Stage.stands g.S.Stage.is_looking i.net i.budget i.journal.items i.out.items i.actors.items i.desk x c.bring_home.new.ready) (sym same.err_pool) sound),
+      c.self.invariant.1,
+      c.self.invariant.2,
+    )
 
 pub take_back-requires : goal.take_back-requires
 take_back-requires g c =
@@ -68,10 +71,12 @@ invariant_of-self-2 g c =
     let kept = c.bring_home.ensures.covers i.net (bytes_at i.pool) (play i.net i.journal.items) (left_by i.journal.items i.out.items) (sym c.as_slice.ensures) (sym old.size) old.formed old.run.kept in
     let covers = kept (came_early g.S.Stage.stands g.S.Stage.is_looking i.net i.budget i.journal.items i.out.items i.actors.items i.desk i.pool i.ready c.self.invariant.0 c.args.strand c.args.place c.args.stage c.args.want among done back.desk back.pool home) old.covers in
     let taken = c.take_back.ensures in
-    let sound = sound_home g.S.Stage.stands g.S.Stage.is_looking i.net i.budget i.journal.items i.out.items i.actors.items i.desk i.pool i.ready c.self.invariant.0 c.args.strand c.args.place c.args.stage c.args.want among done back.desk back.pool back.ready taken.0 taken.1 (came g.S.Stage.stands g.S.Stage.is_looking i.net i.budget i.journal.items i.out.items i.actors.items i.desk i.pool i.ready c.self.invariant.0 c.args.strand c.args.place c.args.stage c.args.want among done back.desk back.pool home) c.bring_home.ensures.size covers in
-    (subst (λ o. IsSound g.S.Stage.stands g.S.Stage.is_looking i.net i.budget i.journal.items o c.take_back.new.actors.items back.desk back.pool back.ready) (sym c.remove.ensures.items)
-    (subst (λ l. IsSound g.S.Stage.stands g.S.Stage.is_looking i.net i.budget i.journal.items (without c.args.place i.out.items) l back.desk back.pool back.ready) (sym (taken.2 ∙ ap (λ w. slice_set i.actors.items c.args.strand (come_back c.args.stage w taken.0)) c.bare.ensures)) sound),
-    c.self.invariant.1, subst (λ n. length i.net.strands ≤ n) (sym c.remove.ensures.capacity) c.self.invariant.2)
+    let sound = sound_home g.S.Stage.stands g.S.Stage.is_looking i.net i.budget i.journal.items i.out.items i.actors.items i.desk i.pool i.ready c.self.invariant.0 c.args.strand c.args.place c.args.stage c.args.want among done back.desk back.pool back.ready taken.0 taken.1 (came g.S.Stage.stands g.S.Stage.is_looking i.net i.budget i.journal.items i.out.items i.actors.items i.desk i.pool i.ready c.self.invariant.0 c.args.strand c.args.place c.args.stage c.args.want among done back.desk back.pool home) c.bring_home.ensures.size covers in (
+      subst (λ o. IsSound g.S.Stage.stands g.S.Stage.is_looking i.net i.budget i.journal.items o c.take_back.new.actors.items back.desk back.pool back.ready) (sym c.remove.ensures.items)
+          (subst (λ l. IsSound g.S.Stage.stands g.S.Stage.is_looking i.net i.budget i.journal.items (without c.args.place i.out.items) l back.desk back.pool back.ready) (sym (taken.2 ∙ ap (λ w. slice_set i.actors.items c.args.strand (come_back c.args.stage w taken.0)) c.bare.ensures)) sound),
+      c.self.invariant.1,
+      subst (λ n. length i.net.strands ≤ n) (sym c.remove.ensures.capacity) c.self.invariant.2,
+    )
 
 pub returns-clause-home : goal.returns-clause-home
 returns-clause-home g c =

@@ -36,6 +36,6 @@ finish-requires-clause-stands g c =
     ∙ sym (c.bytes_seen.ensures job.event (past (play m.net job.before) r.strand) past_here going (job.seen_is ∙ c.go_out-job.ensures.seen)) in
     let d = c.run-done.result in
     if_ok d.want (λ w resumed.
-        subst (λ z. DoneStands g.S.Stage.stands g.S.Stage.is_looking m.net m.looking (take d.place m.journal) z d.place d.stage w) (sym c.run-done.ensures.strand)
-        (subst (λ z. DoneStands g.S.Stage.stands g.S.Stage.is_looking m.net m.looking (take z m.journal) r.strand z d.stage w) (sym c.run-done.ensures.place)
-        (done_take g.S.Stage.stands g.S.Stage.is_looking m.net m.looking m.journal r.strand r.place r.seen r.stage job c.bytes_seen.result.now right d.stage w c.run-done.ensures.looks resumed))) c.run-done.ensures.resumes
+    subst (λ z. DoneStands g.S.Stage.stands g.S.Stage.is_looking m.net m.looking (take d.place m.journal) z d.place d.stage w) (sym c.run-done.ensures.strand)
+    (subst (λ z. DoneStands g.S.Stage.stands g.S.Stage.is_looking m.net m.looking (take z m.journal) r.strand z d.stage w) (sym c.run-done.ensures.place)
+    (done_take g.S.Stage.stands g.S.Stage.is_looking m.net m.looking m.journal r.strand r.place r.seen r.stage job c.bytes_seen.result.now right d.stage w c.run-done.ensures.looks resumed))) c.run-done.ensures.resumes

@@ -23,10 +23,12 @@ pub invariant_of-result : goal.invariant_of-result
 invariant_of-result g c =
     let called = if_fine c.call_all-called.result (sym c.is_err.ensures.value ∙ c.if-is_err.false) c.call_all-called.ensures.called in
     let new = c.call_all-called.new in
-    let sound = all_called g.S.Stage.stands g.S.Stage.is_looking c.args.net c.requires.formed new.actors.items new.desk new.pool new.ready c.args.budget c.requires.bounded called in
-    (subst (λ j. IsSound g.S.Stage.stands g.S.Stage.is_looking c.args.net c.args.budget j c.in_ok-out.out.items new.actors.items new.desk new.pool new.ready) (sym c.in_ok-journal.ensures.items)
-    (subst (λ o. IsSound g.S.Stage.stands g.S.Stage.is_looking c.args.net c.args.budget [] o new.actors.items new.desk new.pool new.ready) (sym c.in_ok-out.ensures.items) sound),
-    search rules, search rules)
+    let sound = all_called g.S.Stage.stands g.S.Stage.is_looking c.args.net c.requires.formed new.actors.items new.desk new.pool new.ready c.args.budget c.requires.bounded called in (
+      subst (λ j. IsSound g.S.Stage.stands g.S.Stage.is_looking c.args.net c.args.budget j c.in_ok-out.out.items new.actors.items new.desk new.pool new.ready) (sym c.in_ok-journal.ensures.items)
+          (subst (λ o. IsSound g.S.Stage.stands g.S.Stage.is_looking c.args.net c.args.budget [] o new.actors.items new.desk new.pool new.ready) (sym c.in_ok-out.ensures.items) sound),
+      search rules,
+      search rules,
+    )
 
 pub returns : goal.returns
 returns g c =
