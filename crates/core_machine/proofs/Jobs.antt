@@ -1,5 +1,5 @@
 -- A job that is run on its bytes may be finished.
-use Rattle.std.proofs.Common.{◌≡◌, ℕ, Bool, true, false, cond, ◌==◌, List, [], ◌∷◌, ◌++◌, length, refl, sym, ◌∙◌, ap, subst, Option, Some, None, slice_get}
+use Rattle.std.proofs.Common.{◌≡◌, ℕ, Bool, true, false, ◌==◌, List, [], ◌∷◌, length, refl, sym, ◌∙◌, ap, subst, Option, Some, None, slice_get}
 use Rattle.std.specs.Prelude.{take, Result, Ok, Err, IfOk}
 use Rattle.pipe_model.specs.declared.net.Net.{Net}
 use Rattle.pipe_model.specs.declared.net.Strand.{Strand}
@@ -9,10 +9,10 @@ use Rattle.pipe_model.specs.declared.step.Want.{Want as Asked}
 use Rattle.pipe_model.specs.Event.{Event, answers, has_ended}
 use Rattle.pipe_model.specs.Event.Event.{Up, Saw, SawEnd, SawAllEnd, Took, Put, Refused, Primed, Opened, Joined, Severed, Ended}
 use Rattle.pipe_model.specs.Next.{next}
-use Rattle.pipe_model.specs.State.{Who, past, nothing_yet, with_some_event, strand_at}
+use Rattle.pipe_model.specs.State.{past, nothing_yet, with_some_event, strand_at}
 use Rattle.pipe_model.specs.Licence.{none_left, want_after, licence}
 use Rattle.pipe_model.specs.Play.{play}
-use Rattle.stage_steps.specs.Coroutine.{told, bytes_with, meaning, last_seen, owed, IsTold, CanResume, Resumes}
+use Rattle.stage_steps.specs.Coroutine.{bytes_with, meaning, last_seen, owed, IsTold, CanResume, Resumes}
 use Rattle.confluence_laws.proofs.Basics.{at_same, test_same}
 use Rattle.confluence_laws.proofs.Owns.{answers_it}
 use Rattle.run_desk.proofs.Acts.{goes}

@@ -14,3 +14,4 @@ pub mod Stills
 pub mod Summaries
 pub mod Tales
 pub mod Wakes
+pub mod Works

@@ -1,6 +1,6 @@
 -- A sound core stays sound through a turn and a coming home.
-use Rattle.std.proofs.Common.{◌≡◌, ◌≢◌, ◌⊎◌, inl, inr, ℕ, zero, suc, ◌+◌, ◌≤◌, ◌<◌, Bool, true, false, cond, ◌||◌, ◌==◌, List, [], ◌∷◌, ◌++◌, length, refl, sym, ◌∙◌, ap, subst, arith, Option, Some, None, slice_get, slice_set, length-set, is_some, map, ℤ}
-use Rattle.std.specs.Prelude.{take, slice_index_or}
+use Rattle.std.proofs.Common.{◌≡◌, ◌≢◌, inl, inr, ℕ, zero, suc, ◌+◌, ◌≤◌, ◌<◌, Bool, true, false, cond, ◌||◌, ◌==◌, List, [], ◌∷◌, ◌++◌, length, refl, sym, ◌∙◌, ap, subst, arith, Option, Some, None, slice_get, slice_set, length-set, is_some, map}
+use Rattle.std.specs.Prelude.{take}
 use Rattle.std.specs.Option.{option_map, option_map_or}
 use Rattle.pipe_model.specs.declared.net.Net.{Net}
 use Rattle.pipe_model.specs.declared.net.Strand.{Strand}
@@ -17,7 +17,7 @@ use Rattle.pipe_model.specs.Next.{next, wanted_by, IsOwn}
 use Rattle.pipe_model.specs.Table.{form}
 use Rattle.pipe_model.specs.State.{Who, State, past, nothing_yet, with_event, with_some_event, strand_at, link_in}
 use Rattle.pipe_model.specs.Licence.{Left, none_left, want_after, want_at, at_hand, answer, sight_of, licence}
-use Rattle.pipe_model.specs.Play.{step, IsLicensed, play_from, IsLegalFrom, IsLegal, play}
+use Rattle.pipe_model.specs.Play.{step, IsLicensed, play_from, IsLegalFrom, play}
 use Rattle.pipe_model.specs.WellFormed.{IsWellFormed}
 use Rattle.record_pool.specs.declared.pool.Held.{Held}
 use Rattle.record_pool.specs.Places.{bytes_at}
@@ -25,7 +25,7 @@ use Rattle.stage_steps.specs.Coroutine.{told, bytes_with, meaning, last_seen}
 use Rattle.run_desk.specs.Desk.{DeskState}
 use Rattle.run_desk.specs.declared.seat.Ask.TheVariants as Now
 use Rattle.run_desk.specs.Kept.{left_out, left_in, asked, IsKept}
-use Rattle.run_desk.specs.Moves.{made, pool_moved, CanMove, CanCome, HasCome, hand_on, sight_through}
+use Rattle.run_desk.specs.Moves.{made, pool_moved, CanMove, CanCome, hand_on, sight_through}
 use Rattle.connectors.specs.WireState.{IsHeldIn}
 use Rattle.run_desk.specs.Order.{IsRun}
 use Rattle.run_desk.specs.Pure as Pure
@@ -46,9 +46,9 @@ use Rattle.core_machine.specs.Answered.{LeastReady, Shows}
 use Rattle.core_machine.specs.Jobs.{JobStands, DoneStands}
 use Rattle.core_machine.specs.Machine.{is_of, is_at, left_by, without, is_among, looks_at, IsLawful}
 use Rattle.core_machine.specs.Members.{Members}
-use Rattle.core_machine.specs.Sound.{IsLast, AreLast, AreApart, IsActor, AreActors, IsSound}
+use Rattle.core_machine.specs.Sound.{IsLast, IsActor, AreActors, IsSound}
 use Rattle.core_machine.specs.Woken.{IsCovering, AsksEarly, AreInside, HasReturned, LeastAwake}
-use Rattle.core_machine.proofs.Away.{get_before, left_turned, last_turned, apart_turned, left_home, apart_home, last_home, among_last, among_left, one_strand, fewer_out}
+use Rattle.core_machine.proofs.Away.{left_turned, last_turned, apart_turned, left_home, apart_home, last_home, among_last, among_left, one_strand, fewer_out}
 
 -- Lists
 

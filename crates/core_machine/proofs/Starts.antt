@@ -1,5 +1,5 @@
 -- A core before the first step is sound.
-use Rattle.std.proofs.Common.{◌≡◌, ◌≢◌, ◌⊎◌, inl, inr, ℕ, zero, suc, ◌+◌, ◌≤◌, ◌<◌, Bool, true, false, cond, ◌&&◌, ◌||◌, not, nat_lt, ◌==◌, List, [], ◌∷◌, length, refl, sym, ◌∙◌, ap, subst, arith, Option, Some, None, slice_get, slice_set, length-set, is_some, map}
+use Rattle.std.proofs.Common.{◌≡◌, ◌≢◌, inl, inr, ℕ, zero, suc, ◌≤◌, ◌<◌, Bool, true, false, cond, ◌&&◌, not, nat_lt, ◌==◌, List, [], ◌∷◌, length, refl, sym, ◌∙◌, ap, subst, arith, Option, Some, None, slice_get, slice_set, length-set, is_some, map}
 use Rattle.std.proofs.lemmas.Bool.Decides.{nat_tests}
 use Rattle.std.specs.Option.{option_map}
 use Rattle.std.specs.Prelude.{Result, Ok, Err, IfOk, OnErr}
@@ -8,11 +8,10 @@ use mathlib.Core.Path.{fun_ext}
 use Rattle.pipe_model.specs.declared.net.Net.{Net}
 use Rattle.pipe_model.specs.declared.net.Strand.{Strand}
 use Rattle.pipe_model.specs.declared.step.Want.{Want as Asked}
-use Rattle.pipe_model.specs.Event.{Event, Want, has_ended}
+use Rattle.pipe_model.specs.Event.{Event, Want}
 use Rattle.pipe_model.specs.Next.{next, IsOwn}
-use Rattle.pipe_model.specs.State.{Who, State, past, nothing_yet, strand_at}
-use Rattle.pipe_model.specs.Licence.{Left, none_left, want_after, want_at, answer, sight_of, licence}
-use Rattle.pipe_model.specs.Play.{play}
+use Rattle.pipe_model.specs.State.{Who, past, nothing_yet, strand_at}
+use Rattle.pipe_model.specs.Licence.{none_left, want_after, want_at, answer, sight_of, licence}
 use Rattle.pipe_model.specs.WellFormed.{IsWellFormed}
 use Rattle.record_pool.specs.declared.pool.Held.{Held}
 use Rattle.record_pool.specs.Places.{bytes_at}
@@ -27,12 +26,11 @@ use Rattle.run_desk.proofs.Sees.{seen_is}
 use Rattle.confluence_laws.proofs.Basics.{equal_or_not, test_same, test_apart, at_some, at_place}
 use Rattle.core_machine.specs.declared.actor.Actor.{Actor}
 use Rattle.core_machine.specs.Actors.{bare}
-use Rattle.core_machine.specs.Machine.{left_by}
-use Rattle.core_machine.specs.Members.{Members, is_member}
-use Rattle.core_machine.specs.Sound.{IsActor, AreActors, IsSound}
+use Rattle.core_machine.specs.Members.{Members}
+use Rattle.core_machine.specs.Sound.{IsActor, IsSound}
 use Rattle.core_machine.specs.Start.{AreFresh, IsCalled, new_actor, asking_for}
 use Rattle.core_machine.specs.Woken.{IsCovering, AsksEarly}
-use Rattle.core_machine.proofs.Sounds.{get_set_same, get_set_other, looks_of, looks_same, shows_bare, early_on}
+use Rattle.core_machine.proofs.Sounds.{get_set_same, get_set_other, looks_of, shows_bare, early_on}
 
 -- before the first step every history is a strand's own
 pub own_first : (net : Net) (t : Who) (q : Strand) → strand_at net nothing_yet t ≡ Some q → IsOwn q (past nothing_yet t)

@@ -1,9 +1,9 @@
 -- A run is made of its steps.
-use Rattle.std.proofs.Common.{◌≡◌, ◌≤◌, ℕ, Bool, true, false, List, [], ◌∷◌, ◌++◌, length, refl, sym, ◌∙◌, ap, subst, arith, Some, None}
+use Rattle.std.proofs.Common.{◌≡◌, ◌≤◌, ℕ, true, false, List, [], ◌∷◌, ◌++◌, length, refl, sym, ◌∙◌, ap, subst, arith, Some, None}
 use Rattle.std.specs.Prelude.{Result, Ok, Err, OnErr}
 use Rattle.pipe_model.specs.declared.step.Entry.{Entry}
 use Rattle.core_machine.specs.declared.job.RunEnd.TheVariants.{Complete, Spent}
-use Rattle.core_machine.specs.Answered.{LeastReady, AreLeast, HasRun, HasBroken, Stepped, Ends, IsLonger}
+use Rattle.core_machine.specs.Answered.{LeastReady, AreLeast, HasRun, HasBroken, Stepped, Ends}
 use Rattle.core_machine.specs.Machine.{Machine, IsLawful}
 
 append_twice : (xs : List Entry) (x : Entry) (ys : List Entry) → (xs ++ x ∷ []) ++ ys ≡ xs ++ x ∷ ys

@@ -1,5 +1,5 @@
 -- How what is kept of a strand changes when its coroutine goes out, and when it comes back.
-use Rattle.std.specs.Prelude.{ℕ, true, ◌||◌, Bool, false, ◌==◌, [], Option, Some, None}
+use Rattle.std.specs.Prelude.{◌||◌, Bool, false, ◌==◌, [], Some, None}
 use Rattle.pipe_model.specs.declared.step.Out.TheVariants.{Fresh}
 use Rattle.pipe_model.specs.declared.step.Seen.{Seen}
 use Rattle.pipe_model.specs.declared.step.Seen.TheVariants.{SawEnd}

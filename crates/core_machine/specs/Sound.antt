@@ -1,10 +1,10 @@
 -- What a core keeps: its coroutines, its desk and its pool stand for its journal and the jobs that are out.
-use Rattle.std.specs.Prelude.{◌≡◌, ℕ, ◌<◌, ◌≤◌, Bool, true, false, List, [], ◌∷◌, length, Option, Some, None, slice_get, take, map, is_some, ℤ, pos, negsuc, ◌⊎◌}
+use Rattle.std.specs.Prelude.{◌≡◌, ℕ, ◌<◌, ◌≤◌, Bool, true, false, List, [], ◌∷◌, length, Option, Some, slice_get, take, is_some}
 use Rattle.pipe_model.specs.declared.net.Net.{Net}
 use Rattle.pipe_model.specs.declared.net.Strand.{Strand}
 use Rattle.pipe_model.specs.declared.step.Entry.{Entry}
 use Rattle.pipe_model.specs.Event.{Event, Want, has_seen_end}
-use Rattle.pipe_model.specs.State.{Who, State, past, strand_at}
+use Rattle.pipe_model.specs.State.{Who, past, strand_at}
 use Rattle.pipe_model.specs.Licence.{want_at}
 use Rattle.pipe_model.specs.Play.{play, IsLegal}
 use Rattle.pipe_model.specs.WellFormed.{IsWellFormed}

@@ -1,4 +1,15 @@
-use crate::Ready;
+ghost use Rattle.std.specs.Prelude.{◌≡◌, ◌<◌, ◌≤◌, ◌^◌, List, Bool, length, IfOk};
+ghost use Rattle.confluence_laws.specs.Examples.{strand, filtering, link, locate};
+ghost use Rattle.core_machine.specs.Machine.{started};
+
+use crate::{Core, Ready, RunEnd, Turned};
+use outside::OpenGate;
+use pipe_model::{
+    Entry, Flags, Kind, Link, Links, Net, NoMemory, Ports, Range, Rec, Seen, Span, StageName,
+    Strand, Strands, Want,
+};
+use stage_steps::FirstStage;
+use std::alloc::Global;
 use std::test::Fail;
 
 #[test]
@@ -28,5 +39,178 @@ fn all_strands_are_put_in(rt: HostRuntime) -> Result<(), Fail> {
     assert!(rt; !ready.has(130));
     ready.remove(0);
     assert_eq!(rt; ready.least(), Some(1));
+    Ok(())
+}
+
+// A strand whose stage has one strand, named by its number.
+fn strand(
+    alloc: Global,
+    number: u32,
+    kind: Kind,
+    inputs: &[bool],
+    outputs: &[bool],
+) -> Result<Strand, NoMemory>
+    requires few_inputs { length inputs.now < 2 ^ 16 }
+    requires few_outputs { length outputs.now < 2 ^ 16 }
+    ensures { IfOk result (λ made. made ≡ strand number kind inputs.now outputs.now) }
+{
+    let mut path = Vec::new(alloc);
+    path.push(number)?;
+    Ok(Strand {
+        name: StageName::from_vec(path),
+        kind,
+        part: 0,
+        unit: 0,
+        ports: Ports {
+            inputs: inputs.len() as u16,
+            outputs: outputs.len() as u16,
+            has_input: Flags::from_vec(Vec::from_slice(alloc, inputs)?),
+            has_output: Flags::from_vec(Vec::from_slice(alloc, outputs)?),
+        },
+    })
+}
+
+fn located(alloc: Global, string: &[u8]) -> Result<Kind, NoMemory>
+    ensures { IfOk result (λ kind. kind ≡ locate string.now) }
+{
+    let range = Range {
+        span: Span::Columns,
+        first: 1,
+        last: None,
+    };
+    Ok(Kind::Locate {
+        range,
+        text: Some(Rec::from_slice(alloc, string)?),
+    })
+}
+
+const fn rendezvous(from: u32, to: u32) -> Link
+    ensures { result ≡ link from 0 to 0 }
+{
+    Link {
+        from,
+        output: 0,
+        to,
+        input: 0,
+        queue: false,
+    }
+}
+
+// A core of `console | locate /b/ | console` on three records, before its first step.
+fn filtering_core(alloc: Global, budget: u64) -> Result<Core<FirstStage>, NoMemory>
+    requires { budget ≤ 50000000 }
+    ensures { IfOk result (λ core. (looking : List Bool) × (core ≡ started filtering budget looking)) }
+{
+    let bytes = Rec::from_slice(alloc, b"ab\ncd\nb")?;
+    let reader = strand(alloc, 0, Kind::ConsoleIn { bytes }, &[], &[true])?;
+    let selector = strand(alloc, 1, located(alloc, b"b")?, &[true], &[true])?;
+    let writer = strand(alloc, 2, Kind::ConsoleOut, &[true], &[false])?;
+    let stages = vec![in alloc;
+        FirstStage::new(alloc, &reader)?,
+        FirstStage::new(alloc, &selector)?,
+        FirstStage::new(alloc, &writer)?,
+    ]?;
+    let strands = vec![in alloc; reader, selector, writer]?;
+    let links = vec![in alloc; rendezvous(0, 1), rendezvous(1, 2)]?;
+    let net = Net {
+        strands: Strands::from_vec(strands),
+        links: Links::from_vec(links),
+    };
+    Core::start(alloc, net, stages, budget)
+}
+
+// The records with a b are kept, and all strands end.
+#[test]
+fn a_run_keeps_what_is_selected(rt: HostRuntime) -> Result<(), Fail> {
+    let alloc = rt.alloc();
+    let mut core = filtering_core(alloc, 4_000_000)?;
+    assert!(rt; matches!(core.want_of(1), Some(Want::Commit(-1))));
+    assert_eq!(rt; core.ready_stream(1), Some(0));
+    assert!(rt; !core.is_complete());
+    let end = core.run_one_thread(alloc, &OpenGate)?;
+    assert_eq!(rt; end, RunEnd::Complete);
+    assert_eq!(rt; core.len(), 26);
+    assert!(rt; core.kept(2) == b"ab\nb\n".as_slice());
+    assert_eq!(rt;
+        [core.end_of(0), core.end_of(1), core.end_of(2)],
+        [Some(0), Some(0), Some(0)]
+    );
+    assert!(rt; core.saw_end(2) && !core.saw_end(0));
+    assert!(rt; core.is_complete() && !core.is_broken());
+    assert_eq!(rt; core.out_count(), 0);
+    Ok(())
+}
+
+// How a run of these many entries at most ends, and how many it has.
+fn run_within(alloc: Global, budget: u64) -> Result<(RunEnd, u64), NoMemory>
+    requires { budget ≤ 50000000 }
+{
+    let mut core = filtering_core(alloc, budget)?;
+    let end = core.run_one_thread(alloc, &OpenGate)?;
+    Ok((end, core.len()))
+}
+
+#[test]
+fn a_budget_of_all_entries_is_enough(rt: HostRuntime) -> Result<(), Fail> {
+    let alloc = rt.alloc();
+    assert_eq!(rt;
+        [run_within(alloc, 26)?, run_within(alloc, 25)?],
+        [(RunEnd::Complete, 26), (RunEnd::Spent, 25)]
+    );
+    Ok(())
+}
+
+// A strand's event, with its work. While the strand is out it may have no other.
+fn work(
+    core: &mut Core<FirstStage>,
+    alloc: Global,
+    strand: u32,
+    room: &mut Vec<u8>,
+) -> Result<Option<Seen>, NoMemory> {
+    let Turned::Work(job) = core.turn(strand, 0, room) else {
+        return Ok(None);
+    };
+    let Turned::NotReady = core.turn(strand, 0, &mut Vec::new(alloc)) else {
+        return Ok(None);
+    };
+    let seen = job.seen();
+    let done = job.run(alloc, room);
+    core.finish(done)?;
+    Ok(Some(seen))
+}
+
+fn last_entry(core: &Core<FirstStage>) -> Option<Entry> {
+    let count = core.len();
+    if count == 0 {
+        return None;
+    }
+    Some(core.entry(count))
+}
+
+// A record is seen by a strand that looks only where the room can hold it.
+#[test]
+fn a_turn_is_made_where_it_may_be(rt: HostRuntime) -> Result<(), Fail> {
+    let alloc = rt.alloc();
+    let mut core = filtering_core(alloc, 10)?;
+    let mut none = Vec::new(alloc);
+    assert!(rt; core.is_ready(0, 0) && !core.is_ready(0, 1));
+    assert!(rt; matches!(core.turn(0, 1, &mut none), Turned::NotReady));
+    assert_eq!(rt; last_entry(&core), None);
+    for (strand, seen) in [
+        (0, Seen::Up(-1, 0)),
+        (1, Seen::Up(-1, 0)),
+        (2, Seen::Up(-1, 0)),
+        (0, Seen::Up(0, 0)),
+        (1, Seen::Up(0, 0)),
+    ] {
+        assert_eq!(rt; work(&mut core, alloc, strand, &mut none)?, Some(seen), "at {strand}");
+        assert_eq!(rt; last_entry(&core), Some(Entry { strand, stream: 0 }));
+    }
+    assert!(rt; none.is_empty() && core.out_count() == 0);
+    assert!(rt; matches!(core.turn(1, 0, &mut none), Turned::Room(2)));
+    let mut room = Vec::with_capacity(alloc, 2)?;
+    assert_eq!(rt; work(&mut core, alloc, 1, &mut room)?, Some(Seen::Saw(0)));
+    assert!(rt; room.as_slice() == b"ab".as_slice());
+    assert_eq!(rt; core.len(), 6);
     Ok(())
 }

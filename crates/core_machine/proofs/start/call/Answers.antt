@@ -1,12 +1,7 @@
-use Rattle.std.proofs.Common.{◌≡◌, ◌+◌, ℕ, suc, Some, List, [], length, slice_get, slice_set, refl, sym, ◌∙◌, ap, subst, arith}
-use Rattle.pipe_model.specs.declared.net.Strand.{Strand}
-use Rattle.pipe_model.specs.Next.{next}
+use Rattle.std.proofs.Common.{◌≡◌, ◌+◌, suc, length, slice_get, slice_set, refl, sym, ◌∙◌, ap, subst, arith}
 use Rattle.pipe_model.specs.State.{nothing_yet}
 use Rattle.record_pool.specs.Places.{bytes_at}
-use Rattle.stage_steps.specs.Coroutine.{meaning, last_seen}
 use Rattle.run_desk.specs.Order.{out_from}
-use Rattle.core_machine.specs.declared.actor.Actor.{Actor}
-use Rattle.core_machine.specs.Actors.{bare}
 use Rattle.core_machine.specs.Start.{IsCalled, asking_for}
 use Rattle.core_machine.specs.Woken.{AreInside}
 use Rattle.core_machine.proofs.Sounds.{looks_of, looks_same, links_inside}

@@ -1,4 +1,4 @@
-use Rattle.std.proofs.Common.{rules, ◌≡◌, ◌≤◌, length, subst, sym, ap, arith}
+use Rattle.std.proofs.Common.{◌≡◌, length, subst, arith}
 use Rattle.core_machine.specs.Start.{IsCalled}
 use Rattle.core_machine.proofs.start.call_all.Goals as goal
 

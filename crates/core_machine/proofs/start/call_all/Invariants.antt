@@ -1,4 +1,4 @@
-use Rattle.std.proofs.Common.{◌≡◌, ◌-◌, ◌<◌, ◌≤◌, length, map}
+use Rattle.std.proofs.Common.{◌≡◌, ◌-◌, ◌≤◌, length}
 use Rattle.core_machine.specs.Start.{IsCalled}
 use Rattle.core_machine.proofs.Sounds.{looks_of}
 use Rattle.core_machine.proofs.start.call_all.Given as goal

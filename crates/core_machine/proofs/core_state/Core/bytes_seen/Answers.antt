@@ -1,15 +1,7 @@
-use Rattle.std.proofs.Common.{rules, ◌≡◌, ◌<◌, ◌≤◌, ℕ, zero, suc, Some, None, Bool, true, false, length, slice_get, slice_set, take, vec_capacity, is_some, List, ◌∷◌, ◌++◌, [], arith, refl, sym, ◌∙◌, ap, subst, Option, map}
-use Rattle.std.specs.Option.{option_map_or}
-use Rattle.pipe_model.specs.declared.step.Seen.TheVariants as Told
-use Rattle.pipe_model.specs.Event.{Event, has_ended}
+use Rattle.std.proofs.Common.{◌≡◌, ◌∷◌, sym, ◌∙◌, ap, subst}
 use Rattle.pipe_model.specs.State.{past}
-use Rattle.pipe_model.specs.Licence.{licence}
-use Rattle.pipe_model.specs.Play.{play}
-use Rattle.record_pool.specs.Places.{bytes_at}
-use Rattle.stage_steps.specs.Coroutine.{told, bytes_with}
-use Rattle.run_desk.specs.Moves.{hand_on, sight_through}
-use Rattle.run_desk.specs.Pure as Pure
-use Rattle.core_machine.specs.Machine.{Machine, left_by, licence_of, state_of, looks_at}
+use Rattle.stage_steps.specs.Coroutine.{bytes_with}
+use Rattle.core_machine.specs.Machine.{Machine, state_of}
 use Rattle.core_machine.proofs.Sounds.{looks_of, sight_held, bytes_are}
 use Rattle.core_machine.proofs.core_state.Core.bytes_seen.Goals as goal
 

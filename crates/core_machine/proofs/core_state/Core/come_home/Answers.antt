@@ -1,8 +1,7 @@
-use Rattle.std.proofs.Common.{rules, ◌≡◌, ◌<◌, ◌≤◌, ℕ, zero, suc, Some, None, Bool, true, false, length, slice_get, slice_set, take, vec_capacity, List, ◌∷◌, ◌++◌, [], arith, refl, sym, ◌∙◌, ap, subst, Option, map}
-use Rattle.pipe_model.specs.declared.step.Entry.{Entry}
+use Rattle.std.proofs.Common.{◌≡◌, ◌<◌, ◌≤◌, ℕ, Bool, true, length, slice_set, take, List, arith, refl, sym, ◌∙◌, ap, subst}
 use Rattle.pipe_model.specs.Play.{play}
 use Rattle.record_pool.specs.Places.{bytes_at}
-use Rattle.core_machine.specs.Actors.{come_back, bare}
+use Rattle.core_machine.specs.Actors.{come_back}
 use Rattle.core_machine.specs.Jobs.{DoneStands}
 use Rattle.core_machine.specs.Machine.{Machine, left_by, without, is_among, came_home}
 use Rattle.core_machine.specs.Sound.{IsSound}

@@ -1,12 +1,9 @@
-use Rattle.std.proofs.Common.{rules, ◌≡◌, ◌<◌, ◌≤◌, ℕ, zero, suc, Some, None, Bool, true, false, length, slice_get, take, vec_capacity, is_some, List, ◌∷◌, ◌++◌, [], arith, refl, sym, ◌∙◌, ap, subst, Option, map}
-use Rattle.pipe_model.specs.declared.step.Entry.{Entry}
-use Rattle.pipe_model.specs.Event.{Event, has_ended}
+use Rattle.std.proofs.Common.{◌≡◌, take, ◌∷◌, sym, ◌∙◌, ap, subst}
 use Rattle.pipe_model.specs.State.{past}
 use Rattle.pipe_model.specs.Play.{play}
-use Rattle.stage_steps.specs.Coroutine.{told, bytes_with}
-use Rattle.core_machine.specs.Answered.{LeastReady, Stepped, HasBroken}
-use Rattle.core_machine.specs.Jobs.{JobStands, DoneStands}
-use Rattle.core_machine.specs.Machine.{Machine, left_by, licence_of, state_of, looks_at, turned}
+use Rattle.stage_steps.specs.Coroutine.{bytes_with}
+use Rattle.core_machine.specs.Jobs.{DoneStands}
+use Rattle.core_machine.specs.Machine.{state_of, looks_at}
 use Rattle.core_machine.proofs.Jobs.{job_past, job_goes, can_run, done_take, if_ok}
 use Rattle.core_machine.proofs.core_state.Core.go_on.Goals as goal
 

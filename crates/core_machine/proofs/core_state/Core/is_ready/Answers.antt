@@ -1,16 +1,5 @@
-use Rattle.std.proofs.Common.{rules, ◌≡◌, ◌<◌, ◌≤◌, ℕ, zero, suc, Some, None, true, false, length, slice_get, slice_set, take, vec_capacity, is_some, List, ◌∷◌, ◌++◌, [], arith, refl, sym, ◌∙◌, ap, subst, Option, map}
-use Rattle.pipe_model.specs.declared.step.Entry.{Entry}
-use Rattle.pipe_model.specs.Event.{Event}
-use Rattle.pipe_model.specs.Licence.{licence}
-use Rattle.pipe_model.specs.Play.{play}
-use Rattle.record_pool.specs.Places.{bytes_at}
-use Rattle.stage_steps.specs.Coroutine.{told}
-use Rattle.run_desk.specs.Moves.{made, pool_moved, CanMove}
-use Rattle.core_machine.specs.Actors.{gone_out}
-use Rattle.core_machine.specs.Machine.{Machine, left_by, licence_of, looks_at}
-use Rattle.core_machine.specs.Jobs.{JobStands}
-use Rattle.core_machine.specs.Sound.{IsSound}
-use Rattle.core_machine.specs.Woken.{AreInside}
+use Rattle.std.proofs.Common.{◌≡◌, is_some, ◌∙◌, ap, subst}
+use Rattle.core_machine.specs.Machine.{Machine, licence_of}
 use Rattle.core_machine.proofs.Sounds.{looks_of, ready_is}
 use Rattle.core_machine.proofs.core_state.Core.is_ready.Goals as goal
 

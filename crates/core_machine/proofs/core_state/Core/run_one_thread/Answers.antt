@@ -1,4 +1,4 @@
-use Rattle.std.proofs.Common.{rules, ◌≡◌, ◌≤◌, true, false, length, sym, ◌∙◌, ap, subst, Some, None}
+use Rattle.std.proofs.Common.{rules, ◌≤◌, length, ◌∙◌, subst}
 use Rattle.core_machine.specs.Answered.{Stepped}
 use Rattle.core_machine.specs.Machine.{Machine, IsLawful}
 use Rattle.core_machine.proofs.Steps.{run_none, run_step, step_out, run_stops, run_idles, run_spends, run_breaks, on_err}

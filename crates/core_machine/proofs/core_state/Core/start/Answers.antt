@@ -1,7 +1,5 @@
-use Rattle.std.proofs.Common.{rules, ◌≡◌, ◌<◌, ◌≤◌, ℕ, Bool, false, length, vec_capacity, List, [], refl, sym, ◌∙◌, ap, subst, arith, map}
-use Rattle.pipe_model.specs.declared.net.Net.{Net}
-use Rattle.core_machine.specs.declared.actor.Actor.{Actor}
-use Rattle.core_machine.specs.Machine.{Machine, started}
+use Rattle.std.proofs.Common.{rules, ◌≡◌, ◌<◌, ℕ, Bool, false, length, List, [], sym, ◌∙◌, ap, subst, map}
+use Rattle.core_machine.specs.Machine.{Machine}
 use Rattle.core_machine.specs.Sound.{IsSound}
 use Rattle.core_machine.specs.Start.{IsCalled, new_actor}
 use Rattle.core_machine.proofs.Sounds.{looks_of}

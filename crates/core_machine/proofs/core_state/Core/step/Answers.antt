@@ -1,12 +1,5 @@
-use Rattle.std.proofs.Common.{rules, ◌≡◌, ◌<◌, ◌≤◌, ℕ, zero, suc, Some, None, Bool, true, false, length, slice_get, take, vec_capacity, is_some, List, ◌∷◌, ◌++◌, [], arith, refl, sym, ◌∙◌, ap, subst, Option, map}
-use Rattle.pipe_model.specs.declared.step.Entry.{Entry}
-use Rattle.pipe_model.specs.Event.{Event, has_ended}
-use Rattle.pipe_model.specs.State.{past}
-use Rattle.pipe_model.specs.Play.{play}
-use Rattle.stage_steps.specs.Coroutine.{told, bytes_with}
-use Rattle.core_machine.specs.Answered.{LeastReady, Stepped, HasBroken}
-use Rattle.core_machine.specs.Jobs.{JobStands, DoneStands}
-use Rattle.core_machine.specs.Machine.{Machine, left_by, licence_of, state_of, looks_at, turned}
+use Rattle.std.proofs.Common.{rules, ◌≡◌, Some, None, true, false, is_some, sym, ◌∙◌, ap, subst}
+use Rattle.core_machine.specs.Machine.{Machine, licence_of}
 use Rattle.core_machine.proofs.Sounds.{looks_of, none_is, some_is}
 use Rattle.core_machine.proofs.core_state.Core.step.Goals as goal
 

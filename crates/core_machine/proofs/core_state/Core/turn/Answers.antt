@@ -1,12 +1,8 @@
-use Rattle.std.proofs.Common.{rules, ◌≡◌, ◌<◌, ◌≤◌, ℕ, zero, suc, Some, None, Bool, true, false, length, slice_get, take, vec_capacity, is_some, List, ◌∷◌, ◌++◌, [], arith, refl, sym, ◌∙◌, ap, subst, Option, map}
-use Rattle.pipe_model.specs.declared.step.Entry.{Entry}
-use Rattle.pipe_model.specs.Event.{Event}
+use Rattle.std.proofs.Common.{rules, ◌≡◌, ◌<◌, ◌≤◌, Some, None, false, length, vec_capacity, is_some, ◌∷◌, arith, refl, sym, ◌∙◌, ap, subst}
 use Rattle.pipe_model.specs.State.{past}
-use Rattle.pipe_model.specs.Licence.{licence}
 use Rattle.pipe_model.specs.Play.{play}
-use Rattle.stage_steps.specs.Coroutine.{told, bytes_with}
-use Rattle.core_machine.specs.Answered.{IsLook}
-use Rattle.core_machine.specs.Machine.{Machine, left_by, licence_of, state_of, looks_at, turned, IsLawful}
+use Rattle.stage_steps.specs.Coroutine.{bytes_with}
+use Rattle.core_machine.specs.Machine.{Machine, licence_of, state_of, looks_at, turned, IsLawful}
 use Rattle.core_machine.proofs.Sounds.{looks_of, none_is, some_is, look_of, turned_past, goes_on, lawful_turned}
 use Rattle.core_machine.proofs.core_state.Core.turn.Goals as goal
 

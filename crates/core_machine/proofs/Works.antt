@@ -1,0 +1,68 @@
+-- The job that a turn gave is run on the bytes of the room, and finished.
+use Rattle.std.proofs.Common.{◌≡◌, ℕ, Bool, List, [], ◌∷◌, ◌++◌, refl, sym, ◌∙◌, ap, subst, Some}
+use Rattle.std.specs.Prelude.{take, IfOk}
+use Rattle.pipe_model.specs.declared.net.Strand.{Strand}
+use Rattle.pipe_model.specs.declared.step.Entry.{Entry}
+use Rattle.pipe_model.specs.Event.{Event}
+use Rattle.pipe_model.specs.Licence.{licence, none_left}
+use Rattle.pipe_model.specs.Play.{play}
+use Rattle.stage_steps.specs.Coroutine.{bytes_with, CanResume, Resumes}
+use Rattle.confluence_laws.proofs.LeftOut.{licensed_too}
+use Rattle.core_machine.specs.declared.job.Job.{Job}
+use Rattle.core_machine.specs.declared.job.Finished.{Finished}
+use Rattle.core_machine.specs.declared.job.Turned.TheVariants.{Work}
+use Rattle.core_machine.specs.Answered.{TurnedAs}
+use Rattle.core_machine.specs.Jobs.{JobStands, DoneStands}
+use Rattle.core_machine.specs.Machine.{Machine, left_by, looks_at, state_of}
+use Rattle.core_machine.proofs.Jobs.{can_run, done_take, if_ok}
+
+front_and_last : {X : Type 0} (xs ys : List X) (x y : X) → xs ++ x ∷ [] ≡ ys ++ y ∷ [] → (xs ≡ ys) × (x ≡ y)
+front_and_last [] [] x y e = (refl, cc)
+front_and_last [] (z ∷ []) x y e = cc
+front_and_last [] (z ∷ w ∷ zs) x y e = cc
+front_and_last (z ∷ []) [] x y e = cc
+front_and_last (z ∷ w ∷ zs) [] x y e = cc
+front_and_last (z ∷ zs) (w ∷ ws) x y e =
+    let heads : z ≡ w = cc in
+    let tails : zs ++ x ∷ [] ≡ ws ++ y ∷ [] = cc in
+    let rest = front_and_last zs ws x y tails in
+    let fronts = rest.0 in
+    (cc, rest.1)
+
+module _ {S : Type 0} (stands : S → Strand → List Event → Type 0) (is_looking : S → Bool) (m n : Machine) (s k room : ℕ) (job : Job S) (bytes : List ℕ) (turned : TurnedAs stands is_looking m s k room (Work job) n bytes) where
+  given : JobStands stands is_looking n.net n.looking n.journal job.strand job.place job.seen job.stage
+  given = turned.4
+
+  its_event : given.event ≡ turned.5.0
+  its_event =
+      let ends = front_and_last m.journal given.before _ given.entry (sym (ap (λ (z : Machine). z.journal) turned.2) ∙ given.journal_is) in
+      let journals : given.before ≡ m.journal = sym ends.0 in
+      let streams : given.entry.stream ≡ k = ap (λ (z : Entry). z.stream) (sym ends.1) in
+      let nets : n.net ≡ m.net = ap (λ (z : Machine). z.net) turned.2 in
+      let strands : job.strand ≡ s = turned.3 in
+      let was : licence n.net (play n.net given.before) none_left job.strand given.entry.stream ≡ Some given.event = given.licensed in
+      let may : licence m.net (play m.net m.journal) none_left s k ≡ Some turned.5.0 = licensed_too m.net (state_of m) (left_by m.journal m.out) s k turned.5.0 turned.5.1 in
+      cc
+
+  -- the bytes of the room are those of the job's event
+  its_bytes : bytes_with (is_looking job.stage) given.event ≡ bytes
+  its_bytes =
+      let strands : job.strand ≡ s = turned.3 in
+      let looking : n.looking ≡ m.looking = ap (λ (z : Machine). z.looking) turned.2 in
+      let looks : is_looking job.stage ≡ looks_at n.looking job.strand = given.looks in
+      let event : given.event ≡ turned.5.0 = its_event in
+      let right : bytes ≡ bytes_with (looks_at m.looking s) turned.5.0 = turned.5.2 in
+      cc
+
+  -- the job may be run on them
+  pub work_runs : CanResume stands (is_looking job.stage) job.stage job.seen bytes
+  work_runs = can_run stands is_looking n.net n.looking n.journal job.strand job.place job.seen job.stage given bytes its_bytes
+
+  -- what it gives may be finished
+  pub work_done : (done : Finished S) → done.strand ≡ job.strand → done.place ≡ job.place → is_looking done.stage ≡ is_looking job.stage
+      → IfOk done.want (λ want. Resumes stands (is_looking job.stage) job.stage done.stage job.seen bytes want)
+      → IfOk done.want (λ want. DoneStands stands is_looking n.net n.looking (take done.place n.journal) done.strand done.place done.stage want)
+  work_done done strand place looks resumes = if_ok done.want (λ w resumed.
+      subst (λ z. DoneStands stands is_looking n.net n.looking (take done.place n.journal) z done.place done.stage w) (sym strand)
+      (subst (λ z. DoneStands stands is_looking n.net n.looking (take z n.journal) job.strand z done.stage w) (sym place)
+      (done_take stands is_looking n.net n.looking n.journal job.strand job.place job.seen job.stage given bytes its_bytes done.stage w looks resumed))) resumes
