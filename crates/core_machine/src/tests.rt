@@ -203,7 +203,11 @@ fn a_turn_is_made_where_it_may_be(rt: HostRuntime) -> Result<(), Fail> {
         (0, Seen::Up(0, 0)),
         (1, Seen::Up(0, 0)),
     ] {
-        assert_eq!(rt; work(&mut core, alloc, strand, &mut none)?, Some(seen), "at {strand}");
+        assert_eq!(rt;
+            work(&mut core, alloc, strand, &mut none)?,
+            Some(seen),
+            "at {strand}"
+        );
         assert_eq!(rt; last_entry(&core), Some(Entry { strand, stream: 0 }));
     }
     assert!(rt; none.is_empty() && core.out_count() == 0);

@@ -37,7 +37,11 @@ pub(crate) fn run_line<G: Gate>(
 }
 
 // Its core before the first step.
-fn start_line(alloc: Global, strings: &Recs, bytes: Vec<u8>) -> Result<Core<Box<FirstStage>>, NoMemory>
+fn start_line(
+    alloc: Global,
+    strings: &Recs,
+    bytes: Vec<u8>,
+) -> Result<Core<Box<FirstStage>>, NoMemory>
     requires { length strings.now ≤ 1022 }
     ensures { IfOk result (λ core. (looking : List Bool) × (core ≡ started (net_of bytes.items strings.now) step_limit looking)) }
 {
