@@ -1,0 +1,2 @@
+pub mod Arg
+pub mod Fault
