@@ -1,2 +1,4 @@
 pub mod Arg
 pub mod Fault
+pub mod Numbers
+pub mod Words

@@ -2,7 +2,11 @@
 #![tactic(auto)]
 
 mod arg;
+mod digits;
 mod fault;
+mod words;
 
 pub use arg::Arg;
+pub use digits::number;
 pub use fault::{ArgFault, FaultKind, KindFault};
+pub use words::{first_word, without_blanks};

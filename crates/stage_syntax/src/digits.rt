@@ -1,0 +1,24 @@
+ghost use Rattle.std.specs.Prelude.{◌≡◌, ℕ, MatchOption};
+ghost use Rattle.stage_syntax.specs.Numbers.{IsNumber};
+
+/// The greatest number of digits.
+const MOST_DIGITS: usize = 10;
+
+/// The value of a word of one to ten decimal digits, or None for any other word.
+pub fn number(word: &[u8]) -> Option<u64>
+    ensures { MatchOption result ((value : ℕ) → ¬ IsNumber word.now value) (λ value. IsNumber word.now value) }
+{
+    if word.is_empty() || word.len() > MOST_DIGITS {
+        return None;
+    }
+    let mut value: u64 = 0;
+    let mut left = word;
+    while let [digit, rest @ ..] = left {
+        if !digit.is_ascii_digit() {
+            return None;
+        }
+        value = value * 10 + u64::from(*digit - b'0');
+        left = rest;
+    }
+    Some(value)
+}
