@@ -1,3 +1,4 @@
 pub mod Blanks
+pub mod Delimiters
 pub mod Examples
 pub mod Numerals

@@ -1,4 +1,5 @@
 pub mod Arg
 pub mod Fault
 pub mod Numbers
+pub mod Strings
 pub mod Words

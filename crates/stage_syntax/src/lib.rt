@@ -4,9 +4,11 @@
 mod arg;
 mod digits;
 mod fault;
+mod strings;
 mod words;
 
 pub use arg::Arg;
 pub use digits::number;
 pub use fault::{ArgFault, FaultKind, KindFault};
+pub use strings::{delimited, hexadecimal};
 pub use words::{first_word, without_blanks};
