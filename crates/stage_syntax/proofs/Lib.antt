@@ -1,4 +1,5 @@
 pub mod Blanks
 pub mod Delimiters
 pub mod Examples
+pub mod FirstWords
 pub mod Numerals

@@ -4,11 +4,15 @@
 mod arg;
 mod digits;
 mod fault;
+mod refusal;
 mod strings;
+mod text;
 mod words;
 
 pub use arg::Arg;
 pub use digits::number;
 pub use fault::{ArgFault, FaultKind, KindFault};
+pub use refusal::Refusal;
 pub use strings::{delimited, hexadecimal};
+pub use text::{Spelled, string};
 pub use words::{first_word, without_blanks};

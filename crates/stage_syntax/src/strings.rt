@@ -1,5 +1,5 @@
-ghost use Rattle.std.specs.Prelude.{◌≡◌, ℕ, List, IfOk, MatchOption};
-ghost use Rattle.stage_syntax.specs.Strings.{IsDelimited, IsHexadecimal, is_delimiter};
+ghost use Rattle.std.specs.Prelude.{◌≡◌, ℕ, List, true, get_or, IfOk, IfNone, MatchOption};
+ghost use Rattle.stage_syntax.specs.Strings.{IsDelimited, IsHexadecimal, IsUnclosed, is_delimiter};
 
 use bstr::ByteSlice;
 use hex::FromHexError;
@@ -8,7 +8,8 @@ use std::alloc::Global;
 
 /// The string between two delimiters at the front of a text, and what stands after it; it may be empty.
 pub fn delimited(text: &[u8]) -> Option<(&[u8], &[u8])>
-    ensures { MatchOption result ((string rest : List ℕ) → ¬ IsDelimited text.now string rest) (λ parts. IsDelimited text.now parts.0.now parts.1.now) }
+    ensures cases { MatchOption result ((string rest : List ℕ) → ¬ IsDelimited text.now string rest) (λ parts. IsDelimited text.now parts.0.now parts.1.now) }
+    ensures unclosed { IfNone result (is_delimiter (get_or text.now 0 32) ≡ true → IsUnclosed text.now) }
 {
     let [delimiter, after @ ..] = text else {
         return None;
