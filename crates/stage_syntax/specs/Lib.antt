@@ -1,5 +1,6 @@
 pub mod Arg
 pub mod Fault
+pub mod Kinds
 pub mod Numbers
 pub mod Refusals
 pub mod Strings
