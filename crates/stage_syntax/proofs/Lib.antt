@@ -3,3 +3,4 @@ pub mod Delimiters
 pub mod Examples
 pub mod FirstWords
 pub mod Numerals
+pub mod Spellings

@@ -1,5 +1,6 @@
 -- Numbers: one to ten decimal digits.
-use Rattle.std.specs.Prelude.{◌≡◌, ℕ, ◌+◌, ◌-◌, ◌*◌, ◌^◌, ◌<◌, ◌≤◌, true, List, [], ◌∷◌, length}
+use Rattle.std.specs.Prelude.{◌≡◌, ℕ, ◌+◌, ◌-◌, ◌*◌, ◌^◌, ◌<◌, ◌≤◌, true, false, List, [], ◌∷◌, ◌++◌, length, get_or}
+use Rattle.std.specs.Char.{is_ascii_digit}
 use Rattle.std.specs.Str.{all_ascii_digits}
 
 -- the value of decimal digits, each with the weight of its place
@@ -13,3 +14,9 @@ pub record IsNumber (word : List ℕ) (value : ℕ) : Type 0 where
   pub few : length word ≤ 10
   pub digits : all_ascii_digits word ≡ true
   pub worth : value ≡ decimal word
+
+-- the digits are as many as stand at the front of the word, and the rest is after them
+pub record AreFirstDigits (word digits rest : List ℕ) : Type 0 where
+  pub spells : word ≡ digits ++ rest
+  pub digits_all : all_ascii_digits digits ≡ true
+  pub stops : is_ascii_digit (get_or rest 0 0) ≡ false

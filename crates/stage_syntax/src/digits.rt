@@ -1,5 +1,5 @@
 ghost use Rattle.std.specs.Prelude.{◌≡◌, ℕ, MatchOption};
-ghost use Rattle.stage_syntax.specs.Numbers.{IsNumber};
+ghost use Rattle.stage_syntax.specs.Numbers.{AreFirstDigits, IsNumber};
 
 /// The greatest number of digits.
 const MOST_DIGITS: usize = 10;
@@ -21,4 +21,15 @@ pub fn number(word: &[u8]) -> Option<u64>
         left = rest;
     }
     Some(value)
+}
+
+/// The decimal digits at the front of a word, and what stands after them.
+pub fn first_digits(word: &[u8]) -> (&[u8], &[u8])
+    ensures { AreFirstDigits word.now result.0.now result.1.now }
+{
+    let mut at = 0;
+    while at < word.len() && word[at].is_ascii_digit() {
+        at += 1;
+    }
+    (&word[..at], &word[at..])
 }

@@ -4,6 +4,7 @@
 mod arg;
 mod digits;
 mod fault;
+mod ranges;
 mod refusal;
 mod rows;
 mod strings;
@@ -11,8 +12,9 @@ mod text;
 mod words;
 
 pub use arg::Arg;
-pub use digits::number;
+pub use digits::{first_digits, number};
 pub use fault::{ArgFault, FaultKind, KindFault};
+pub use ranges::{Ending, Spelling, read_spelling};
 pub use refusal::Refusal;
 pub use rows::kind_of;
 pub use strings::{delimited, hexadecimal};
