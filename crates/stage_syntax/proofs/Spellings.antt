@@ -5,7 +5,11 @@ use Rattle.std.specs.Str.{all_ascii_digits}
 use Rattle.std.proofs.lemmas.List.{take_more}
 use Rattle.std.proofs.lemmas.Str.Parse.{tells_all_ascii_digits}
 use Rattle.stage_syntax.specs.Numbers.{AreFirstDigits, IsNumber}
+use Rattle.stage_syntax.specs.Bounds.{IsMisfit}
+use Rattle.stage_syntax.specs.PlainRanges.{IsRangeFault, fault_of}
 use Rattle.stage_syntax.specs.Ranges.{Ends, IsSpelling}
+use Rattle.stage_syntax.specs.declared.bounds.Misfit.{Misfit}
+use Rattle.stage_syntax.specs.declared.spelled.WordFault.{WordFault}
 use Rattle.stage_syntax.specs.declared.ranges.Ending.{Ending}
 use Rattle.stage_syntax.specs.declared.ranges.Ending.TheVariants.{Alone, To, Open, Long}
 use Rattle.stage_syntax.specs.declared.ranges.Spelling.{Spelling}
@@ -63,3 +67,17 @@ module _ (word digits rest : List ℕ) (first : AreFirstDigits word digits rest)
   -- where the rest is no end, no range is spelled
   pub no_ending : ((ending : Ending) → ¬ Ends rest ending) → (spelling : Spelling) → ¬ IsSpelling word spelling
   no_ending none spelling spelled = none spelling.ending (subst (λ after. Ends after spelling.ending) (sym (same_parts spelling spelled).1) spelled.ends)
+
+  -- the first digits are as many as the number has
+  as_many : (spelling : Spelling) (spelled : IsSpelling word spelling) → length digits ≡ length spelled.number
+  as_many spelling spelled = ap length (same_parts spelling spelled).0
+
+  -- a misfit of the spelling is a fault of the word, the second number standing one byte after the first digits
+  pub range_fault : (spelling : Spelling) (misfit : Misfit) (fault : WordFault) → IsSpelling word spelling → IsMisfit spelling misfit → fault ≡ fault_of (length digits + 1) misfit → IsRangeFault word fault
+  range_fault spelling misfit fault spelled misfits is = record {
+    spelling = spelling;
+    spelled = spelled;
+    misfit = misfit;
+    misfits = misfits;
+    fault_is = is ∙ ap (λ n. fault_of (n + 1) misfit) (as_many spelling spelled);
+  }

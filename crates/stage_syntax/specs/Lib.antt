@@ -1,7 +1,9 @@
 pub mod Arg
+pub mod Bounds
 pub mod Fault
 pub mod Kinds
 pub mod Numbers
+pub mod PlainRanges
 pub mod Ranges
 pub mod Refusals
 pub mod Strings

@@ -2,21 +2,25 @@
 #![tactic(auto)]
 
 mod arg;
+mod bounds;
 mod digits;
 mod fault;
 mod ranges;
 mod refusal;
 mod rows;
+mod spelled;
 mod strings;
 mod text;
 mod words;
 
 pub use arg::Arg;
+pub use bounds::{Misfit, range_of};
 pub use digits::{first_digits, number};
 pub use fault::{ArgFault, FaultKind, KindFault};
 pub use ranges::{Ending, Spelling, read_spelling};
 pub use refusal::Refusal;
 pub use rows::kind_of;
+pub use spelled::{WordFault, plain_range};
 pub use strings::{delimited, hexadecimal};
 pub use text::{Spelled, string};
 pub use words::{first_word, without_blanks};
