@@ -6,5 +6,6 @@ pub mod Numbers
 pub mod PlainRanges
 pub mod Ranges
 pub mod Refusals
+pub mod SpanNames
 pub mod Strings
 pub mod Words
