@@ -24,5 +24,5 @@ pub use rows::kind_of;
 pub use span_words::span_named;
 pub use spelled::{WordFault, plain_range};
 pub use strings::{delimited, hexadecimal};
-pub use text::{Spelled, string};
+pub use text::{Spelled, no_fault_of_a_string, string};
 pub use words::{first_word, without_blanks};

@@ -1,4 +1,5 @@
-ghost use Rattle.std.specs.Prelude.{◌≡◌, ◌≢◌, ◌≤◌, length, drop, true, get_or, IfOk, IfErr};
+ghost use Rattle.std.specs.Prelude.{◌≡◌, ℕ, List, ◌≢◌, ◌≤◌, length, drop, true, get_or, IfOk, IfErr};
+ghost use Rattle.stage_syntax.specs.declared.fault.FaultKind.{FaultKind};
 ghost use Rattle.std.specs.Char.{is_ascii_alphanumeric};
 ghost use Rattle.stage_syntax.specs.Refusals.{Refuses};
 ghost use Rattle.stage_syntax.specs.Strings.{IsHexadecimalWord, IsNoString, IsString, IsDelimited, is_delimiter};
@@ -67,3 +68,8 @@ pub fn string(alloc: Global, text: &[u8]) -> Result<Spelled, Refusal>
         between_delimiters(alloc, text)
     }
 }
+
+/// A text that is a string and a rest has no fault of a string, so `string` gives one wherever there is one.
+pub fn no_fault_of_a_string()
+    ensures { (text string rest : List ℕ) (kind : FaultKind) → IsString text string rest → ¬ IsNoString text kind }
+{}
