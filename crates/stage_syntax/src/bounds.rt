@@ -1,4 +1,8 @@
 ghost use Rattle.std.specs.Prelude.{◌≡◌, IfOk, IfErr, MatchOption};
+ghost use Rattle.pipe_model.specs.declared.kind.Range.{Range};
+ghost use Rattle.pipe_model.specs.declared.kind.Span.{Span};
+ghost use Rattle.stage_syntax.specs.declared.bounds.Misfit.{Misfit};
+ghost use Rattle.stage_syntax.specs.declared.ranges.Spelling.{Spelling};
 ghost use Rattle.stage_syntax.specs.Bounds.{Fits, IsMisfit, IsRangeOf};
 
 use crate::ranges::{Ending, Spelling};
@@ -49,3 +53,8 @@ fn within(number: u64) -> Option<u32>
         Some(number as u32)
     }
 }
+
+/// A spelling that is a range is no misfit, so `range_of` gives a range wherever there is one.
+pub fn no_misfit()
+    ensures { (span : Span) (spelling : Spelling) (range : Range) (misfit : Misfit) → IsRangeOf span spelling range → ¬ IsMisfit spelling misfit }
+{}

@@ -15,7 +15,7 @@ mod text;
 mod words;
 
 pub use arg::Arg;
-pub use bounds::{Misfit, range_of};
+pub use bounds::{Misfit, no_misfit, range_of};
 pub use digits::{first_digits, number};
 pub use fault::{ArgFault, FaultKind, KindFault};
 pub use ranges::{Ending, Spelling, read_spelling};
