@@ -1,0 +1,11 @@
+pub mod Arg
+pub mod Bounds
+pub mod Fault
+pub mod Kinds
+pub mod Numbers
+pub mod PlainRanges
+pub mod Ranges
+pub mod Refusals
+pub mod SpanNames
+pub mod Strings
+pub mod Words

@@ -1,0 +1,28 @@
+//! The text of a stage's arguments, and what is read of it: words, numbers, ranges and strings, and the faults.
+#![tactic(auto)]
+
+mod arg;
+mod bounds;
+mod digits;
+mod fault;
+mod ranges;
+mod refusal;
+mod rows;
+mod span_words;
+mod spelled;
+mod strings;
+mod text;
+mod words;
+
+pub use arg::Arg;
+pub use bounds::{Misfit, no_misfit, range_of};
+pub use digits::{first_digits, number};
+pub use fault::{ArgFault, FaultKind, KindFault};
+pub use ranges::{Ending, Spelling, read_spelling};
+pub use refusal::Refusal;
+pub use rows::kind_of;
+pub use span_words::span_named;
+pub use spelled::{WordFault, plain_range};
+pub use strings::{delimited, hexadecimal};
+pub use text::{Spelled, no_fault_of_a_string, string};
+pub use words::{first_word, without_blanks};

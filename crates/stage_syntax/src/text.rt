@@ -1,0 +1,75 @@
+ghost use Rattle.std.specs.Prelude.{◌≡◌, ℕ, List, ◌≢◌, ◌≤◌, length, drop, true, get_or, IfOk, IfErr};
+ghost use Rattle.stage_syntax.specs.declared.fault.FaultKind.{FaultKind};
+ghost use Rattle.std.specs.Char.{is_ascii_alphanumeric};
+ghost use Rattle.stage_syntax.specs.Refusals.{Refuses};
+ghost use Rattle.stage_syntax.specs.Strings.{IsHexadecimalWord, IsNoString, IsString, IsDelimited, is_delimiter};
+
+use crate::fault::FaultKind;
+use crate::refusal::Refusal;
+use crate::strings::{delimited, hexadecimal};
+use crate::words::first_word;
+use pipe_model::Rec;
+use std::alloc::Global;
+
+/// A string, and how many bytes spell it.
+#[derive(Drop)]
+pub struct Spelled {
+    pub string: Rec,
+    pub len: usize,
+}
+
+// The string between delimiters at the front of a text.
+fn between_delimiters(alloc: Global, text: &[u8]) -> Result<Spelled, Refusal>
+    requires begins { is_delimiter (get_or text.now 0 32) ≡ true }
+    ensures within { IfOk result (λ spelled. spelled.len ≤ length text.now) }
+    ensures read { IfOk result (λ spelled. IsString text.now spelled.string (drop spelled.len text.now)) }
+    ensures refused { IfErr result (Refuses (IsNoString text.now)) }
+{
+    let Some((string, rest)) = delimited(text) else {
+        return Err(Refusal::Fault(FaultKind::Unclosed));
+    };
+    if string.is_empty() {
+        return Err(Refusal::Fault(FaultKind::EmptyString));
+    }
+    Ok(Spelled {
+        string: Rec::from_slice(alloc, string)?,
+        len: text.len() - rest.len(),
+    })
+}
+
+// The string that the first word of a text stands for.
+fn of_first_word(alloc: Global, text: &[u8]) -> Result<Spelled, Refusal>
+    requires begins { is_ascii_alphanumeric (get_or text.now 0 0) ≡ true }
+    ensures within { IfOk result (λ spelled. spelled.len ≤ length text.now) }
+    ensures read { IfOk result (λ spelled. IsString text.now spelled.string (drop spelled.len text.now)) }
+    ensures refused { IfErr result (Refuses (IsNoString text.now)) }
+{
+    let (word, _rest) = first_word(text);
+    match hexadecimal(alloc, word)? {
+        Some(string) => Ok(Spelled {
+            string,
+            len: word.len(),
+        }),
+        None if text[0] == b'x' => Err(Refusal::Fault(FaultKind::BadHex)),
+        None => Err(Refusal::Fault(FaultKind::UnknownWord)),
+    }
+}
+
+/// The string at the front of a text, which isn't empty and doesn't begin with a blank.
+pub fn string(alloc: Global, text: &[u8]) -> Result<Spelled, Refusal>
+    requires begins { get_or text.now 0 32 ≢ 32 }
+    ensures within { IfOk result (λ spelled. spelled.len ≤ length text.now) }
+    ensures read { IfOk result (λ spelled. IsString text.now spelled.string (drop spelled.len text.now)) }
+    ensures refused { IfErr result (Refuses (IsNoString text.now)) }
+{
+    if text[0].is_ascii_alphanumeric() {
+        of_first_word(alloc, text)
+    } else {
+        between_delimiters(alloc, text)
+    }
+}
+
+/// A text that is a string and a rest has no fault of a string, so `string` gives one wherever there is one.
+pub fn no_fault_of_a_string()
+    ensures { (text string rest : List ℕ) (kind : FaultKind) → IsString text string rest → ¬ IsNoString text kind }
+{}
