@@ -8,7 +8,8 @@ use crate::words::without_blanks;
 use pipe_model::{Kind, Rec};
 use std::alloc::Global;
 
-/// The kind of the stage of this name with this argument; `first` says that it stands first in its pipeline.
+/// The kind of the stage of this name with this argument, so far of CONSOLE alone; `first` says that it stands first in
+/// its pipeline.
 pub fn kind_of(alloc: Global, name: &[u8], arg: &Arg, first: bool) -> Result<Kind, KindFault>
     requires whole { IsArg arg.now }
     ensures read { IfOk result (IsConsole name.now arg.now first) }
