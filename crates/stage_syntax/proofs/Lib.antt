@@ -2,7 +2,10 @@ pub mod Blanks
 pub mod Delimiters
 pub mod Examples
 pub mod FirstWords
+pub mod Letters
 pub mod Misfits
 pub mod Numerals
 pub mod Outcomes
+pub mod Passed
+pub mod RangeFronts
 pub mod Spellings

@@ -27,6 +27,12 @@ pub record IsApart (text front : List ℕ) (span : Span) : Type 0 where
   pub names : IsSpanName name span
   pub unblanked : IsUnblanked after front
 
+-- the first word of the text says what is counted, and this comes after it
+pub record IsNamed (text after : List ℕ) (span : Span) : Type 0 where
+  pub name : List ℕ
+  pub first : IsFirstWord text name after
+  pub names : IsSpanName name span
+
 -- the text is a range of columns and the rest
 pub record IsBareRange (text : List ℕ) (range : Range) (rest : List ℕ) : Type 0 where
   pub word : List ℕ
@@ -57,6 +63,12 @@ IsRange text range rest = IsBareRange text range rest ⊎ (IsJoinedRange text ra
 -- a fault of a word that begins where so many bytes are left of the text
 abbrev pub fault_in : ℕ → WordFault → TextFault
 fault_in left fault = record { left = left - fault.at; kind = fault.kind }
+
+-- a word that begins where so many bytes are left of the text spells a range that has this fault
+pub record IsWordFault (word : List ℕ) (left : ℕ) (fault : TextFault) : Type 0 where
+  pub inside : WordFault
+  pub misfit : IsRangeFault word inside
+  pub fault_is : fault ≡ fault_in left inside
 
 pub record IsBareRangeFault (text : List ℕ) (fault : TextFault) : Type 0 where
   pub word : List ℕ
@@ -108,3 +120,8 @@ pub record IsRangeless (text : List ℕ) (fault : TextFault) : Type 0 where
 -- the text begins as a range does and isn't one, for this reason
 abbrev pub IsRangeMisfit : List ℕ → TextFault → Type 0
 IsRangeMisfit text fault = IsBareRangeFault text fault ⊎ (IsJoinedRangeFault text fault ⊎ (IsApartRangeFault text fault ⊎ (IsNumberless text fault ⊎ IsRangeless text fault)))
+
+-- the text doesn't begin as a range does
+pub record IsNoRange (text : List ℕ) : Type 0 where
+  pub none : (range : Range) (rest : List ℕ) → ¬ IsRange text range rest
+  pub no_misfit : (fault : TextFault) → ¬ IsRangeMisfit text fault
