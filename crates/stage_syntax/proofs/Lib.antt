@@ -1,4 +1,5 @@
 pub mod Blanks
+pub mod Choices
 pub mod Delimiters
 pub mod Examples
 pub mod FirstWords
@@ -8,4 +9,6 @@ pub mod Numerals
 pub mod Outcomes
 pub mod Passed
 pub mod RangeFronts
+pub mod RowSteps
 pub mod Spellings
+pub mod StringParts

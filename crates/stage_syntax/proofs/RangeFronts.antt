@@ -1,7 +1,5 @@
 -- How a text begins with a range: the first word is split before its first digit.
-use Rattle.std.proofs.Common.{◌≡◌, ℕ, ◌+◌, ◌-◌, ◌<◌, List, [], ◌∷◌, ◌++◌, length, drop, append-nil, get_or, refl, sym, ap, ◌∙◌, subst, inl, inr, arith, true}
-use Rattle.std.specs.Char.{is_ascii_digit}
-use Rattle.std.proofs.lemmas.List.{drop_at}
+use Rattle.std.proofs.Common.{◌≡◌, ℕ, ◌+◌, ◌-◌, ◌<◌, List, [], ◌∷◌, ◌++◌, length, drop, append-nil, refl, sym, ap, ◌∙◌, subst, inl, inr, arith}
 use Rattle.pipe_model.specs.declared.kind.Span.{Span}
 use Rattle.pipe_model.specs.declared.kind.Range.{Range}
 use Rattle.stage_syntax.proofs.FirstWords.{one_word}
@@ -14,7 +12,6 @@ use Rattle.stage_syntax.specs.RangeWords.{IsApart, IsJoined, IsNamed, IsNoRange,
 use Rattle.stage_syntax.specs.SpanNames.{IsSpanName}
 use Rattle.stage_syntax.specs.Words.{IsFirstWord, IsUnblanked}
 use Rattle.stage_syntax.specs.declared.fault.FaultKind.TheVariants.{Missing}
-use Rattle.stage_syntax.specs.declared.part.TextFault.{TextFault}
 use Rattle.stage_syntax.specs.declared.ranges.Spelling.{Spelling}
 
 -- a text has one first word
@@ -73,21 +70,21 @@ module _ (text word rest name numbers : List ℕ) (first : IsFirstWord text word
   pub no_range : ((spelling : Spelling) → ¬ IsSpelling word spelling) → ((span : Span) (spelling : Spelling) → IsSpanName name span → ¬ IsSpelling numbers spelling) → ((span : Span) → IsSpanName name span → ¬ ([] ≡ numbers)) → IsNoRange text
   no_range none none_joined none_apart =
       let bare = λ (other : List ℕ) (after : List ℕ) (spelling : Spelling) (is : IsFirstWord text other after) (spelled : IsSpelling other spelling).
-          none spelling (subst (λ b. IsSpelling b spelling) (same_word text other after word rest is first) spelled) in
+      none spelling (subst (λ b. IsSpelling b spelling) (same_word text other after word rest is first) spelled) in
       let joined = λ (other : List ℕ) (digits : List ℕ) (after : List ℕ) (span : Span) (spelling : Spelling) (is : IsJoined text other digits after span) (spelled : IsSpelling digits spelling).
-          let same = joined_split other digits after span spelling is spelled in
-          none_joined span spelling (subst (λ b. IsSpanName b span) same.0 is.names) (subst (λ b. IsSpelling b spelling) same.1 spelled) in
+      let same = joined_split other digits after span spelling is spelled in
+      none_joined span spelling (subst (λ b. IsSpanName b span) same.0 is.names) (subst (λ b. IsSpelling b spelling) same.1 spelled) in
       let apart = λ (front : List ℕ) (span : Span) (is : IsApart text front span).
-          let same = apart_split front span is in
-          none_apart span (subst (λ b. IsSpanName b span) same.0 is.names) same.1 in
+      let same = apart_split front span is in
+      none_apart span (subst (λ b. IsSpanName b span) same.0 is.names) same.1 in
       record {
         none = λ range after read. elim read [
-            inl is ↦ bare is.word after is.range_is.spelling is.first is.range_is.spelled
+          | inl is ↦ bare is.word after is.range_is.spelling is.first is.range_is.spelled
           | inr (inl is) ↦ joined is.name is.numbers after is.span is.range_is.spelling is.joined is.range_is.spelled
           | inr (inr is) ↦ apart is.front is.span is.apart
         ];
         no_misfit = λ fault misfit. elim misfit [
-            inl is ↦ bare is.word is.rest is.misfit.spelling is.first is.misfit.spelled
+          | inl is ↦ bare is.word is.rest is.misfit.spelling is.first is.misfit.spelled
           | inr (inl is) ↦ joined is.name is.numbers is.rest is.span is.misfit.spelling is.joined is.misfit.spelled
           | inr (inr (inl is)) ↦ apart is.front is.span is.apart
           | inr (inr (inr (inl is))) ↦ apart is.front is.span is.apart

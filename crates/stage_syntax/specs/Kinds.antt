@@ -7,6 +7,8 @@ use Rattle.stage_syntax.specs.declared.fault.ArgFault.{ArgFault}
 use Rattle.stage_syntax.specs.declared.fault.KindFault.{KindFault}
 use Rattle.stage_syntax.specs.declared.fault.KindFault.TheVariants.{Unknown, Argument, NoMemory}
 use Rattle.stage_syntax.specs.declared.part.TextFault.{TextFault}
+use Rattle.stage_syntax.specs.declared.refusal.Refusal.{Refusal}
+use Rattle.stage_syntax.specs.declared.refusal.Refusal.TheVariants as Refused
 use Rattle.stage_syntax.specs.Rows.{Row, Makes, Fails, row_of}
 
 -- the place of a byte of an argument, or of its end, that has so many bytes after it, itself included
@@ -16,6 +18,11 @@ place_before arg left = get_or arg.places (length arg.bytes - left) arg.end
 -- a fault of the text, at its place in the specification
 abbrev pub placed : ArgText → TextFault → ArgFault
 placed arg fault = record { place = place_before arg fault.left; kind = fault.kind }
+
+-- why nothing was read of the text, with the fault at its place in the specification
+abbrev pub refusal_placed : ArgText → Refusal → KindFault
+refusal_placed arg (Refused.Fault fault) = Argument (placed arg fault)
+refusal_placed arg Refused.NoMemory = NoMemory
 
 -- the name and the argument are this kind of stage
 pub record IsKind (name : List ℕ) (arg : ArgText) (first : Bool) (kind : Kind) : Type 0 where

@@ -2,7 +2,7 @@
 use Rattle.std.specs.Prelude.{◌≡◌, ℕ, ◌<◌, List, [], ◌∷◌, length, ◌⊎◌}
 use Rattle.std.specs.List.{Contains}
 use Rattle.stage_syntax.specs.declared.fault.FaultKind.{FaultKind}
-use Rattle.stage_syntax.specs.declared.fault.FaultKind.TheVariants.{Missing, Extra, NotANumber, OutOfRange, Unclosed, EmptyString, UnknownWord, BadHex, Reversed}
+use Rattle.stage_syntax.specs.declared.fault.FaultKind.TheVariants.{Extra, NotANumber, Unclosed, EmptyString, UnknownWord, BadHex}
 use Rattle.stage_syntax.specs.declared.part.Part.{Part}
 use Rattle.stage_syntax.specs.declared.part.Part.TheVariants as Asked
 use Rattle.stage_syntax.specs.declared.part.Value.{Value}
@@ -28,6 +28,11 @@ abbrev pub IsPartMisfit : Part → List ℕ → TextFault → Type 0
 IsPartMisfit Asked.Range text fault = IsRangeMisfit text fault
 IsPartMisfit Asked.String text fault = (fault.left ≡ length text) × IsOfStrings fault.kind × IsNoString text fault.kind
 
+-- the text isn't the part, and doesn't begin as it does
+pub record IsNoPart (part : Part) (text : List ℕ) : Type 0 where
+  pub none : (value : Value) (rest : List ℕ) → ¬ IsPart part text value rest
+  pub no_misfit : (fault : TextFault) → ¬ IsPartMisfit part text fault
+
 -- the fault of a word that isn't of the last part that may come
 abbrev pub fault_of_last : List Part → FaultKind
 fault_of_last [] = Extra
@@ -44,7 +49,11 @@ pub record IsNone (parts : List Part) (text : List ℕ) : Type 0 where
 abbrev pub IsMisfitOf : List Part → List ℕ → TextFault → Type 0
 IsMisfitOf parts text fault =
     ((part : Part) × Contains parts part × IsPartMisfit part text fault)
-  ⊎ (IsNone parts text × (fault ≡ record { left = length text; kind = fault_of_last parts }))
+    ⊎ (IsNone parts text × (fault ≡ record { left = length text; kind = fault_of_last parts }))
+
+-- the text is one of the parts, of this value, and the rest
+abbrev pub IsPartOf : List Part → List ℕ → Value → List ℕ → Type 0
+IsPartOf parts text value rest = (part : Part) × Contains parts part × IsPart part text value rest
 
 -- after blanks the text is one of the parts that may come, and the rest
 pub record IsNext (parts : List Part) (text : List ℕ) (value : Value) (rest : List ℕ) : Type 0 where

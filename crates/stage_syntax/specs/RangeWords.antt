@@ -1,5 +1,5 @@
 -- A range at the front of a text, with or without a word before its numbers, and its faults.
-use Rattle.std.specs.Prelude.{◌≡◌, ℕ, ◌+◌, ◌-◌, ◌<◌, List, [], ◌++◌, length, ◌⊎◌}
+use Rattle.std.specs.Prelude.{◌≡◌, ℕ, ◌-◌, ◌<◌, List, [], ◌++◌, length, ◌⊎◌}
 use Rattle.pipe_model.specs.declared.kind.Span.{Span}
 use Rattle.pipe_model.specs.declared.kind.Span.TheVariants.{Columns}
 use Rattle.pipe_model.specs.declared.kind.Range.{Range}
