@@ -6,7 +6,7 @@ use Rattle.stage_syntax.specs.Words.{IsFirstWord}
 use Rattle.stage_syntax.specs.Strings.{IsBadHex, IsHexadecimal}
 
 -- two words without blanks before a blank or an end are one
-one_word : (word other rest more : List ℕ) → ¬ Contains word 32 → ¬ Contains other 32 → get_or rest 0 32 ≡ 32 → get_or more 0 32 ≡ 32 → word ++ rest ≡ other ++ more → word ≡ other
+pub one_word : (word other rest more : List ℕ) → ¬ Contains word 32 → ¬ Contains other 32 → get_or rest 0 32 ≡ 32 → get_or more 0 32 ≡ 32 → word ++ rest ≡ other ++ more → word ≡ other
 one_word [] [] rest more whole whole_other stops stops_other same = refl
 one_word [] (b ∷ other) rest more whole whole_other stops stops_other same =
     let blank : b ≡ 32 = ap (λ bytes. get_or bytes 0 32) (sym same) ∙ stops in

@@ -1,8 +1,14 @@
 pub mod Blanks
+pub mod Choices
 pub mod Delimiters
 pub mod Examples
 pub mod FirstWords
+pub mod Letters
 pub mod Misfits
 pub mod Numerals
 pub mod Outcomes
+pub mod Passed
+pub mod RangeFronts
+pub mod RowSteps
 pub mod Spellings
+pub mod StringParts

@@ -17,7 +17,7 @@ no_letter : (byte : ℕ) → is_delimiter byte ≡ true → is_ascii_alphanumeri
 no_letter byte chosen sign = sign_or_delimiter (byte == 32) (is_ascii_alphanumeric byte) chosen sign
 
 -- a delimited text begins with its delimiter
-delimited_front : (text string rest : List ℕ) (delimited : IsDelimited text string rest) → get_or text 0 0 ≡ delimited.delimiter
+pub delimited_front : (text string rest : List ℕ) (delimited : IsDelimited text string rest) → get_or text 0 0 ≡ delimited.delimiter
 delimited_front text string rest delimited = ap (λ bytes. get_or bytes 0 0) delimited.spells
 
 -- a hexadecimal word begins with x
@@ -26,7 +26,7 @@ hexadecimal_front text string rest hexadecimal =
     ap (λ bytes. get_or bytes 0 0) (hexadecimal.first.spells ∙ ap (λ word. word ++ rest) hexadecimal.worth.spells)
 
 -- a byte that is the front of a text and a letter or a digit is no delimiter there
-no_front : (text : List ℕ) (byte front : ℕ) → get_or text 0 0 ≡ byte → is_delimiter byte ≡ true → get_or text 0 0 ≡ front → is_ascii_alphanumeric front ≡ true → ⊥
+pub no_front : (text : List ℕ) (byte front : ℕ) → get_or text 0 0 ≡ byte → is_delimiter byte ≡ true → get_or text 0 0 ≡ front → is_ascii_alphanumeric front ≡ true → ⊥
 no_front text byte front is chosen other sign = no_letter byte chosen (ap is_ascii_alphanumeric (sym is ∙ other) ∙ sign)
 
 -- what is delimited isn't unclosed

@@ -15,7 +15,7 @@ use Rattle.stage_syntax.specs.declared.ranges.Ending.TheVariants.{Alone, To, Ope
 use Rattle.stage_syntax.specs.declared.ranges.Spelling.{Spelling}
 
 -- of two tests that pass the first passes
-first_passes : (a b : Bool) → (a && b) ≡ true → a ≡ true
+pub first_passes : (a b : Bool) → (a && b) ≡ true → a ≡ true
 first_passes true b both = refl
 first_passes false b both = cc
 

@@ -1,44 +1,45 @@
--- Which name and argument are which kind of stage; so far of one stage, CONSOLE.
-use Rattle.std.specs.Prelude.{◌≡◌, ℕ, ◌-◌, ◌<◌, Bool, if◌then◌else◌, List, [], length, get_or, codes, ⊤}
-use Rattle.std.specs.Str.{str_to_ascii_lowercase}
+-- Which name and argument are which kind of stage.
+use Rattle.std.specs.Prelude.{◌≡◌, ℕ, ◌-◌, Bool, List, [], length, get_or, ⊤}
+use Rattle.std.specs.declared.option.Option.TheVariants.{Some, None}
 use Rattle.pipe_model.specs.declared.kind.Kind.{Kind}
-use Rattle.pipe_model.specs.declared.kind.Kind.TheVariants.{ConsoleIn, ConsoleOut}
-use Rattle.stage_syntax.specs.declared.arg.Arg.{Arg}
+use Rattle.stage_syntax.specs.Arg.{ArgText}
 use Rattle.stage_syntax.specs.declared.fault.ArgFault.{ArgFault}
-use Rattle.stage_syntax.specs.declared.fault.FaultKind.TheVariants.{Extra}
 use Rattle.stage_syntax.specs.declared.fault.KindFault.{KindFault}
 use Rattle.stage_syntax.specs.declared.fault.KindFault.TheVariants.{Unknown, Argument, NoMemory}
-use Rattle.stage_syntax.specs.Words.{IsUnblanked}
-
--- the name in lower case
-abbrev pub Named : List ℕ → List ℕ → Type 0
-Named name row = str_to_ascii_lowercase name ≡ row
+use Rattle.stage_syntax.specs.declared.part.TextFault.{TextFault}
+use Rattle.stage_syntax.specs.declared.refusal.Refusal.{Refusal}
+use Rattle.stage_syntax.specs.declared.refusal.Refusal.TheVariants as Refused
+use Rattle.stage_syntax.specs.Rows.{Row, Makes, Fails, row_of}
 
 -- the place of a byte of an argument, or of its end, that has so many bytes after it, itself included
-abbrev pub place_before : Arg → ℕ → ℕ
-place_before arg left = get_or arg.places.items (length arg.bytes.items - left) arg.end
+abbrev pub place_before : ArgText → ℕ → ℕ
+place_before arg left = get_or arg.places (length arg.bytes - left) arg.end
 
--- CONSOLE, first in its pipeline and with no bytes yet, or not first
-abbrev pub console_kind : Bool → Kind
-console_kind first = if first then ConsoleIn [] else ConsoleOut
+-- a fault of the text, at its place in the specification
+abbrev pub placed : ArgText → TextFault → ArgFault
+placed arg fault = record { place = place_before arg fault.left; kind = fault.kind }
 
--- CONSOLE has no argument
-pub record IsConsole (name : List ℕ) (arg : Arg) (first : Bool) (kind : Kind) : Type 0 where
-  pub named : Named name (codes "console")
-  pub bare : IsUnblanked arg.bytes.items []
-  pub kind_is : kind ≡ console_kind first
+-- why nothing was read of the text, with the fault at its place in the specification
+abbrev pub refusal_placed : ArgText → Refusal → KindFault
+refusal_placed arg (Refused.Fault fault) = Argument (placed arg fault)
+refusal_placed arg Refused.NoMemory = NoMemory
 
--- an argument of CONSOLE is one too many, at its first byte that is no blank
-pub record IsConsoleFault (name : List ℕ) (arg : Arg) (fault : ArgFault) : Type 0 where
-  pub named : Named name (codes "console")
-  pub rest : List ℕ
-  pub front : IsUnblanked arg.bytes.items rest
-  pub some : 0 < length rest
-  pub extra : fault.kind ≡ Extra
-  pub place_is : fault.place ≡ place_before arg (length rest)
+-- the name and the argument are this kind of stage
+pub record IsKind (name : List ℕ) (arg : ArgText) (first : Bool) (kind : Kind) : Type 0 where
+  pub row : Row
+  pub named : row_of name first ≡ Some row
+  pub makes : Makes row [] arg.bytes kind
+
+-- some stage has the name, and its arguments have this leftmost fault
+pub record IsArgFault (name : List ℕ) (arg : ArgText) (first : Bool) (fault : ArgFault) : Type 0 where
+  pub row : Row
+  pub named : row_of name first ≡ Some row
+  pub inside : TextFault
+  pub fails : Fails row [] arg.bytes inside
+  pub fault_is : fault ≡ placed arg inside
 
 -- the name and the argument aren't a stage, for this reason; want of memory may come in any case
-abbrev pub IsNoKind : List ℕ → Arg → KindFault → Type 0
-IsNoKind name arg Unknown = ¬ Named name (codes "console")
-IsNoKind name arg (Argument fault) = IsConsoleFault name arg fault
-IsNoKind name arg NoMemory = ⊤
+abbrev pub IsNoKind : List ℕ → ArgText → Bool → KindFault → Type 0
+IsNoKind name arg first Unknown = row_of name first ≡ None
+IsNoKind name arg first (Argument fault) = IsArgFault name arg first fault
+IsNoKind name arg first NoMemory = ⊤

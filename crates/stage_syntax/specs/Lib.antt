@@ -3,9 +3,12 @@ pub mod Bounds
 pub mod Fault
 pub mod Kinds
 pub mod Numbers
+pub mod Parts
 pub mod PlainRanges
+pub mod RangeWords
 pub mod Ranges
 pub mod Refusals
+pub mod Rows
 pub mod SpanNames
 pub mod Strings
 pub mod Words

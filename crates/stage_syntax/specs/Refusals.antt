@@ -1,10 +1,10 @@
--- Why nothing was read at the front of a text.
+-- Why nothing was read of a text.
 use Rattle.std.specs.Prelude.{⊤}
-use Rattle.stage_syntax.specs.declared.fault.FaultKind.{FaultKind}
+use Rattle.stage_syntax.specs.declared.part.TextFault.{TextFault}
 use Rattle.stage_syntax.specs.declared.refusal.Refusal.{Refusal}
 use Rattle.stage_syntax.specs.declared.refusal.Refusal.TheVariants.{Fault, NoMemory}
 
 -- the fault, if it isn't want of memory, is for this reason
-abbrev pub Refuses : (FaultKind → Type 0) → Refusal → Type 0
-Refuses Reason (Fault kind) = Reason kind
+abbrev pub Refuses : (TextFault → Type 0) → Refusal → Type 0
+Refuses Reason (Fault fault) = Reason fault
 Refuses Reason NoMemory = ⊤

@@ -6,6 +6,7 @@ use Rattle.hex.specs.Hex.{decode_of}
 use Rattle.stage_syntax.specs.Words.{IsFirstWord}
 use Rattle.stage_syntax.specs.declared.fault.FaultKind.{FaultKind}
 use Rattle.stage_syntax.specs.declared.fault.FaultKind.TheVariants.{Missing, Extra, NotANumber, OutOfRange, Unclosed, EmptyString, UnknownWord, BadHex, Reversed}
+use Rattle.stage_syntax.specs.declared.part.TextFault.{TextFault}
 
 -- any byte but a blank, a letter or a digit
 abbrev pub is_delimiter : ℕ → Bool
@@ -64,3 +65,7 @@ IsNoString text Extra = ⊥
 IsNoString text NotANumber = ⊥
 IsNoString text OutOfRange = ⊥
 IsNoString text Reversed = ⊥
+
+-- a text whose first byte is no blank isn't a string and a rest, and this is the fault, at its front
+abbrev pub IsStringFault : List ℕ → TextFault → Type 0
+IsStringFault text fault = (fault.left ≡ length text) × IsNoString text fault.kind

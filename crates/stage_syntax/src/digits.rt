@@ -1,5 +1,5 @@
 ghost use Rattle.std.specs.Prelude.{◌≡◌, ℕ, MatchOption};
-ghost use Rattle.stage_syntax.specs.Numbers.{AreFirstDigits, IsNumber};
+ghost use Rattle.stage_syntax.specs.Numbers.{AreFirstDigits, AreFirstOthers, IsNumber};
 
 /// The greatest number of digits.
 const MOST_DIGITS: usize = 10;
@@ -29,6 +29,17 @@ pub fn first_digits(word: &[u8]) -> (&[u8], &[u8])
 {
     let mut at = 0;
     while at < word.len() && word[at].is_ascii_digit() {
+        at += 1;
+    }
+    (&word[..at], &word[at..])
+}
+
+/// What stands before the first decimal digit of a word, and the rest.
+pub fn first_others(word: &[u8]) -> (&[u8], &[u8])
+    ensures { AreFirstOthers word.now result.0.now result.1.now }
+{
+    let mut at = 0;
+    while at < word.len() && !word[at].is_ascii_digit() {
         at += 1;
     }
     (&word[..at], &word[at..])

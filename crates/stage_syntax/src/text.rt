@@ -2,7 +2,7 @@ ghost use Rattle.std.specs.Prelude.{◌≡◌, ℕ, List, ◌≢◌, ◌≤◌, 
 ghost use Rattle.stage_syntax.specs.declared.fault.FaultKind.{FaultKind};
 ghost use Rattle.std.specs.Char.{is_ascii_alphanumeric};
 ghost use Rattle.stage_syntax.specs.Refusals.{Refuses};
-ghost use Rattle.stage_syntax.specs.Strings.{IsHexadecimalWord, IsNoString, IsString, IsDelimited, is_delimiter};
+ghost use Rattle.stage_syntax.specs.Strings.{IsNoString, IsString, IsStringFault, is_delimiter};
 
 use crate::fault::FaultKind;
 use crate::refusal::Refusal;
@@ -23,13 +23,13 @@ fn between_delimiters(alloc: Global, text: &[u8]) -> Result<Spelled, Refusal>
     requires begins { is_delimiter (get_or text.now 0 32) ≡ true }
     ensures within { IfOk result (λ spelled. spelled.len ≤ length text.now) }
     ensures read { IfOk result (λ spelled. IsString text.now spelled.string (drop spelled.len text.now)) }
-    ensures refused { IfErr result (Refuses (IsNoString text.now)) }
+    ensures refused { IfErr result (Refuses (IsStringFault text.now)) }
 {
     let Some((string, rest)) = delimited(text) else {
-        return Err(Refusal::Fault(FaultKind::Unclosed));
+        return Err(Refusal::at(text, FaultKind::Unclosed));
     };
     if string.is_empty() {
-        return Err(Refusal::Fault(FaultKind::EmptyString));
+        return Err(Refusal::at(text, FaultKind::EmptyString));
     }
     Ok(Spelled {
         string: Rec::from_slice(alloc, string)?,
@@ -42,7 +42,7 @@ fn of_first_word(alloc: Global, text: &[u8]) -> Result<Spelled, Refusal>
     requires begins { is_ascii_alphanumeric (get_or text.now 0 0) ≡ true }
     ensures within { IfOk result (λ spelled. spelled.len ≤ length text.now) }
     ensures read { IfOk result (λ spelled. IsString text.now spelled.string (drop spelled.len text.now)) }
-    ensures refused { IfErr result (Refuses (IsNoString text.now)) }
+    ensures refused { IfErr result (Refuses (IsStringFault text.now)) }
 {
     let (word, _rest) = first_word(text);
     match hexadecimal(alloc, word)? {
@@ -50,8 +50,8 @@ fn of_first_word(alloc: Global, text: &[u8]) -> Result<Spelled, Refusal>
             string,
             len: word.len(),
         }),
-        None if text[0] == b'x' => Err(Refusal::Fault(FaultKind::BadHex)),
-        None => Err(Refusal::Fault(FaultKind::UnknownWord)),
+        None if text[0] == b'x' => Err(Refusal::at(text, FaultKind::BadHex)),
+        None => Err(Refusal::at(text, FaultKind::UnknownWord)),
     }
 }
 
@@ -60,7 +60,7 @@ pub fn string(alloc: Global, text: &[u8]) -> Result<Spelled, Refusal>
     requires begins { get_or text.now 0 32 ≢ 32 }
     ensures within { IfOk result (λ spelled. spelled.len ≤ length text.now) }
     ensures read { IfOk result (λ spelled. IsString text.now spelled.string (drop spelled.len text.now)) }
-    ensures refused { IfErr result (Refuses (IsNoString text.now)) }
+    ensures refused { IfErr result (Refuses (IsStringFault text.now)) }
 {
     if text[0].is_ascii_alphanumeric() {
         of_first_word(alloc, text)
