@@ -19,7 +19,7 @@ use Rattle.run_desk.proofs.Acts.{goes}
 use Rattle.core_machine.specs.Jobs.{JobStands, DoneStands}
 use Rattle.core_machine.specs.Machine.{is_of, is_at}
 use Rattle.core_machine.proofs.Away.{get_end}
-use Rattle.core_machine.proofs.Sounds.{play_one, end_length}
+use Rattle.core_machine.proofs.Plays.{play_one, end_length}
 
 module _ {S : Type 0} (stands : S → Strand → List Event → Type 0) (is_looking : S → Bool) (net : Net) (looking : List Bool) (journal : List Entry) (s p : ℕ) (seen : Seen) (stage : S) (job : JobStands stands is_looking net looking journal s p seen stage) where
   -- the strand's history is now one event longer

@@ -3,9 +3,11 @@ pub mod BitSets
 pub mod Fills
 pub mod Followers
 pub mod Fulls
+pub mod GoesOn
 pub mod Homes
 pub mod Jobs
 pub mod Outs
+pub mod Plays
 pub mod Quiet
 pub mod Sounds
 pub mod Starts

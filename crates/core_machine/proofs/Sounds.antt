@@ -1,5 +1,5 @@
 -- A sound core stays sound through a turn and a coming home.
-use Rattle.std.proofs.Common.{◌≡◌, ◌≢◌, inl, inr, ℕ, zero, suc, ◌+◌, ◌≤◌, ◌<◌, Bool, true, false, cond, ◌||◌, ◌==◌, List, [], ◌∷◌, ◌++◌, length, refl, sym, ◌∙◌, ap, subst, arith, Option, Some, None, slice_get, slice_set, length-set, is_some, map}
+use Rattle.std.proofs.Common.{◌≡◌, ◌≢◌, inl, inr, ℕ, zero, suc, ◌+◌, ◌<◌, Bool, true, false, cond, ◌||◌, ◌==◌, List, [], ◌∷◌, ◌++◌, length, refl, sym, ◌∙◌, ap, subst, arith, Option, Some, None, slice_get, slice_set, length-set, is_some}
 use Rattle.std.specs.Prelude.{take}
 use Rattle.std.specs.Option.{option_map, option_map_or}
 use Rattle.pipe_model.specs.declared.net.Net.{Net}
@@ -8,23 +8,18 @@ use Rattle.pipe_model.specs.declared.step.Entry.{Entry}
 use Rattle.pipe_model.specs.declared.step.Seen.{Seen}
 use Rattle.pipe_model.specs.declared.step.Seen.TheVariants as Told
 use Rattle.pipe_model.specs.declared.step.Want.{Want as Asked}
-use Rattle.pipe_model.specs.declared.step.Want.TheVariants as To
-use Rattle.pipe_model.specs.declared.step.Out.TheVariants.{Same, Fresh}
-use Rattle.pipe_model.specs.Event.{Event, Want, has_ended, has_seen_end, last_seen_on}
+use Rattle.pipe_model.specs.Event.{Event, Want, has_ended, last_seen_on}
 use Rattle.pipe_model.specs.Event.Event.{Up, Saw, SawEnd, SawAllEnd, Took, Put, Refused, Primed, Opened, Joined, Severed, Ended}
-use Rattle.pipe_model.specs.Event.Want.{Commit, Read, Any, Gate, Take, Write, Prime, Issue, Join, Sever, Done}
 use Rattle.pipe_model.specs.Next.{next, wanted_by, IsOwn}
 use Rattle.pipe_model.specs.Table.{form}
 use Rattle.pipe_model.specs.State.{Who, State, past, nothing_yet, with_event, with_some_event, strand_at, link_in}
 use Rattle.pipe_model.specs.Licence.{Left, none_left, want_after, want_at, at_hand, answer, sight_of, licence}
-use Rattle.pipe_model.specs.Play.{step, IsLicensed, play_from, IsLegalFrom, play}
-use Rattle.pipe_model.specs.WellFormed.{IsWellFormed}
+use Rattle.pipe_model.specs.Play.{play}
 use Rattle.record_pool.specs.declared.pool.Held.{Held}
 use Rattle.record_pool.specs.Places.{bytes_at}
 use Rattle.stage_steps.specs.Coroutine.{told, bytes_with, meaning, last_seen}
 use Rattle.run_desk.specs.Desk.{DeskState}
-use Rattle.run_desk.specs.declared.seat.Ask.TheVariants as Now
-use Rattle.run_desk.specs.Kept.{left_out, left_in, asked, IsKept}
+use Rattle.run_desk.specs.Kept.{left_out, left_in, asked}
 use Rattle.run_desk.specs.Moves.{made, pool_moved, CanMove, CanCome, hand_on, sight_through}
 use Rattle.connectors.specs.WireState.{IsHeldIn}
 use Rattle.run_desk.specs.Order.{IsRun}
@@ -32,16 +27,15 @@ use Rattle.run_desk.specs.Pure as Pure
 use Rattle.run_desk.proofs.Runs.{run_can, run_made, run_can_come, run_home, run_gone}
 use Rattle.run_desk.proofs.Acts.{goes, saw_at_hand}
 use Rattle.run_desk.proofs.Conditions as conditions
-use Rattle.run_desk.proofs.Early.{wants_early}
 use Rattle.run_desk.proofs.Limits.{sights_held}
 use Rattle.run_desk.proofs.Offers.{sight_text}
 use Rattle.run_desk.proofs.Shown.{shows_it}
-use Rattle.run_desk.proofs.Sees.{seen_is, ask_is}
+use Rattle.run_desk.proofs.Sees.{seen_is}
 use Rattle.confluence_laws.proofs.Basics.{equal_or_not, at_same, at_other, test_same, test_apart, at_some, at_place}
 use Rattle.confluence_laws.proofs.Braids.{play_reached}
 use Rattle.confluence_laws.proofs.LeftOut.{licensed_too}
 use Rattle.core_machine.specs.declared.actor.Actor.{Actor}
-use Rattle.core_machine.specs.Actors.{is_end, gone_out, come_back, bare}
+use Rattle.core_machine.specs.Actors.{is_end, come_back, bare, bytes_told}
 use Rattle.core_machine.specs.Answered.{LeastReady, Shows}
 use Rattle.core_machine.specs.Jobs.{JobStands, DoneStands}
 use Rattle.core_machine.specs.Machine.{is_of, is_at, left_by, without, is_among, looks_at, IsLawful}
@@ -49,164 +43,7 @@ use Rattle.core_machine.specs.Members.{Members}
 use Rattle.core_machine.specs.Sound.{IsLast, IsActor, AreActors, IsSound}
 use Rattle.core_machine.specs.Woken.{IsCovering, AsksEarly, AreInside, HasReturned, LeastAwake}
 use Rattle.core_machine.proofs.Away.{left_turned, last_turned, apart_turned, left_home, apart_home, last_home, among_last, among_left, one_strand, fewer_out}
-
--- Lists
-
-pub get_set_same : {A : Type 0} (xs : List A) (i : ℕ) (x y : A) → slice_get xs i ≡ Some y → slice_get (slice_set xs i x) i ≡ Some x
-get_set_same [] i x y at = cc
-get_set_same (z ∷ zs) zero x y at = refl
-get_set_same (z ∷ zs) (suc i) x y at = get_set_same zs i x y at
-
-pub get_set_other : {A : Type 0} (xs : List A) (i k : ℕ) (x : A) → k ≢ i → slice_get (slice_set xs i x) k ≡ slice_get xs k
-get_set_other [] i k x apart = refl
-get_set_other (z ∷ zs) zero zero x apart = absurd (apart refl)
-get_set_other (z ∷ zs) zero (suc k) x apart = refl
-get_set_other (z ∷ zs) (suc i) zero x apart = refl
-get_set_other (z ∷ zs) (suc i) (suc k) x apart = get_set_other zs i k x (λ e. apart (ap suc e))
-
-get_take : {A : Type 0} (xs : List A) (q : ℕ) → slice_get (take (suc q) xs) q ≡ slice_get xs q
-get_take [] q = refl
-get_take (x ∷ xs) zero = refl
-get_take (x ∷ xs) (suc q) = get_take xs q
-
-pub end_length : (xs : List Entry) (x : Entry) → length (xs ++ x ∷ []) ≡ suc (length xs)
-end_length [] x = refl
-end_length (y ∷ ys) x = ap suc (end_length ys x)
-
--- which strands look
-abbrev pub looks_of : {S : Type 0} → List (Actor S) → List Bool
-looks_of {S} actors = map (λ (actor : Actor S). actor.looks) actors
-
-pub looks_same : {S : Type 0} (actors : List (Actor S)) (s : ℕ) (a b : Actor S) → slice_get actors s ≡ Some a → b.looks ≡ a.looks → looks_of (slice_set actors s b) ≡ looks_of actors
-looks_same [] s a b at same = refl
-looks_same (x ∷ xs) zero a b at same = let is : x ≡ a = cc in ap (λ z. z ∷ looks_of xs) (same ∙ ap (λ z. z.looks) (sym is))
-looks_same (x ∷ xs) (suc s) a b at same = ap (λ z. x.looks ∷ z) (looks_same xs s a b at same)
-
-pub looks_here : {S : Type 0} (actors : List (Actor S)) (s : ℕ) (a : Actor S) → slice_get actors s ≡ Some a → looks_at (looks_of actors) s ≡ a.looks
-looks_here [] s a at = cc
-looks_here (x ∷ xs) zero a at = let is : x ≡ a = cc in ap (λ z. z.looks) is
-looks_here (x ∷ xs) (suc s) a at = looks_here xs s a at
-
--- an event that brings bytes, more of them than nothing, is a look
-pub look_of : (b : Bool) (e : Event) (n room : ℕ) → n ≡ length (bytes_with b e) → room < n → (b ≡ true) × ((i : ℕ) × (rec : List ℕ) × (e ≡ Saw i rec) × (length rec ≡ n))
-look_of true (Saw i rec) n room is more = (refl, (i, rec, refl, sym is))
-look_of false (Saw i rec) n room is more = absurd (omega (arith, is, more))
-look_of true (Up l c) n room is more = absurd (omega (arith, is, more))
-look_of false (Up l c) n room is more = absurd (omega (arith, is, more))
-look_of true (SawEnd i) n room is more = absurd (omega (arith, is, more))
-look_of false (SawEnd i) n room is more = absurd (omega (arith, is, more))
-look_of true SawAllEnd n room is more = absurd (omega (arith, is, more))
-look_of false SawAllEnd n room is more = absurd (omega (arith, is, more))
-look_of true (Took i) n room is more = absurd (omega (arith, is, more))
-look_of false (Took i) n room is more = absurd (omega (arith, is, more))
-look_of true (Put o r) n room is more = absurd (omega (arith, is, more))
-look_of false (Put o r) n room is more = absurd (omega (arith, is, more))
-look_of true (Refused o) n room is more = absurd (omega (arith, is, more))
-look_of false (Refused o) n room is more = absurd (omega (arith, is, more))
-look_of true (Primed p) n room is more = absurd (omega (arith, is, more))
-look_of false (Primed p) n room is more = absurd (omega (arith, is, more))
-look_of true (Opened k) n room is more = absurd (omega (arith, is, more))
-look_of false (Opened k) n room is more = absurd (omega (arith, is, more))
-look_of true (Joined k c) n room is more = absurd (omega (arith, is, more))
-look_of false (Joined k c) n room is more = absurd (omega (arith, is, more))
-look_of true (Severed s) n room is more = absurd (omega (arith, is, more))
-look_of false (Severed s) n room is more = absurd (omega (arith, is, more))
-look_of true (Ended c) n room is more = absurd (omega (arith, is, more))
-look_of false (Ended c) n room is more = absurd (omega (arith, is, more))
-
--- Plays
-
--- one entry more
-pub play_one : (net : Net) (st : State) (es : List Entry) (e : Entry) → play_from net st (es ++ e ∷ []) ≡ step net (play_from net st es) e
-play_one net st [] e = refl
-play_one net st (x ∷ es) e = play_one net (step net st x) es e
-
-legal_one : (net : Net) (st : State) (es : List Entry) (e : Entry) → IsLegalFrom net st es → IsLicensed net (play_from net st es) e → IsLegalFrom net st (es ++ e ∷ [])
-legal_one net st [] e legal may = (may, tt)
-legal_one net st (x ∷ es) e legal may = (legal.0, legal_one net (step net st x) es e legal.1 may)
-
--- a history is no longer than its journal
-step_length : (net : Net) (st : State) (e : Entry) (s : Who) → length (past (step net st e) s) ≤ suc (length (past st s))
-step_length net st e s = go (licence net st none_left e.strand e.stream)
-  where
-    longer : (f : Event) (b : Bool) → length (cond b (f ∷ past st s) (past st s)) ≤ suc (length (past st s))
-    longer f true = omega arith
-    longer f false = omega arith
-
-    go : (x : Option Event) → length (past (with_some_event st e.strand x) s) ≤ suc (length (past st s))
-    go None = omega arith
-    go (Some f) = longer f (s == e.strand)
-
-play_length : (net : Net) (st : State) (es : List Entry) (s : Who) → length (past (play_from net st es) s) ≤ length (past st s) + length es
-play_length net st [] s = omega arith
-play_length net st (e ∷ es) s = let a = step_length net st e s in let b = play_length net (step net st e) es s in omega (arith, a, b)
-
--- Ends
-
-or_false : (b : Bool) → (b || false) ≡ b
-or_false true = refl
-or_false false = refl
-
-or_turn : (a b : Bool) → (a || b) ≡ (b || a)
-or_turn true true = refl
-or_turn true false = refl
-or_turn false true = refl
-or_turn false false = refl
-
-end_seen : (e : Event) (h : List Event) (b : Bool) → b ≡ has_seen_end 0 h → (b || is_end (told e)) ≡ has_seen_end 0 (e ∷ h)
-end_seen (SawEnd i) h b is = or_turn b (i == 0) ∙ ap (λ z. (i == 0) || z) is
-end_seen (Up l c) h b is = or_false b ∙ is
-end_seen (Saw i r) h b is = or_false b ∙ is
-end_seen SawAllEnd h b is = or_false b ∙ is
-end_seen (Took i) h b is = or_false b ∙ is
-end_seen (Put o r) h b is = or_false b ∙ is
-end_seen (Refused o) h b is = or_false b ∙ is
-end_seen (Primed p) h b is = or_false b ∙ is
-end_seen (Opened k) h b is = or_false b ∙ is
-end_seen (Joined k c) h b is = or_false b ∙ is
-end_seen (Severed s) h b is = or_false b ∙ is
-end_seen (Ended c) h b is = or_false b ∙ is
-
--- a new record is shown as an empty one
-pub shows_bare : (h : List Event) (w : Asked) (want : Want) → want ≡ meaning w (last_seen h) → Shows h (bare w) want
-shows_bare h (To.Write o (Fresh rec)) want is = (refl, (rec, is))
-shows_bare h (To.Write o (Same i)) want is = is
-shows_bare h (To.Commit l) want is = is
-shows_bare h (To.Read i) want is = is
-shows_bare h To.Any want is = is
-shows_bare h To.Gate want is = is
-shows_bare h (To.Take i) want is = is
-shows_bare h To.Primed want is = is
-shows_bare h (To.Issue text) want is = is
-shows_bare h (To.Join k) want is = is
-shows_bare h (To.Cut i) want is = is
-shows_bare h (To.Done c) want is = is
-
--- no strand of a desk that stands for a state asks for another level than the early ones
-pub early_on : (net : Net) (st : State) → IsWellFormed net → ((t : Who) (q : Strand) → strand_at net st t ≡ Some q → IsOwn q (past st t)) → (texts : ℕ → List ℕ) (l : Left) (x : DeskState) → IsKept net texts st l x → AsksEarly x
-early_on net st formed own texts l x kept t level is = wants_early net st l own t level (commit_back (want_at net st l t) (sym (ask_is net texts st l x formed kept t) ∙ is))
-  where
-    commit_back : (w : Option Want) → asked w ≡ Now.Commit level → w ≡ Some (Commit level)
-    commit_back (Some (Commit l)) e = let same : l ≡ level = cc in ap (λ z. Some (Commit z)) same
-    commit_back None e = cc
-    commit_back (Some (Read i)) e = cc
-    commit_back (Some Any) e = cc
-    commit_back (Some Gate) e = cc
-    commit_back (Some (Take i)) e = cc
-    commit_back (Some (Write o r)) e = cc
-    commit_back (Some Prime) e = cc
-    commit_back (Some (Issue text)) e = cc
-    commit_back (Some (Join k)) e = cc
-    commit_back (Some (Sever i)) e = cc
-    commit_back (Some (Done c)) e = cc
-
--- the links join strands below their number
-pub links_inside : (net : Net) (size : ℕ) → IsWellFormed net → size ≡ length net.strands → AreInside net.links size
-links_inside net size formed is j link at =
-    let joined = formed.joined j link at in
-    let from = at_place net.strands link.from joined.from_strand in
-    let to = at_place net.strands link.to joined.to_strand in
-    (omega (arith, from, is), omega (arith, to, is))
+use Rattle.core_machine.proofs.Plays.{get_set_same, get_set_other, get_take, end_length, looks_of, looks_same, looks_here, play_one, legal_one, play_length, end_seen, shows_bare, early_on, links_inside}
 
 module _ {S : Type 0} (stands : S → Strand → List Event → Type 0) (is_looking : S → Bool) (net : Net) (budget : ℕ) (journal : List Entry) (out : List ℕ) (actors : List (Actor S)) (d : DeskState) (places : List (Option Held)) (ready : Members)
     (sound : IsSound stands is_looking net budget journal out actors d places ready) where
@@ -333,6 +170,25 @@ module _ {S : Type 0} (stands : S → Strand → List Event → Type 0) (is_look
       go (Severed j) past_is is = cc
       go (Ended c) past_is is = cc
 
+  -- the same, whatever a strand was told last and whether it looks
+  pub told_are : (b : Bool) (s : Who) (e : Event) (h : List Event) (seen : Seen) → past st s ≡ e ∷ h → has_ended h ≡ false → told e ≡ seen → bytes_told b d places s seen ≡ bytes_with b e
+  told_are b s e h seen past_is going is = ap (bytes_told b d places s) (sym is) ∙ go b e past_is
+    where
+      go : (b : Bool) (f : Event) → past st s ≡ f ∷ h → bytes_told b d places s (told f) ≡ bytes_with b f
+      go false f past_is = refl
+      go true (Saw i rec) past_is = bytes_are s (Saw i rec) h i past_is going refl
+      go true (Up l c) past_is = refl
+      go true (SawEnd i) past_is = refl
+      go true SawAllEnd past_is = refl
+      go true (Took i) past_is = refl
+      go true (Put o r) past_is = refl
+      go true (Refused o) past_is = refl
+      go true (Primed p) past_is = refl
+      go true (Opened i) past_is = refl
+      go true (Joined i c) past_is = refl
+      go true (Severed i) past_is = refl
+      go true (Ended c) past_is = refl
+
   -- the links join strands of the set
   pub inside : AreInside net.links ready.size
   inside = links_inside net ready.size sound.formed sound.size
@@ -400,7 +256,8 @@ module _ {S : Type 0} (stands : S → Strand → List Event → Type 0) (is_look
     pub can_turn : (seen : Seen) → told e ≡ seen → CanMove d places s seen
     can_turn seen at = subst (CanMove d places s) at (run_can net st left d places sound.formed own sound.few sound.run short s k e may)
 
-    module _ (a : Actor S) (stage : S) (there : slice_get actors s ≡ Some a) (was : a.stage ≡ Some stage) (seen : Seen) (seen_at : told e ≡ seen) (space : length journal < budget) (d' : DeskState) (places' : List (Option Held)) (ready' : Members)
+    module _ (a : Actor S) (stage : S) (there : slice_get actors s ≡ Some a) (was : a.stage ≡ Some stage) (seen : Seen) (seen_at : told e ≡ seen) (b : Actor S) (b_out : b.stage ≡ None) (b_looks : b.looks ≡ a.looks) (b_end : b.saw_end ≡ (a.saw_end || is_end seen))
+        (space : length journal < budget) (d' : DeskState) (places' : List (Option Held)) (ready' : Members)
         (desk_is : d' ≡ made d s seen) (pool_is : places' ≡ pool_moved d places s seen) (size : ready'.size ≡ ready.size) (covers : IsCovering d' ready') where
       abbrev longer : List Entry
       longer = journal ++ entry ∷ []
@@ -422,41 +279,44 @@ module _ {S : Type 0} (stands : S → Strand → List Event → Type 0) (is_look
       want_none : want_at net (play net longer) (left_by longer out') s ≡ None
       want_none = ap (λ l. want_at net (play net longer) l s) left_is ∙ ap (λ b. cond (cond b true (left s)) None (want_after (strand_at net st s) (past (play net longer) s))) (test_same s)
 
-      actors_turned : AreActors stands is_looking net longer out' (slice_set actors s (gone_out seen a))
+      actors_turned : AreActors stands is_looking net longer out' (slice_set actors s b)
       actors_turned = record {
-        count = length-set actors s (gone_out seen a) ∙ sound.strands.count;
+        count = length-set actors s b ∙ sound.strands.count;
         each = λ u p x is at. elim (equal_or_not u s) [
           | inl z ↦ here u p x z is at
           | inr z ↦
-              let old = sound.strands.each u p x is (sym (get_set_other actors s u (gone_out seen a) z) ∙ at) in
+              let old = sound.strands.each u p x is (sym (get_set_other actors s u b z) ∙ at) in
               subst (λ h. IsActor stands is_looking h (want_at net (play net longer) (left_by longer out') u) p x) (sym (same_past u z)) (subst (λ w. IsActor stands is_looking (past st u) w p x) (sym (want_same u z)) old)
         ];
         home = λ u x at home.
             let l : left_out left s u ≡ false = ap (λ z. z u) (sym left_is) ∙ home in
             (elim (equal_or_not u s) [
               | inl z ↦ (let no : true ≡ false = sym (ap (λ b. cond b true (left u)) (ap (λ y. y == s) z ∙ test_same s)) ∙ l in absurd (let q : ⊥ = cc in q))
-              | inr z ↦ sound.strands.home u x (sym (get_set_other actors s u (gone_out seen a) z) ∙ at) (sym (ap (λ b. cond b true (left u)) (test_apart u s z)) ∙ l)
+              | inr z ↦ sound.strands.home u x (sym (get_set_other actors s u b z) ∙ at) (sym (ap (λ b. cond b true (left u)) (test_apart u s z)) ∙ l)
             ]);
       }
         where
-          here : (u : Who) (p : Strand) (x : Actor S) → u ≡ s → strand_at net (play net longer) u ≡ Some p → slice_get (slice_set actors s (gone_out seen a)) u ≡ Some x →
+          none_some : {y : S} → ◌≡◌ {A = Option S} None (Some y) → ⊥
+          none_some q = cc
+
+          here : (u : Who) (p : Strand) (x : Actor S) → u ≡ s → strand_at net (play net longer) u ≡ Some p → slice_get (slice_set actors s b) u ≡ Some x →
               IsActor stands is_looking (past (play net longer) u) (want_at net (play net longer) (left_by longer out') u) p x
           here u p x z is at =
               let old = sound.strands.each s p a (ap (strand_at net st) (sym z) ∙ is) there in
-              let got : Some (gone_out seen a) ≡ Some x = sym (get_set_same actors s (gone_out seen a) a there) ∙ ap (slice_get (slice_set actors s (gone_out seen a))) (sym z) ∙ at in
-              let x_is : gone_out seen a ≡ x = cc in
+              let got : Some b ≡ Some x = sym (get_set_same actors s b a there) ∙ ap (slice_get (slice_set actors s b)) (sym z) ∙ at in
+              let x_is : b ≡ x = cc in
               let h_is : past (play net longer) u ≡ e ∷ past st s = ap (past (play net longer)) z ∙ ap (λ y. past y s) now ∙ at_same st s e in
               let w_is : want_at net (play net longer) (left_by longer out') u ≡ None = ap (want_at net (play net longer) (left_by longer out')) z ∙ want_none in
               let P : List Event → Option Want → Actor S → Type 0 = λ h w y. IsActor stands is_looking h w p y in
-              let new : P (e ∷ past st s) None (gone_out seen a) = record {
-                saw_end = ap (λ y. a.saw_end || is_end y) (sym seen_at) ∙ end_seen e (past st s) a.saw_end old.saw_end;
+              let new : P (e ∷ past st s) None b = record {
+                saw_end = b_end ∙ ap (λ y. a.saw_end || is_end y) (sym seen_at) ∙ end_seen e (past st s) a.saw_end old.saw_end;
                 asked = λ w q. cc;
-                stands_for = λ y q. cc;
-                looks = λ y q. cc;
+                stands_for = λ y q. absurd (none_some (sym b_out ∙ q));
+                looks = λ y q. absurd (none_some (sym b_out ∙ q));
               } in
               subst (λ h. P h (want_at net (play net longer) (left_by longer out') u) x) (sym h_is) (subst (λ w. P (e ∷ past st s) w x) (sym w_is) (subst (P (e ∷ past st s) None) x_is new))
 
-      pub sound_turned : IsSound stands is_looking net budget longer out' (slice_set actors s (gone_out seen a)) d' places' ready'
+      pub sound_turned : IsSound stands is_looking net budget longer out' (slice_set actors s b) d' places' ready'
       sound_turned = record {
         formed = sound.formed;
         few = sound.few;
@@ -476,7 +336,7 @@ module _ {S : Type 0} (stands : S → Strand → List Event → Type 0) (is_look
         covers = covers;
       }
 
-      pub job_turned : JobStands stands is_looking net (looks_of (slice_set actors s (gone_out seen a))) longer s (suc (length journal)) seen stage
+      pub job_turned : JobStands stands is_looking net (looks_of (slice_set actors s b)) longer s (suc (length journal)) seen stage
       job_turned = record {
         place_is = sym (end_length journal entry);
         before = journal;
@@ -489,9 +349,13 @@ module _ {S : Type 0} (stands : S → Strand → List Event → Type 0) (is_look
         stood = λ p is. (sound.strands.each s p a is there).stands_for stage was;
         looks =
             let p = at_some net.strands s in_range in
-            (sound.strands.each s p.0 a p.1 there).looks stage was ∙ sym (looks_here actors s a there) ∙ ap (λ l. looks_at l s) (sym (looks_same actors s a (gone_out seen a) there refl));
+            (sound.strands.each s p.0 a p.1 there).looks stage was ∙ sym (looks_here actors s a there) ∙ ap (λ l. looks_at l s) (sym (looks_same actors s a b there b_looks));
         room = let a = play_length net nothing_yet journal s in let b = sound.bounded in omega (arith, a, b, space);
       }
+
+      pub job_event : job_turned.event ≡ e
+      unfolding job_turned
+      job_event = refl
 
   -- A coming home
 

@@ -1,10 +1,16 @@
--- How what is kept of a strand changes when its coroutine goes out, and when it comes back.
-use Rattle.std.specs.Prelude.{◌||◌, Bool, false, ◌==◌, [], Some, None}
+-- How what is kept of a strand changes when its coroutine goes out, comes back, or goes on in place.
+use Rattle.std.specs.Prelude.{◌||◌, Bool, true, false, ◌==◌, ℕ, List, [], Option, Some, None}
+use Rattle.std.specs.Option.{option_map_or}
 use Rattle.pipe_model.specs.declared.step.Out.TheVariants.{Fresh}
 use Rattle.pipe_model.specs.declared.step.Seen.{Seen}
-use Rattle.pipe_model.specs.declared.step.Seen.TheVariants.{SawEnd}
+use Rattle.pipe_model.specs.declared.step.Seen.TheVariants.{Saw, SawEnd}
 use Rattle.pipe_model.specs.declared.step.Want.{Want}
 use Rattle.pipe_model.specs.declared.step.Want.TheVariants.{Write}
+use Rattle.record_pool.specs.declared.pool.Held.{Held}
+use Rattle.record_pool.specs.Places.{bytes_at}
+use Rattle.run_desk.specs.Desk.{DeskState}
+use Rattle.run_desk.specs.Moves.{sight_through}
+use Rattle.run_desk.specs.Pure.{in_door}
 use Rattle.core_machine.specs.declared.actor.Actor.{Actor}
 
 -- it is told that input 0 has ended
@@ -18,7 +24,24 @@ gone_out seen actor = record { stage = None; asked = actor.asked; looks = actor.
 abbrev pub come_back : {S : Type 0} → S → Want → Actor S → Actor S
 come_back stage asked actor = record { stage = Some stage; asked = asked; looks = actor.looks; saw_end = actor.saw_end }
 
+-- its coroutine went on in place, and asked for this
+abbrev pub gone_on : {S : Type 0} → Seen → S → Want → Actor S → Actor S
+gone_on seen stage asked actor = record { stage = Some stage; asked = asked; looks = actor.looks; saw_end = actor.saw_end || is_end seen }
+
+-- its coroutine is given up
+abbrev pub given_up : {S : Type 0} → Actor S → Actor S
+given_up actor = record { stage = None; asked = actor.asked; looks = actor.looks; saw_end = actor.saw_end }
+
+-- it asks for this
+abbrev pub asking_for : {S : Type 0} → Want → Actor S → Actor S
+asking_for asked actor = record { stage = actor.stage; asked = asked; looks = actor.looks; saw_end = actor.saw_end }
+
 -- the want, in which a new record is empty
 abbrev pub bare : Want → Want
 bare (Write o (Fresh rec)) = Write o (Fresh [])
 bare want = want
+
+-- the bytes that go with what a strand was told last: those of the record that it saw, where it looks
+abbrev pub bytes_told : Bool → DeskState → List (Option Held) → ℕ → Seen → List ℕ
+bytes_told true d places s (Saw i) = option_map_or (bytes_at places) (sight_through d.sights (in_door d s i)) []
+bytes_told _ d places s seen = []

@@ -3,7 +3,6 @@ use Rattle.std.specs.Prelude.{◌≡◌, ℕ, ◌<◌, Bool, false, List, [], le
 use Rattle.pipe_model.specs.declared.net.Net.{Net}
 use Rattle.pipe_model.specs.declared.net.Link.{Link}
 use Rattle.pipe_model.specs.declared.net.Strand.{Strand}
-use Rattle.pipe_model.specs.declared.step.Want.{Want as Asked}
 use Rattle.pipe_model.specs.declared.step.Want.TheVariants as Ask
 use Rattle.pipe_model.specs.Event.{Event}
 use Rattle.pipe_model.specs.State.{Who, nothing_yet, strand_at}
@@ -28,10 +27,6 @@ pub record AreFresh {S : Type 0} (stands : S → Strand → List Event → Type 
 -- what is kept of a strand before it has asked for anything
 abbrev pub new_actor : {S : Type 0} → (S → Bool) → S → Actor S
 new_actor is_looking stage = record { stage = Some stage; asked = Ask.Any; looks = is_looking stage; saw_end = false }
-
--- what is kept of a strand that asks for this
-abbrev pub asking_for : {S : Type 0} → Asked → Actor S → Actor S
-asking_for asked actor = record { stage = actor.stage; asked = asked; looks = actor.looks; saw_end = actor.saw_end }
 
 -- the strands below a number have asked for what they want first, and the others are out
 pub record IsCalled {S : Type 0} (stands : S → Strand → List Event → Type 0) (is_looking : S → Bool) (net : Net) (s : Who) (actors : List (Actor S)) (d : DeskState) (places : List (Option Held)) (ready : Members) : Type 0 where

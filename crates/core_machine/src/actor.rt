@@ -1,8 +1,16 @@
-ghost use Rattle.std.specs.Prelude.{◌≡◌, ◌<◌, Some, None, length, slice_get, slice_set};
-ghost use Rattle.core_machine.specs.Actors.{gone_out, come_back, bare};
+ghost use Rattle.std.specs.Prelude.{◌≡◌, ◌<◌, ◌||◌, ◌∷◌, ◌++◌, [], ℕ, Some, None, false, length, map, slice_get, slice_set, vec_capacity, IfOk};
+ghost use Rattle.connectors.specs.WireState.{IsHeldIn};
+ghost use Rattle.pipe_model.specs.declared.step.Want.{Want as Asked};
+ghost use Rattle.run_desk.specs.Moves.{sight_through};
+ghost use Rattle.run_desk.specs.Pure.{in_door};
+ghost use Rattle.stage_steps.specs.Coroutine.{CanResume, Resumes};
+ghost use Rattle.core_machine.specs.Actors.{is_end, gone_out, come_back, gone_on, given_up, asking_for, bare, bytes_told};
+ghost use Rattle.core_machine.specs.Machine.{looks_at};
 ghost use Rattle.core_machine.specs.declared.actor.Actor.{Actor as ActorIs};
 
-use pipe_model::{Out, Rec, Seen, Want};
+use pipe_model::{NoMemory, Out, Rec, Seen, Want};
+use record_pool::Pool;
+use run_desk::Desk;
 use stage_steps::Stage;
 use std::alloc::Global;
 use std::mem;
@@ -43,6 +51,98 @@ pub(crate) fn take_back<S: Stage>(actors: &mut Vec<Actor<S>>, strand: usize, sta
     let actor = &mut actors[strand];
     actor.stage = Some(stage);
     actor.asked = asked;
+}
+
+/// The strand's coroutine is told this, and goes on in place. What it asks for is kept.
+pub(crate) fn resume_at<S: Stage>(
+    actors: &mut Vec<Actor<S>>,
+    strand: usize,
+    alloc: Global,
+    seen: Seen,
+    bytes: &[u8],
+) -> Result<(), NoMemory>
+    requires { (a : ActorIs S) × (x : S) × (slice_get actors.old.items strand ≡ Some a) × (a.stage ≡ Some x) × CanResume S.stands (S.is_looking x) x seen bytes.now }
+    ensures { (a : ActorIs S) × (x : S) × (y : S) × (asked : Asked) × (slice_get actors.old.items strand ≡ Some a) × (a.stage ≡ Some x) × (S.is_looking y ≡ S.is_looking x)
+        × (actors.new.items ≡ slice_set actors.old.items strand (gone_on seen y asked a)) × IfOk result (λ done. Resumes S.stands (S.is_looking x) x y seen bytes.now asked) }
+{
+    let actor = &mut actors[strand];
+    note_end(actor, seen);
+    let Some(stage) = &mut actor.stage else {
+        unreachable!()
+    };
+    actor.asked = stage.resume(alloc, seen, bytes)?;
+    Ok(())
+}
+
+// Keeps whether the strand has seen the end of input 0.
+fn note_end<S: Stage>(actor: &mut Actor<S>, seen: Seen)
+    ensures { actor.new ≡ record actor.old { saw_end = actor.old.saw_end || is_end seen } }
+{
+    if matches!(seen, Seen::SawEnd(0)) {
+        actor.saw_end = true;
+    }
+}
+
+/// The strand's coroutine is given up after want of memory: the strand is out for good, with the entry of this place.
+pub(crate) fn give_up<S: Stage>(
+    actors: &mut Vec<Actor<S>>,
+    out: &mut Vec<u64>,
+    strand: usize,
+    place: u64,
+)
+    requires there { strand < length actors.old.items }
+    requires room { length out.old.items < vec_capacity out.old }
+    ensures actor { (a : ActorIs S) × (slice_get actors.old.items strand ≡ Some a) × (actors.new.items ≡ slice_set actors.old.items strand (given_up a)) }
+    ensures out { out.new.items ≡ out.old.items ++ place ∷ [] }
+    ensures capacity { vec_capacity out.new ≡ vec_capacity out.old }
+{
+    actors[strand].stage = None;
+    out.push_reserved(place);
+}
+
+/// What the strand asked for last.
+pub(crate) fn asked_by<S: Stage>(actors: &[Actor<S>], strand: usize) -> &Want
+    requires { strand < length actors.now }
+    ensures { (a : ActorIs S) → slice_get actors.now strand ≡ Some a → result.now ≡ a.asked }
+{
+    &actors[strand].asked
+}
+
+/// Empties a new record that the strand asked to write.
+pub(crate) fn bare_at<S: Stage>(actors: &mut Vec<Actor<S>>, strand: usize, alloc: Global)
+    requires { strand < length actors.old.items }
+    ensures { (a : ActorIs S) × (slice_get actors.old.items strand ≡ Some a) × (actors.new.items ≡ slice_set actors.old.items strand (asking_for (bare a.asked) a)) }
+{
+    if let Want::Write(_, Out::Fresh(rec)) = &mut actors[strand].asked {
+        *rec = Rec::from_vec(Vec::new(alloc));
+    }
+}
+
+/// Whether the strand is given the bytes of what it sees.
+pub(crate) fn looks<S: Stage>(actors: &[Actor<S>], strand: u32) -> bool
+    ensures { result ≡ looks_at (map (λ (actor : ActorIs S). actor.looks) actors.now) strand }
+{
+    match actors.get(strand as usize) {
+        None => false,
+        Some(actor) => actor.looks,
+    }
+}
+
+/// The bytes that go with what a strand was told last, where it looks.
+pub(crate) fn bytes_told<'a>(
+    looks: bool,
+    desk: &Desk,
+    pool: &'a Pool,
+    strand: u32,
+    seen: Seen,
+) -> &'a [u8]
+    requires { (i : ℕ) → IsHeldIn pool.now (sight_through desk.now.sights (in_door desk.now strand i)) }
+    ensures { result.now ≡ bytes_told looks desk.now pool.now strand seen }
+{
+    match seen {
+        Seen::Saw(i) if looks => desk.seen_bytes(pool, strand, i),
+        _ => &[],
+    }
 }
 
 /// The want, in which a new record is empty.

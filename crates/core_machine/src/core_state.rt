@@ -1,7 +1,7 @@
 ghost use Rattle.std.specs.Prelude.{◌≡◌, ◌≤◌, length, vec_capacity};
 ghost use Rattle.core_machine.specs.Machine.{without};
 
-use crate::actor::{Actor, bare, send_out, take_back};
+use crate::actor::{Actor, bare, bytes_told, looks, send_out, take_back};
 use crate::job::{Finished, Job, Turned};
 use crate::ready::Ready;
 use crate::wake::{bring_home, move_out};
@@ -182,19 +182,13 @@ impl<S: Stage> Core<S> {
     pub(crate) fn bytes_seen(&self, strand: u32, seen: Seen) -> &[u8]
         ensures { (e : Event) (h : List Event) → past (state_of self.now) strand ≡ e ∷ h → has_ended h ≡ false → told e ≡ seen → result.now ≡ bytes_with (looks_at self.now.looking strand) e }
     {
-        match seen {
-            Seen::Saw(i) if self.looks(strand) => self.desk.seen_bytes(&self.pool, strand, i),
-            _ => &[],
-        }
+        bytes_told(self.looks(strand), &self.desk, &self.pool, strand, seen)
     }
 
     fn looks(&self, strand: u32) -> bool
         ensures { result ≡ looks_at self.now.looking strand }
     {
-        match self.actors.get(strand as usize) {
-            None => false,
-            Some(actor) => actor.looks,
-        }
+        looks(&self.actors, strand)
     }
 }
 

@@ -1,8 +1,9 @@
+use crate::actor::{asked_by, bare_at, bytes_told, give_up, looks, resume_at};
 use crate::core_state::Core;
 use crate::job::RunEnd;
-use crate::wake::least_awake;
+use crate::wake::{bring_home, least_awake, move_out};
 use outside::Gate;
-use pipe_model::{NoMemory, Seen};
+use pipe_model::{Entry, NoMemory, Seen};
 use stage_steps::Stage;
 use std::alloc::Global;
 
@@ -56,7 +57,7 @@ impl<S: Stage> Core<S> {
         Ok(true)
     }
 
-    // Makes an event that may be, and goes on with the strand's coroutine.
+    // Makes an event that may be, and goes on with the strand's coroutine, in place.
     fn go_on(&mut self, alloc: Global, strand: u32, stream: u16, seen: Seen) -> Result<(), NoMemory>
         requires may { (e : Event) × (licence_of self.old strand stream ≡ Some e) × (told e ≡ seen) }
         requires space { length self.old.journal < self.old.budget }
@@ -66,9 +67,37 @@ impl<S: Stage> Core<S> {
         ensures lacks { OnErr result (HasBroken self.old self.new) }
         ensures lawful { IsLawful self.new }
     {
-        let job = self.go_out(strand, stream, seen);
-        let done = job.run(alloc, self.bytes_seen(strand, seen));
-        self.finish(done)
+        let at = strand as usize;
+        move_out(
+            &mut self.desk,
+            &mut self.pool,
+            &mut self.ready,
+            self.net.links.as_slice(),
+            strand,
+            seen,
+        );
+        self.journal.push_reserved(Entry { strand, stream });
+        let looks = looks(&self.actors, strand);
+        let bytes = bytes_told(looks, &self.desk, &self.pool, strand, seen);
+        let Ok(()) = resume_at(&mut self.actors, at, alloc, seen, bytes) else {
+            give_up(&mut self.actors, &mut self.out, at, self.journal.len() as u64);
+            self.is_broken = true;
+            return Err(NoMemory);
+        };
+        let Ok(()) = bring_home(
+            &mut self.desk,
+            &mut self.pool,
+            &mut self.ready,
+            self.net.links.as_slice(),
+            strand,
+            asked_by(&self.actors, at),
+        ) else {
+            give_up(&mut self.actors, &mut self.out, at, self.journal.len() as u64);
+            self.is_broken = true;
+            return Err(NoMemory);
+        };
+        bare_at(&mut self.actors, at, self.alloc);
+        Ok(())
     }
 
     // The least strand that may have an event, and its least stream.

@@ -6,7 +6,8 @@ ghost use Rattle.pipe_model.specs.WellFormed.{IsWellFormed};
 ghost use Rattle.run_desk.specs.Order.{IsPooled};
 ghost use Rattle.stage_steps.specs.Coroutine.{meaning, last_seen};
 ghost use Rattle.core_machine.specs.declared.actor.Actor.{Actor as ActorIs};
-ghost use Rattle.core_machine.specs.Start.{IsCalled, new_actor, asking_for};
+ghost use Rattle.core_machine.specs.Actors.{asking_for};
+ghost use Rattle.core_machine.specs.Start.{IsCalled, new_actor};
 
 use crate::actor::{Actor, bare};
 use crate::core_state::Core;

@@ -2,9 +2,10 @@ use Rattle.std.proofs.Common.{◌≡◌, ◌+◌, suc, length, slice_get, slice_
 use Rattle.pipe_model.specs.State.{nothing_yet}
 use Rattle.record_pool.specs.Places.{bytes_at}
 use Rattle.run_desk.specs.Order.{out_from}
-use Rattle.core_machine.specs.Start.{IsCalled, asking_for}
+use Rattle.core_machine.specs.Actors.{asking_for}
+use Rattle.core_machine.specs.Start.{IsCalled}
 use Rattle.core_machine.specs.Woken.{AreInside}
-use Rattle.core_machine.proofs.Sounds.{looks_of, looks_same, links_inside}
+use Rattle.core_machine.proofs.Plays.{looks_of, looks_same, links_inside}
 use Rattle.core_machine.proofs.Starts.{its_coroutine, can_call, called_early, called_next}
 use Rattle.core_machine.proofs.start.call.Goals as goal
 

@@ -1,6 +1,6 @@
 use Rattle.std.proofs.Common.{◌≡◌, ◌-◌, ◌≤◌, length}
 use Rattle.core_machine.specs.Start.{IsCalled}
-use Rattle.core_machine.proofs.Sounds.{looks_of}
+use Rattle.core_machine.proofs.Plays.{looks_of}
 use Rattle.core_machine.proofs.start.call_all.Given as goal
 
 abbrev pub invariant-loop-strand : goal.invariant-loop-strand

@@ -6,7 +6,8 @@ use Rattle.core_machine.specs.Jobs.{DoneStands}
 use Rattle.core_machine.specs.Machine.{Machine, left_by, without, is_among, came_home}
 use Rattle.core_machine.specs.Sound.{IsSound}
 use Rattle.core_machine.specs.Woken.{IsCovering, AsksEarly, AreInside}
-use Rattle.core_machine.proofs.Sounds.{looks_of, looks_same, asks_early, inside, sound_ready, place, can_home, came, came_early, sound_home}
+use Rattle.core_machine.proofs.Plays.{looks_of, looks_same}
+use Rattle.core_machine.proofs.Sounds.{asks_early, inside, sound_ready, place, can_home, came, came_early, sound_home}
 use Rattle.core_machine.proofs.core_state.Core.come_home.Goals as goal
 
 pub bring_home-requires-clause-can : goal.bring_home-requires-clause-can

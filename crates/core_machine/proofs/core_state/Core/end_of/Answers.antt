@@ -1,7 +1,7 @@
 use Rattle.std.proofs.Common.{◌≡◌, ◌<◌, length, subst, sym}
 use Rattle.core_machine.specs.Answered.{end_of as ending}
 use Rattle.core_machine.specs.Machine.{Machine}
-use Rattle.core_machine.proofs.Sounds.{looks_of}
+use Rattle.core_machine.proofs.Plays.{looks_of}
 use Rattle.core_machine.proofs.Tales.{end_is}
 use Rattle.core_machine.proofs.core_state.Core.end_of.Goals as goal
 

@@ -1,7 +1,7 @@
 use Rattle.std.proofs.Common.{rules, ◌≡◌, ◌≤◌, length, [], subst, sym, arith, vec_len, ◌∙◌}
 use Rattle.std.proofs.lemmas.Bool.{eqb-true}
 use Rattle.core_machine.specs.Machine.{Machine, HasStopped}
-use Rattle.core_machine.proofs.Sounds.{looks_of}
+use Rattle.core_machine.proofs.Plays.{looks_of}
 use Rattle.core_machine.proofs.Tales.{goes_on, stopped, none_of}
 use Rattle.core_machine.proofs.core_state.Core.is_complete.Goals as goal
 

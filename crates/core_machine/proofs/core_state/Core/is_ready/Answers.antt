@@ -1,6 +1,7 @@
 use Rattle.std.proofs.Common.{◌≡◌, is_some, ◌∙◌, ap, subst}
 use Rattle.core_machine.specs.Machine.{Machine, licence_of}
-use Rattle.core_machine.proofs.Sounds.{looks_of, ready_is}
+use Rattle.core_machine.proofs.Plays.{looks_of}
+use Rattle.core_machine.proofs.Sounds.{ready_is}
 use Rattle.core_machine.proofs.core_state.Core.is_ready.Goals as goal
 
 pub returns : goal.returns

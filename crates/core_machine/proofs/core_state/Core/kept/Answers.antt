@@ -4,7 +4,7 @@ use Rattle.pipe_model.specs.State.{past, strand_at, nothing_yet}
 use Rattle.pipe_model.specs.Table.{form}
 use Rattle.stage_steps.specs.Coroutine.{kept_by}
 use Rattle.core_machine.specs.Machine.{Machine, state_of, left_by}
-use Rattle.core_machine.proofs.Sounds.{looks_of}
+use Rattle.core_machine.proofs.Plays.{looks_of}
 use Rattle.core_machine.proofs.Tales.{read_there, stage_there, stage_stands}
 use Rattle.core_machine.proofs.core_state.Core.kept.Goals as goal
 

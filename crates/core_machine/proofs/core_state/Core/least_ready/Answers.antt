@@ -1,7 +1,8 @@
 use Rattle.std.proofs.Common.{◌≡◌, subst}
 use Rattle.core_machine.specs.Answered.{LeastReady}
 use Rattle.core_machine.specs.Machine.{Machine}
-use Rattle.core_machine.proofs.Sounds.{looks_of, least_is, lawful}
+use Rattle.core_machine.proofs.Plays.{looks_of}
+use Rattle.core_machine.proofs.Sounds.{least_is, lawful}
 use Rattle.core_machine.proofs.core_state.Core.least_ready.Goals as goal
 
 pub returns-clause-least : goal.returns-clause-least

@@ -1,5 +1,5 @@
 use Rattle.std.proofs.Common.{rules, ◌≡◌, ◌≤◌, length, arith}
-use Rattle.core_machine.proofs.Sounds.{looks_of}
+use Rattle.core_machine.proofs.Plays.{looks_of}
 use Rattle.core_machine.proofs.Tales.{few_out}
 use Rattle.core_machine.proofs.core_state.Core.out_count.Goals as goal
 

@@ -1,7 +1,7 @@
 use Rattle.std.proofs.Common.{◌≡◌, subst}
 use Rattle.core_machine.specs.Answered.{LeastStream}
 use Rattle.core_machine.specs.Machine.{Machine}
-use Rattle.core_machine.proofs.Sounds.{looks_of}
+use Rattle.core_machine.proofs.Plays.{looks_of}
 use Rattle.core_machine.proofs.Tales.{stream_is}
 use Rattle.core_machine.proofs.core_state.Core.ready_stream.Goals as goal
 

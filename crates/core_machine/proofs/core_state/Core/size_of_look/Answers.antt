@@ -1,7 +1,8 @@
 use Rattle.std.proofs.Common.{◌≡◌, Some, length, sym, ◌∙◌, ap, subst}
 use Rattle.stage_steps.specs.Coroutine.{bytes_with}
 use Rattle.core_machine.specs.Machine.{Machine, licence_of}
-use Rattle.core_machine.proofs.Sounds.{looks_of, hand_held, looks_long}
+use Rattle.core_machine.proofs.Plays.{looks_of}
+use Rattle.core_machine.proofs.Sounds.{hand_held, looks_long}
 use Rattle.core_machine.proofs.core_state.Core.size_of_look.Goals as goal
 
 pub size_at_hand-requires : goal.size_at_hand-requires

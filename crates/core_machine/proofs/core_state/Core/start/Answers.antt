@@ -2,7 +2,7 @@ use Rattle.std.proofs.Common.{rules, ◌≡◌, ◌<◌, ℕ, Bool, false, lengt
 use Rattle.core_machine.specs.Machine.{Machine}
 use Rattle.core_machine.specs.Sound.{IsSound}
 use Rattle.core_machine.specs.Start.{IsCalled, new_actor}
-use Rattle.core_machine.proofs.Sounds.{looks_of}
+use Rattle.core_machine.proofs.Plays.{looks_of}
 use Rattle.core_machine.proofs.Starts.{none_called, all_called, looks_first, if_err, if_fine}
 use Rattle.core_machine.proofs.core_state.Core.start.Goals as goal
 

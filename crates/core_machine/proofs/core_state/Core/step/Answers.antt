@@ -1,6 +1,7 @@
 use Rattle.std.proofs.Common.{rules, ◌≡◌, Some, None, true, false, is_some, sym, ◌∙◌, ap, subst}
 use Rattle.core_machine.specs.Machine.{Machine, licence_of}
-use Rattle.core_machine.proofs.Sounds.{looks_of, none_is, some_is}
+use Rattle.core_machine.proofs.Plays.{looks_of}
+use Rattle.core_machine.proofs.Sounds.{none_is, some_is}
 use Rattle.core_machine.proofs.core_state.Core.step.Goals as goal
 
 pub returns-in_default-seen_at-clause-steps : goal.returns-in_default-seen_at-clause-steps

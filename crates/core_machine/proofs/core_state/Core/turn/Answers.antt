@@ -3,7 +3,8 @@ use Rattle.pipe_model.specs.State.{past}
 use Rattle.pipe_model.specs.Play.{play}
 use Rattle.stage_steps.specs.Coroutine.{bytes_with}
 use Rattle.core_machine.specs.Machine.{Machine, licence_of, state_of, looks_at, turned, IsLawful}
-use Rattle.core_machine.proofs.Sounds.{looks_of, none_is, some_is, look_of, turned_past, goes_on, lawful_turned}
+use Rattle.core_machine.proofs.Plays.{looks_of, look_of}
+use Rattle.core_machine.proofs.Sounds.{none_is, some_is, turned_past, goes_on, lawful_turned}
 use Rattle.core_machine.proofs.core_state.Core.turn.Goals as goal
 
 pub returns-in_default-clause-turned : goal.returns-in_default-clause-turned

@@ -6,7 +6,7 @@ use Rattle.pipe_model.specs.State.{past}
 use Rattle.core_machine.specs.Answered.{Shows}
 use Rattle.core_machine.specs.Machine.{Machine, state_of}
 use Rattle.core_machine.specs.Machine.{want_of as wanted}
-use Rattle.core_machine.proofs.Sounds.{looks_of}
+use Rattle.core_machine.proofs.Plays.{looks_of}
 use Rattle.core_machine.proofs.Tales.{read_there, wanted_shown}
 use Rattle.core_machine.proofs.core_state.Core.want_of.Goals as goal
 

@@ -1,0 +1,143 @@
+-- A strand that is told an event goes on in place: its turn and its coming home in one.
+use Rattle.std.proofs.Common.{◌≡◌, ℕ, zero, suc, ◌+◌, ◌<◌, Bool, true, false, cond, ◌||◌, not, ◌==◌, List, [], ◌∷◌, ◌++◌, length, refl, sym, ◌∙◌, ap, subst, arith, Option, Some, None, slice_get, slice_set}
+use Rattle.std.specs.Prelude.{take}
+use Rattle.pipe_model.specs.declared.net.Net.{Net}
+use Rattle.pipe_model.specs.declared.net.Strand.{Strand}
+use Rattle.pipe_model.specs.declared.step.Entry.{Entry}
+use Rattle.pipe_model.specs.declared.step.Seen.{Seen}
+use Rattle.pipe_model.specs.declared.step.Want.{Want as Asked}
+use Rattle.pipe_model.specs.Event.{Event}
+use Rattle.pipe_model.specs.State.{Who, past}
+use Rattle.pipe_model.specs.Licence.{licence}
+use Rattle.pipe_model.specs.Play.{play}
+use Rattle.record_pool.specs.declared.pool.Held.{Held}
+use Rattle.record_pool.specs.Places.{bytes_at}
+use Rattle.stage_steps.specs.Coroutine.{told, bytes_with, CanResume, Resumes}
+use Rattle.run_desk.specs.Desk.{DeskState}
+use Rattle.run_desk.specs.Moves.{made, pool_moved, sight_through, CanCome}
+use Rattle.run_desk.specs.Pure as Pure
+use Rattle.connectors.specs.WireState.{IsHeldIn}
+use Rattle.confluence_laws.proofs.Basics.{test_same, at_some}
+use Rattle.core_machine.specs.declared.actor.Actor.{Actor}
+use Rattle.core_machine.specs.Actors.{is_end, gone_out, gone_on, given_up, asking_for, bare, bytes_told}
+use Rattle.core_machine.specs.Jobs.{JobStands, DoneStands}
+use Rattle.core_machine.specs.Machine.{left_by, without, is_among, looks_at}
+use Rattle.core_machine.specs.Members.{Members}
+use Rattle.core_machine.specs.Sound.{IsSound}
+use Rattle.core_machine.specs.Woken.{IsCovering, AsksEarly, HasReturned}
+use Rattle.core_machine.proofs.Jobs.{can_run, done_take}
+use Rattle.core_machine.proofs.Plays.{get_set_same, looks_of, looks_here}
+use Rattle.core_machine.proofs.Sounds.{sight_held, told_are, can_home, came, came_early, sound_home, in_range, turned_past, goes_on, sound_turned, job_turned, job_event}
+
+-- what is set twice is set once
+pub set_set : {A : Type 0} (xs : List A) (i : ℕ) (x y : A) → slice_set (slice_set xs i x) i y ≡ slice_set xs i y
+set_set [] i x y = refl
+set_set (z ∷ zs) zero x y = refl
+set_set (z ∷ zs) (suc i) x y = ap (λ l. z ∷ l) (set_set zs i x y)
+
+-- a place is all that is out, and is taken out again
+pub none_without : (p : ℕ) → without p (p ∷ []) ≡ []
+none_without p = ap (λ b. cond (not b) (p ∷ []) []) (test_same p)
+
+pub one_among : (p : ℕ) → is_among p (p ∷ []) ≡ true
+one_among p = ap (λ b. b || false) (test_same p)
+
+module _ {S : Type 0} (stands : S → Strand → List Event → Type 0) (is_looking : S → Bool) (net : Net) (budget : ℕ) (journal : List Entry) (out : List ℕ) (actors : List (Actor S)) (d : DeskState) (places : List (Option Held)) (ready : Members)
+    (sound : IsSound stands is_looking net budget journal out actors d places ready)
+    (s : Who) (k : ℕ) (e : Event) (may : licence net (play net journal) (left_by journal out) s k ≡ Some e)
+    (a : Actor S) (stage : S) (there : slice_get actors s ≡ Some a) (was : a.stage ≡ Some stage) (seen : Seen) (seen_at : told e ≡ seen)
+    (space : length journal < budget) (d' : DeskState) (places' : List (Option Held)) (ready' : Members)
+    (desk_is : d' ≡ made d s seen) (pool_is : places' ≡ pool_moved d places s seen) (size : ready'.size ≡ ready.size) (covers : IsCovering d' ready') where
+  abbrev pub longer : List Entry
+  longer = journal ++ (record { strand = s; stream = k }) ∷ []
+
+  abbrev pub here : ℕ
+  here = suc (length journal)
+
+  -- After the turn
+
+  was_out : IsSound stands is_looking net budget longer (out ++ here ∷ []) (slice_set actors s (gone_out seen a)) d' places' ready'
+  was_out = sound_turned stands is_looking net budget journal out actors d places ready sound s k e may a stage there was seen seen_at (gone_out seen a) refl refl refl space d' places' ready' desk_is pool_is size covers
+
+  pub sights : (i : ℕ) → IsHeldIn places' (sight_through d'.sights (Pure.in_door d' s i))
+  sights i = sight_held stands is_looking net budget longer (out ++ here ∷ []) (slice_set actors s (gone_out seen a)) d' places' ready' was_out s i
+
+  looks_so : looks_at (looks_of actors) s ≡ is_looking stage
+  looks_so =
+      let p = at_some net.strands s (in_range stands is_looking net budget journal out actors d places ready sound s k e may) in
+      looks_here actors s a there ∙ sym ((sound.strands.each s p.0 a p.1 there).looks stage was)
+
+  -- the bytes at hand are those of the event
+  pub right_bytes : bytes_with (is_looking stage) e ≡ bytes_told (looks_at (looks_of actors) s) d' places' s seen
+  right_bytes =
+      sym (told_are stands is_looking net budget longer (out ++ here ∷ []) (slice_set actors s (gone_out seen a)) d' places' ready' was_out (looks_at (looks_of actors) s) s e (past (play net journal) s) seen
+        (turned_past stands is_looking net budget journal out actors d places ready sound s k e may) (goes_on stands is_looking net budget journal out actors d places ready sound s k e may) seen_at
+      ∙ ap (λ b. bytes_with b e) looks_so)
+
+  abbrev job : (b : Actor S) → b.stage ≡ None → b.looks ≡ a.looks → b.saw_end ≡ (a.saw_end || is_end seen) → JobStands stands is_looking net (looks_of (slice_set actors s b)) longer s here seen stage
+  job b b_out b_looks b_end = job_turned stands is_looking net budget journal out actors d places ready sound s k e may a stage there was seen seen_at b b_out b_looks b_end space d' places' ready' desk_is pool_is size covers
+
+  job_bytes : (b : Actor S) (b_out : b.stage ≡ None) (b_looks : b.looks ≡ a.looks) (b_end : b.saw_end ≡ (a.saw_end || is_end seen)) (bytes : List ℕ) → bytes ≡ bytes_told (looks_at (looks_of actors) s) d' places' s seen →
+      bytes_with (is_looking stage) (job b b_out b_looks b_end).event ≡ bytes
+  job_bytes b b_out b_looks b_end bytes is =
+      ap (bytes_with (is_looking stage)) (job_event stands is_looking net budget journal out actors d places ready sound s k e may a stage there was seen seen_at b b_out b_looks b_end space d' places' ready' desk_is pool_is size covers)
+      ∙ right_bytes ∙ sym is
+
+  pub can_go : (bytes : List ℕ) → bytes ≡ bytes_told (looks_at (looks_of actors) s) d' places' s seen → CanResume stands (is_looking stage) stage seen bytes
+  can_go bytes is = can_run stands is_looking net (looks_of (slice_set actors s (gone_out seen a))) longer s here seen stage (job (gone_out seen a) refl refl refl) bytes (job_bytes (gone_out seen a) refl refl refl bytes is)
+
+  -- After the coroutine went on
+
+  module _ (next : S) (asked : Asked) where
+    abbrev on : Actor S
+    on = gone_on seen next asked a
+
+    abbrev off : Actor S
+    off = given_up (gone_on seen next asked a)
+
+    abbrev pub stayed : List (Actor S)
+    stayed = slice_set actors s on
+
+    pub lost : IsSound stands is_looking net budget longer (out ++ here ∷ []) (slice_set actors s off) d' places' ready'
+    lost = sound_turned stands is_looking net budget journal out actors d places ready sound s k e may a stage there was seen seen_at off refl refl refl space d' places' ready' desk_is pool_is size covers
+
+    -- the coroutine is given up
+    pub gave_up : (b : Actor S) → slice_get stayed s ≡ Some b → IsSound stands is_looking net budget longer (out ++ here ∷ []) (slice_set stayed s (given_up b)) d' places' ready'
+    gave_up b at =
+        let one : Some on ≡ Some b = sym (get_set_same actors s on a there) ∙ at in
+        let b_is : on ≡ b = cc in
+        subst (λ (x : Actor S). IsSound stands is_looking net budget longer (out ++ here ∷ []) (slice_set stayed s (given_up x)) d' places' ready') b_is
+        (subst (λ (l : List (Actor S)). IsSound stands is_looking net budget longer (out ++ here ∷ []) l d' places' ready') (sym (set_set actors s on off)) lost)
+
+    module _ (alone : out ≡ []) (bytes : List ℕ) (bytes_are : bytes ≡ bytes_told (looks_at (looks_of actors) s) d' places' s seen) (same_look : is_looking next ≡ is_looking stage) (resumed : Resumes stands (is_looking stage) stage next seen bytes asked) where
+      abbrev out' : List ℕ
+      out' = out ++ here ∷ []
+
+      out_is : out' ≡ here ∷ []
+      out_is = ap (λ l. l ++ here ∷ []) alone
+
+      among : is_among here out' ≡ true
+      among = ap (is_among here) out_is ∙ one_among here
+
+      done : DoneStands stands is_looking net (looks_of (slice_set actors s off)) (take here longer) s here next asked
+      done = done_take stands is_looking net (looks_of (slice_set actors s off)) longer s here seen stage (job off refl refl refl) bytes (job_bytes off refl refl refl bytes bytes_are) next asked same_look resumed
+
+      pub home_can : Pure.ended_at d' s ≡ false → CanCome d' places' s asked
+      home_can = can_home stands is_looking net budget longer out' (slice_set actors s off) d' places' ready' lost s here next asked among done
+
+      pub home_early : (d2 : DeskState) (places2 : List (Option Held)) → HasReturned d' places' s asked d2 places2 → AsksEarly d2
+      home_early = came_early stands is_looking net budget longer out' (slice_set actors s off) d' places' ready' lost s here next asked among done
+
+      -- and its strand came home
+      pub went_home : (b : Actor S) → slice_get stayed s ≡ Some b → (d2 : DeskState) (places2 : List (Option Held)) (ready2 : Members) → HasReturned d' places' s asked d2 places2 → ready2.size ≡ ready'.size → IsCovering d2 ready2 →
+          IsSound stands is_looking net budget longer [] (slice_set stayed s (asking_for (bare b.asked) b)) d2 places2 ready2
+      went_home b at d2 places2 ready2 returned size2 covers2 =
+          let one : Some on ≡ Some b = sym (get_set_same actors s on a there) ∙ at in
+          let b_is : on ≡ b = cc in
+          let new : Actor S = asking_for (bare asked) on in
+          let home = sound_home stands is_looking net budget longer out' (slice_set actors s off) d' places' ready' lost s here next asked among done d2 places2 ready2 off (get_set_same actors s off a there)
+            (came stands is_looking net budget longer out' (slice_set actors s off) d' places' ready' lost s here next asked among done d2 places2 returned) size2 covers2 in
+          let none : without here out' ≡ [] = ap (without here) out_is ∙ none_without here in
+          subst (λ (x : Actor S). IsSound stands is_looking net budget longer [] (slice_set stayed s (asking_for (bare x.asked) x)) d2 places2 ready2) b_is
+          (subst (λ (l : List (Actor S)). IsSound stands is_looking net budget longer [] l d2 places2 ready2) (set_set actors s off new ∙ sym (set_set actors s on new))
+          (subst (λ o. IsSound stands is_looking net budget longer o (slice_set (slice_set actors s off) s new) d2 places2 ready2) none home))
