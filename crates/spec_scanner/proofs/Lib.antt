@@ -1,3 +1,4 @@
+pub mod Cases
 pub mod Blanks
 pub mod Consoles
 pub mod Locates
