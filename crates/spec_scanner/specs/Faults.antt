@@ -1,12 +1,13 @@
--- The faults of a text's spelling, each with its number and its place, and the least of them.
+-- The faults of a specification, each with its number and its place, and the least of them.
 use Rattle.std.specs.Prelude.{◌≡◌, ℕ, ◌<◌, ◌≤◌, ◌==◌, ◌&&◌, ◌||◌, Bool, not, if◌then◌else◌, nat_lt, List, [], ◌⊎◌, MatchOption}
 use Rattle.std.specs.List.{Contains}
 use Rattle.std.specs.declared.option.Option.{Option}
 use Rattle.std.specs.declared.option.Option.TheVariants.{Some, None}
 use Rattle.spec_scanner.specs.declared.fault.Fault.{Fault}
 
+-- a fault that isn't of an argument
 abbrev pub fault : ℕ → ℕ → Fault
-fault number place = record { number = number; place = place }
+fault number place = record { number = number; argument = 0; place = place }
 
 -- the first fault stands further left, or is at the same place and of no greater number
 abbrev pub IsBefore : Fault → Fault → Type 0

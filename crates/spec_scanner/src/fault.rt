@@ -3,15 +3,30 @@ ghost use Rattle.spec_scanner.specs.Faults as Faults;
 
 use pipe_model::NoMemory;
 
-/// A fault of a specification's text, under its number, at its place.
+/// A fault of a specification, under its number, at its place.
 #[derive(Clone, Copy, Debug, PartialEq, Eq)]
-pub(crate) struct Fault {
+pub struct Fault {
     pub number: u8,
+    /// The number of the fault of an argument, where it is one, else 0.
+    pub argument: u8,
     pub place: u32,
 }
 
+impl Fault {
+    /// A fault that isn't of an argument.
+    pub fn new(number: u8, place: u32) -> Fault
+        ensures { result ≡ Faults.fault number place }
+    {
+        Fault {
+            number,
+            argument: 0,
+            place,
+        }
+    }
+}
+
 // The first of a fault found before, if any, and another one.
-pub(crate) fn least(found: Option<Fault>, other: Fault) -> Fault
+pub fn least(found: Option<Fault>, other: Fault) -> Fault
     ensures { result ≡ Faults.least found other }
 {
     match found {

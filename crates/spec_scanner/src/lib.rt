@@ -8,7 +8,7 @@ mod piece;
 mod signs;
 mod straight_line;
 
-pub use fault::SpecFault;
+pub use fault::{Fault, SpecFault, least};
 pub use piece::{Piece, PieceKind};
 pub use straight_line::{one_reading, straight};
 
