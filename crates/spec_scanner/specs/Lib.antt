@@ -1,2 +1,9 @@
 pub mod Blanks
+pub mod Body
+pub mod Faults
+pub mod Labels
+pub mod Options
+pub mod Pieces
+pub mod Reads
 pub mod Straight
+pub mod Stretches

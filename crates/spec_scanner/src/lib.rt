@@ -1,9 +1,15 @@
 //! The text of a specification, so far of one form: `console | locate /string/ | .. | console`.
 #![tactic(auto)]
 
+mod fault;
+mod item;
 mod parts;
+mod piece;
+mod signs;
 mod straight_line;
 
+pub use fault::{Fault, SpecFault, least};
+pub use piece::{Piece, PieceKind};
 pub use straight_line::{one_reading, straight};
 
 #[cfg(test)]

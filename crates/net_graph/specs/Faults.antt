@@ -1,0 +1,107 @@
+-- The faults of a specification whose pieces are read.
+use Rattle.std.specs.Prelude.{◌≡◌, ◌≢◌, ℕ, suc, ◌<◌, ◌≤◌, ◌==◌, ◌&&◌, ◌||◌, Bool, true, false, not, if◌then◌else◌, List, [], ◌∷◌, ◌++◌, length, map, nat_lt, codes, slice_get, option_map, option_and_then, Ok, Err, ◌⊎◌, ⊤}
+use Rattle.std.specs.declared.result.Result.{Result}
+use Rattle.std.specs.Str.{bytes_eq, str_to_ascii_lowercase}
+use Rattle.std.specs.List.{Contains, list_any}
+use Rattle.std.specs.Option.{option_map_or}
+use Rattle.std.specs.declared.option.Option.{Option}
+use Rattle.std.specs.declared.option.Option.TheVariants.{Some, None}
+use Rattle.pipe_model.specs.declared.kind.Kind.{Kind}
+use Rattle.pipe_model.specs.declared.net.Net.{Net}
+use Rattle.stage_syntax.specs.Fault.{number_of}
+use Rattle.stage_syntax.specs.declared.fault.KindFault.{KindFault}
+use Rattle.stage_syntax.specs.declared.fault.KindFault.TheVariants.{Unknown, Argument, NoMemory}
+use Rattle.spec_scanner.specs.declared.piece.Piece.{Piece}
+use Rattle.spec_scanner.specs.declared.piece.PieceKind.{PieceKind}
+use Rattle.spec_scanner.specs.declared.piece.PieceKind.TheVariants.{Stage, Reference, Connector}
+use Rattle.spec_scanner.specs.declared.fault.Fault.{Fault}
+use Rattle.spec_scanner.specs.Faults.{IsLeast, fault}
+use Rattle.net_graph.specs.declared.fault.NetFault.{NetFault}
+use Rattle.net_graph.specs.declared.fault.NetFault.TheVariants as Net
+use Rattle.net_graph.specs.Stands.{Stand, is_stage, stage_of, stages_of, stands_of}
+use Rattle.net_graph.specs.Nets.{AreOutcomes, inputs_of, net_of, outputs_of}
+
+-- at most 1,024 stages
+abbrev pub most_stages : ℕ
+most_stages = 1024
+
+-- at most 64 streams
+abbrev pub most_streams : ℕ
+most_streams = 64
+
+abbrev pub stage_faults : ℕ → Stand → List Fault
+stage_faults number stand = if nat_lt number most_stages then [] else fault 16 stand.piece.place ∷ []
+
+-- the name is unknown, or the arguments aren't of its form
+abbrev pub kind_faults : Stand → Option (Result Kind KindFault) → List Fault
+kind_faults stand (Some (Err Unknown)) = fault 11 stand.piece.name_place ∷ []
+kind_faults stand (Some (Err (Argument misfit))) = record { number = 12; argument = number_of misfit.kind; place = misfit.place } ∷ []
+kind_faults stand (Some (Err NoMemory)) = []
+kind_faults stand (Some (Ok kind)) = []
+kind_faults stand None = []
+
+abbrev pub is_console : Piece → Bool
+is_console piece = bytes_eq (str_to_ascii_lowercase piece.name) (codes "console")
+
+abbrev pub is_same : Bool → Bool → Bool
+is_same true other = other
+is_same false other = not other
+
+-- CONSOLE, first in its pipeline or not, as an earlier one
+abbrev pub console_faults : List Stand → Stand → List Fault
+console_faults earlier stand =
+    if is_console stand.piece && list_any (λ other. is_console other.piece && is_same stand.first other.first) earlier
+    then fault 15 stand.piece.name_place ∷ [] else []
+
+-- the kind of a stage, where it has one
+abbrev pub kind_at : List (Result Kind KindFault) → ℕ → Option Kind
+kind_at outcomes stage = option_and_then kind (slice_get outcomes stage) where
+  kind : Result Kind KindFault → Option Kind
+  kind (Ok found) = Some found
+  kind (Err fault) = None
+
+-- a later use is of a stream that there can't be: it connects an input or an output past the kind's own number
+abbrev pub is_past : Stand → Option Kind → Bool
+is_past stand None = false
+is_past stand (Some kind) =
+    (not stand.first && not (nat_lt stand.piece.uses (inputs_of kind)))
+    || (not stand.last && not (nat_lt stand.piece.uses (outputs_of kind)))
+
+abbrev pub stream_faults : Stand → Option Kind → List Fault
+stream_faults stand kind = if not (nat_lt stand.piece.uses most_streams) || is_past stand kind then fault 13 stand.piece.place ∷ [] else []
+
+-- the faults of one stand, after these stages
+abbrev pub faults_of_kind : List Stand → List (Result Kind KindFault) → List Stand → Stand → PieceKind → List Fault
+faults_of_kind stands outcomes earlier stand Stage =
+    stage_faults (length earlier) stand ++ (kind_faults stand (slice_get outcomes (length earlier)) ++ console_faults earlier stand)
+faults_of_kind stands outcomes earlier stand Reference =
+    stream_faults stand (option_and_then (kind_at outcomes) (stage_of stands stand.piece.label))
+faults_of_kind stands outcomes earlier stand Connector = fault 17 stand.piece.place ∷ []
+
+-- the faults of stands one by one, after these stages
+abbrev pub faults_from : List Stand → List (Result Kind KindFault) → List Stand → List Stand → List Fault
+faults_from stands outcomes earlier [] = []
+faults_from stands outcomes earlier (stand ∷ rest) =
+    faults_of_kind stands outcomes earlier stand stand.piece.kind
+    ++ faults_from stands outcomes (if is_stage stand then earlier ++ stand ∷ [] else earlier) rest
+
+abbrev pub faults_of : List (List Piece) → List (Result Kind KindFault) → List Fault
+faults_of pipelines outcomes = faults_from (stands_of pipelines) outcomes [] (stands_of pipelines)
+
+-- the stages are of these kinds, and the specification has no fault
+pub record IsGraph (pipelines : List (List Piece)) (net : Net) : Type 0 where
+  pub kinds : List Kind
+  pub read : AreOutcomes (stages_of (stands_of pipelines)) (map (λ kind. Ok kind) kinds)
+  pub good : faults_of pipelines (map (λ kind. Ok kind) kinds) ≡ []
+  pub net_is : net ≡ net_of pipelines kinds
+
+-- this is the least fault of the specification
+pub record IsRefused (pipelines : List (List Piece)) (least : Fault) : Type 0 where
+  pub outcomes : List (Result Kind KindFault)
+  pub read : AreOutcomes (stages_of (stands_of pipelines)) outcomes
+  pub least_is : IsLeast least (faults_of pipelines outcomes)
+
+-- the specification is refused for this reason; want of memory may come in any case
+abbrev pub Refuses : List (List Piece) → NetFault → Type 0
+Refuses pipelines (Net.Refused number argument place) = IsRefused pipelines (record { number = number; argument = argument; place = place })
+Refuses pipelines Net.NoMemory = ⊤
