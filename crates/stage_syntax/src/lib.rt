@@ -14,6 +14,8 @@ mod rows;
 mod span_words;
 mod spelled;
 mod strings;
+#[cfg(test)]
+mod tests;
 mod text;
 mod words;
 
