@@ -7,6 +7,8 @@ pub mod Letters
 pub mod Misfits
 pub mod Numerals
 pub mod OneFronts
+pub mod OneKinds
+pub mod OneParts
 pub mod OneRanges
 pub mod OneSpellings
 pub mod OneStrings

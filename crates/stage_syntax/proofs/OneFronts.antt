@@ -1,23 +1,10 @@
 -- What stands after blanks, and what a word before a range says, is one.
-use Rattle.std.proofs.Common.{◌≡◌, ℕ, ◌-◌, ◌<◌, ◌⊎◌, true, false, List, [], ◌∷◌, ◌++◌, length, map, get_or, replicate, zero, suc, codes, refl, sym, ap, ◌∙◌, arith, subst, inl, inr, append-nil}
-use Rattle.std.specs.Char.{is_ascii_digit, to_ascii_lowercase}
-use Rattle.std.specs.List.{All}
+use Rattle.std.proofs.Common.{◌≡◌, ℕ, List, [], ◌++◌, get_or, replicate, zero, suc, codes, refl, sym, ap, ◌∙◌, arith, inl, inr}
 use Rattle.std.specs.Str.{str_to_ascii_lowercase}
-use Rattle.std.proofs.lemmas.List.Elements.{All-nil}
-use Rattle.pipe_model.specs.declared.kind.Range.{Range}
 use Rattle.pipe_model.specs.declared.kind.Span.{Span}
 use Rattle.pipe_model.specs.declared.kind.Span.TheVariants.{Columns, Words, Fields}
-use Rattle.stage_syntax.proofs.FirstWords.{same_rest, same_word}
-use Rattle.stage_syntax.proofs.Letters.{IsOther, name_others, one_split, spelling_begins}
-use Rattle.stage_syntax.proofs.OneSpellings.{no_range_fault, one_plain_range, one_range_fault, spelling_filled}
-use Rattle.stage_syntax.specs.PlainRanges.{IsPlainRange, IsRangeFault}
-use Rattle.stage_syntax.specs.Ranges.{IsSpelling}
-use Rattle.stage_syntax.specs.RangeWords.{IsApart, IsJoined, IsRange, IsRangeMisfit, fault_in}
 use Rattle.stage_syntax.specs.SpanNames.{IsSpanName}
-use Rattle.stage_syntax.specs.Words.{IsFirstWord, IsUnblanked}
-use Rattle.stage_syntax.specs.declared.part.TextFault.{TextFault}
-use Rattle.stage_syntax.specs.declared.ranges.Spelling.{Spelling}
-use Rattle.stage_syntax.specs.declared.spelled.WordFault.{WordFault}
+use Rattle.stage_syntax.specs.Words.{IsUnblanked}
 
 -- what stands after blanks is determined
 same_front : (n m : ℕ) (a b : List ℕ) → ¬ (get_or a 0 0 ≡ 32) → ¬ (get_or b 0 0 ≡ 32) → replicate n 32 ++ a ≡ replicate m 32 ++ b → a ≡ b
@@ -65,4 +52,3 @@ one_span name Words Fields first second = absurd (not_both_names name first seco
 one_span name Fields Columns first second = absurd second
 one_span name Fields Words first second = absurd (not_both_names name second first)
 one_span name Fields Fields first second = refl
-

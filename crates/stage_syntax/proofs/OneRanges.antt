@@ -1,5 +1,5 @@
 -- A text begins with one range, or has one fault of a range.
-use Rattle.std.proofs.Common.{◌≡◌, ℕ, ◌-◌, ◌<◌, ◌⊎◌, List, [], ◌∷◌, ◌++◌, length, refl, sym, ap, ◌∙◌, arith, subst, inl, inr, append-nil, length-append}
+use Rattle.std.proofs.Common.{◌≡◌, ℕ, ◌-◌, ◌⊎◌, List, [], length, refl, sym, ap, ◌∙◌, arith, subst, inl, inr, append-nil, length-append}
 use Rattle.std.proofs.lemmas.List.Elements.{All-nil}
 use Rattle.pipe_model.specs.declared.kind.Range.{Range}
 use Rattle.pipe_model.specs.declared.kind.Span.{Span}
@@ -22,8 +22,8 @@ use Rattle.stage_syntax.specs.declared.spelled.WordFault.{WordFault}
 abbrev IsAt : (text : List ℕ) (span : Span) (word : List ℕ) (left : ℕ) (rest : List ℕ) → Type 0
 IsAt text span word left rest =
     ((span ≡ Columns) × IsFirstWord text word rest × (left ≡ length text))
-  ⊎ (((name : List ℕ) × IsJoined text name word rest span × (left ≡ length text - length name))
-  ⊎ ((front : List ℕ) × IsApart text front span × IsFirstWord front word rest × (left ≡ length front)))
+    ⊎ (((name : List ℕ) × IsJoined text name word rest span × (left ≡ length text - length name))
+    ⊎ ((front : List ℕ) × IsApart text front span × IsFirstWord front word rest × (left ≡ length front)))
 
 -- a range with its place
 record IsRead (text : List ℕ) (range : Range) (rest : List ℕ) : Type 0 where
@@ -82,9 +82,10 @@ module _ (text : List ℕ) where
   one_apart : (front other : List ℕ) (a b : Span) → IsApart text front a → IsApart text other b → (front ≡ other) × (a ≡ b)
   one_apart front other a b first second =
       let names = same_word text first.name first.after second.name second.after first.first second.first in
-      let afters = same_rest text first.name first.after second.name second.after first.first second.first in
-      ( one_front first.after front other first.unblanked (subst (λ after. IsUnblanked after other) (sym afters) second.unblanked)
-      , one_span first.name a b first.names (subst (λ name. IsSpanName name b) (sym names) second.names))
+      let afters = same_rest text first.name first.after second.name second.after first.first second.first in (
+        one_front first.after front other first.unblanked (subst (λ after. IsUnblanked after other) (sym afters) second.unblanked),
+        one_span first.name a b first.names (subst (λ name. IsSpanName name b) (sym names) second.names),
+      )
 
   -- the numbers of a range stand in one place
   one_place : (span other : Span) (word words : List ℕ) (left lefts : ℕ) (rest rests : List ℕ) (a b : Spelling) → IsAt text span word left rest → IsAt text other words lefts rests
@@ -98,21 +99,23 @@ module _ (text : List ℕ) where
       let first = is.1 in
       let second = too.1 in
       let whole = same_word text first.word rest second.word rests first.first second.first in
-      let parts = one_split is.0 too.0 word words (name_others is.0 span first.names) (name_others too.0 other second.names) (spelling_begins word a spelled) (spelling_begins words b spelled_b) (sym first.spells ∙ whole ∙ second.spells) in
-      ( one_span is.0 span other first.names (subst (λ name. IsSpanName name other) (sym parts.0) second.names)
-      , parts.1
-      , is.2 ∙ ap (λ name. length text - length name) parts.0 ∙ sym too.2
-      , same_rest text first.word rest second.word rests first.first second.first)
+      let parts = one_split is.0 too.0 word words (name_others is.0 span first.names) (name_others too.0 other second.names) (spelling_begins word a spelled) (spelling_begins words b spelled_b) (sym first.spells ∙ whole ∙ second.spells) in (
+        one_span is.0 span other first.names (subst (λ name. IsSpanName name other) (sym parts.0) second.names),
+        parts.1,
+        is.2 ∙ ap (λ name. length text - length name) parts.0 ∙ sym too.2,
+        same_rest text first.word rest second.word rests first.first second.first,
+      )
   one_place span other word words left lefts rest rests a b (inr (inl is)) (inr (inr too)) spelled spelled_b = absurd (not_both_places is.0 word rest too.0 span other a is.1 spelled too.1)
   one_place span other word words left lefts rest rests a b (inr (inr is)) (inl too) spelled spelled_b = absurd (not_apart words rests is.0 span b too.1 spelled_b is.1)
   one_place span other word words left lefts rest rests a b (inr (inr is)) (inr (inl too)) spelled spelled_b = absurd (not_both_places too.0 words rests is.0 other span b too.1 spelled_b is.1)
   one_place span other word words left lefts rest rests a b (inr (inr is)) (inr (inr too)) spelled spelled_b =
       let fronts = one_apart is.0 too.0 span other is.1 too.1 in
-      let second = subst (λ front. IsFirstWord front words rests) (sym fronts.0) too.2 in
-      ( fronts.1
-      , same_word is.0 word rest words rests is.2 second
-      , is.3 ∙ ap length fronts.0 ∙ sym too.3
-      , same_rest is.0 word rest words rests is.2 second)
+      let second = subst (λ front. IsFirstWord front words rests) (sym fronts.0) too.2 in (
+        fronts.1,
+        same_word is.0 word rest words rests is.2 second,
+        is.3 ∙ ap length fronts.0 ∙ sym too.3,
+        same_rest is.0 word rest words rests is.2 second,
+      )
 
   -- the numbers of a range are the first word after a word that says what is counted
   place_apart : (front : List ℕ) (span other : Span) (word : List ℕ) (left : ℕ) (rest : List ℕ) (a : Spelling) → IsApart text front span → IsAt text other word left rest → IsSpelling word a → IsFirstWord front word rest
@@ -143,7 +146,7 @@ module _ (text : List ℕ) where
   no_range_misfit range rest fault read misfit =
       let is = read_at range rest read in
       elim (faulty_at fault misfit) [
-          inl too ↦
+        | inl too ↦
             (let same = one_place is.span too.span is.word too.word is.left too.left rest too.rest is.range_is.spelling too.misfit.spelling is.place too.place is.range_is.spelled too.misfit.spelled in
             no_range_fault is.span is.word range too.inside is.range_is (subst (λ word. IsRangeFault word too.inside) (sym same.1) too.misfit))
         | inr (inl none) ↦ not_numberless is.span is.word is.left rest is.range_is.spelling fault is.place is.range_is.spelled none

@@ -1,11 +1,11 @@
 -- A word is one spelling, one range, and has one fault.
-use Rattle.std.proofs.Common.{◌≡◌, ℕ, ◌+◌, ◌-◌, ◌<◌, ◌≤◌, Bool, true, false, List, [], ◌∷◌, ◌++◌, length, get_or, Option, Some, None, refl, sym, ap, ◌∙◌, subst, arith, length-append}
+use Rattle.std.proofs.Common.{◌≡◌, ℕ, ◌+◌, ◌<◌, true, false, List, [], ◌∷◌, length, get_or, Option, refl, sym, ap, ◌∙◌, subst, arith, length-append}
 use Rattle.pipe_model.specs.declared.kind.Range.{Range}
 use Rattle.pipe_model.specs.declared.kind.Span.{Span}
 use Rattle.stage_syntax.proofs.Misfits.{no_misfit_at}
 use Rattle.stage_syntax.proofs.Spellings.{ends_stop, same_parts}
-use Rattle.stage_syntax.specs.Bounds.{Fits, IsLast, IsMisfit, IsRangeOf, IsReversed, IsSecondMisfit}
-use Rattle.stage_syntax.specs.Numbers.{AreFirstDigits, IsNumber, decimal}
+use Rattle.stage_syntax.specs.Bounds.{IsLast, IsMisfit, IsRangeOf, IsReversed, IsSecondMisfit}
+use Rattle.stage_syntax.specs.Numbers.{IsNumber, decimal}
 use Rattle.stage_syntax.specs.PlainRanges.{IsPlainRange, IsRangeFault, fault_of}
 use Rattle.stage_syntax.specs.Ranges.{Ends, IsSpelling}
 use Rattle.stage_syntax.specs.declared.bounds.Misfit.{Misfit}

@@ -1,5 +1,5 @@
 -- A text begins with one string, or has one fault of a string.
-use Rattle.std.proofs.Common.{◌≡◌, ℕ, ◌<◌, List, [], ◌∷◌, ◌++◌, length, get_or, Ok, refl, sym, ap, ◌∙◌, arith, subst, inl, inr}
+use Rattle.std.proofs.Common.{◌≡◌, ℕ, List, [], ◌∷◌, ◌++◌, get_or, refl, sym, ap, ◌∙◌, arith, subst, inl, inr}
 use Rattle.std.specs.List.{Contains}
 use Rattle.std.proofs.lemmas.List.Elements.{Contains-append_right}
 use Rattle.hex.specs.Hex.{decode_of}
@@ -7,7 +7,6 @@ use Rattle.stage_syntax.proofs.FirstWords.{same_rest, same_word}
 use Rattle.stage_syntax.proofs.Outcomes.{delimited_front, hexadecimal_front, no_front, not_unclosed}
 use Rattle.stage_syntax.specs.Parts.{IsOfStrings}
 use Rattle.stage_syntax.specs.Strings.{IsDelimited, IsHexadecimalWord, IsNoString, IsString}
-use Rattle.stage_syntax.specs.Words.{IsFirstWord}
 use Rattle.stage_syntax.specs.declared.fault.FaultKind.{FaultKind}
 use Rattle.stage_syntax.specs.declared.fault.FaultKind.TheVariants.{Unclosed, EmptyString, BadHex}
 

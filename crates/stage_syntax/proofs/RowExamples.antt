@@ -1,10 +1,9 @@
 -- Worked cases of the rows.
-use Rattle.std.proofs.Common.{◌≡◌, ℕ, ◌<◌, ◌==◌, ◌&&◌, Bool, true, false, not, List, [], ◌∷◌, ◌++◌, length, get_or, refl, codes, arith, inl, inr, Some, None, subst, sym}
+use Rattle.std.proofs.Common.{◌≡◌, ℕ, ◌==◌, ◌&&◌, Bool, true, not, List, [], ◌∷◌, ◌++◌, get_or, refl, codes, arith, inl, inr, Some, subst, sym}
 use Rattle.std.specs.List.{Contains}
 use Rattle.std.proofs.lemmas.Bool.Decides.{nat_tests}
 use Rattle.std.proofs.lemmas.Map.Made.{Contains-tail}
 use Rattle.pipe_model.specs.declared.kind.Kind.TheVariants.{Locate}
-use Rattle.pipe_model.specs.declared.kind.Range.{Range}
 use Rattle.pipe_model.specs.declared.kind.Span.TheVariants.{Columns, Words}
 use Rattle.stage_syntax.proofs.Choices.{only_part}
 use Rattle.stage_syntax.proofs.Letters.{spelling_begins}
@@ -12,13 +11,12 @@ use Rattle.stage_syntax.proofs.StringParts.{word_left}
 use Rattle.stage_syntax.specs.Numbers.{IsNumber}
 use Rattle.stage_syntax.specs.Parts.{IsNext, IsNone, IsPart, IsPartMisfit}
 use Rattle.stage_syntax.specs.RangeWords.{IsApart}
-use Rattle.stage_syntax.specs.Rows.{Ended, Fails, FailsOn, GoesOn, Lacks, Makes, Stops, after_locate, console_row, locate_row}
+use Rattle.stage_syntax.specs.Rows.{Ended, Fails, FailsOn, GoesOn, Lacks, Makes, Stops, after_locate, locate_row}
 use Rattle.stage_syntax.specs.Strings.{IsDelimited}
 use Rattle.stage_syntax.specs.Words.{IsFirstWord, IsUnblanked}
 use Rattle.stage_syntax.specs.declared.bounds.Misfit.TheVariants.{Reversed}
-use Rattle.stage_syntax.specs.declared.fault.FaultKind.TheVariants.{Missing, Extra, NotANumber, UnknownWord, Reversed as ReversedRange}
+use Rattle.stage_syntax.specs.declared.fault.FaultKind.TheVariants.{Missing, Extra, NotANumber, Reversed as ReversedRange}
 use Rattle.stage_syntax.specs.declared.part.Part.TheVariants as Asked
-use Rattle.stage_syntax.specs.declared.part.Value.{Value}
 use Rattle.stage_syntax.specs.declared.part.Value.TheVariants as Read
 use Rattle.stage_syntax.specs.declared.ranges.Ending.TheVariants.{Alone, To}
 
@@ -44,7 +42,6 @@ word_at word rest is stops = record { spells = refl; whole = no_blank word is; s
 one_blank : (front : List ℕ) → ¬ (get_or front 0 0 ≡ 32) → IsUnblanked (32 ∷ front) front
 one_blank front other = record { blanks = 1; spells = refl; other = other }
 
-
 number_5 : IsNumber (codes "5") 5
 number_5 = record { some = omega arith; few = omega arith; digits = refl; worth = refl }
 
@@ -59,7 +56,6 @@ delimited byte rest other = record {
   whole = λ found. omega (arith, (Contains-tail byte [] 47 other found).1);
   spells = refl;
 }
-
 
 range_first : IsNext (after_locate []) (codes " 5 /a/") (Read.Range (record { span = Columns; first = 5; last = Some 5 })) (codes " /a/")
 unfolding blankless
@@ -99,22 +95,26 @@ reversed_after_word = Stops [] (codes " w5-3") _ (record {
   front = codes "w5-3";
   unblanked = one_blank (codes "w5-3") (λ same. omega arith);
   some = omega arith;
-  misfit = inl (Asked.Range, (0, omega arith, refl), inr (inl (record {
-    name = codes "w";
-    numbers = codes "5-3";
-    rest = [];
-    span = Words;
-    joined = record { word = codes "w5-3"; first = word_at (codes "w5-3") [] refl refl; spells = refl; names = inl refl };
-    inside = record { at = 2; kind = ReversedRange };
-    misfit = record {
-      spelling = record { first = 5; ending = To 3 };
-      spelled = record { number = codes "5"; after = codes "-3"; spells = refl; counts = number_5; ends = (codes "3", refl, number_3) };
-      misfit = Reversed;
-      misfits = ((omega arith, omega arith), ((omega arith, omega arith), omega arith));
+  misfit = inl (
+    Asked.Range,
+    (0, omega arith, refl),
+    inr (inl (record {
+      name = codes "w";
+      numbers = codes "5-3";
+      rest = [];
+      span = Words;
+      joined = record { word = codes "w5-3"; first = word_at (codes "w5-3") [] refl refl; spells = refl; names = inl refl };
+      inside = record { at = 2; kind = ReversedRange };
+      misfit = record {
+        spelling = record { first = 5; ending = To 3 };
+        spelled = record { number = codes "5"; after = codes "-3"; spells = refl; counts = number_5; ends = (codes "3", refl, number_3) };
+        misfit = Reversed;
+        misfits = ((omega arith, omega arith), ((omega arith, omega arith), omega arith));
+        fault_is = refl;
+      };
       fault_is = refl;
-    };
-    fault_is = refl;
-  })));
+    })),
+  );
 })
 
 -- after word a number is missing, or something else comes
@@ -127,11 +127,15 @@ word_alone = Stops [] (codes " word") _ (record {
   front = codes "word";
   unblanked = one_blank (codes "word") (λ same. omega arith);
   some = omega arith;
-  misfit = inl (Asked.Range, (0, omega arith, refl), inr (inr (inr (inr (record {
-    span = Words;
-    apart = word_apart [] [] refl (record { blanks = 0; spells = refl; other = λ same. omega arith });
-    fault_is = refl;
-  })))));
+  misfit = inl (
+    Asked.Range,
+    (0, omega arith, refl),
+    inr (inr (inr (inr (record {
+      span = Words;
+      apart = word_apart [] [] refl (record { blanks = 0; spells = refl; other = λ same. omega arith });
+      fault_is = refl;
+    })))),
+  );
 })
 
 word_and_string : Fails locate_row [] (codes " word /a/") (record { left = 3; kind = NotANumber })
@@ -140,17 +144,21 @@ word_and_string = Stops [] (codes " word /a/") _ (record {
   front = codes "word /a/";
   unblanked = one_blank (codes "word /a/") (λ same. omega arith);
   some = omega arith;
-  misfit = inl (Asked.Range, (0, omega arith, refl), inr (inr (inr (inl (record {
-    front = codes "/a/";
-    word = codes "/a/";
-    rest = [];
-    span = Words;
-    apart = word_apart (codes " /a/") (codes "/a/") refl (one_blank (codes "/a/") (λ same. omega arith));
-    some = omega arith;
-    first = word_at (codes "/a/") [] refl refl;
-    other = λ spelling spelled. let digit = spelling_begins (codes "/a/") spelling spelled in cc;
-    fault_is = refl;
-  })))));
+  misfit = inl (
+    Asked.Range,
+    (0, omega arith, refl),
+    inr (inr (inr (inl (record {
+      front = codes "/a/";
+      word = codes "/a/";
+      rest = [];
+      span = Words;
+      apart = word_apart (codes " /a/") (codes "/a/") refl (one_blank (codes "/a/") (λ same. omega arith));
+      some = omega arith;
+      first = word_at (codes "/a/") [] refl refl;
+      other = λ spelling spelled. let digit = spelling_begins (codes "/a/") spelling spelled in cc;
+      fault_is = refl;
+    })))),
+  );
 })
 
 -- nothing is too little, and two strings are too much
@@ -169,10 +177,13 @@ two_strings = FailsOn [] (codes "/a/ /b/") (Read.String (codes "a")) (codes " /b
   front = codes "/b/";
   unblanked = one_blank (codes "/b/") (λ same. omega arith);
   some = omega arith;
-  misfit = inr (record {
-    none = λ part value rest among is. omega (arith, among.1);
-    begins_none = λ part fault among is. omega (arith, among.1);
-  }, refl);
+  misfit = inr (
+    record {
+      none = λ part value rest among is. omega (arith, among.1);
+      begins_none = λ part fault among is. omega (arith, among.1);
+    },
+    refl,
+  );
 }))
 
 -- after a range a word is no string: 5 2
