@@ -19,3 +19,4 @@ pub mod RowExamples
 pub mod RowSteps
 pub mod Spellings
 pub mod StringParts
+pub mod WordExamples

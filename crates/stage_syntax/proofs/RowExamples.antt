@@ -21,7 +21,7 @@ use Rattle.stage_syntax.specs.declared.part.Value.TheVariants as Read
 use Rattle.stage_syntax.specs.declared.ranges.Ending.TheVariants.{Alone, To}
 
 -- a test for a word without blanks
-blankless : List ℕ → Bool
+abbrev pub blankless : List ℕ → Bool
 blankless [] = true
 blankless (byte ∷ bytes) = not (byte == 32) && blankless bytes
 
@@ -29,17 +29,16 @@ no_blank_first : (byte : ℕ) (more : Bool) → (not (byte == 32) && more) ≡ t
 no_blank_first byte more is = grind (arith, nat_tests)
 
 no_blank : (word : List ℕ) → blankless word ≡ true → ¬ Contains word 32
-unfolding blankless
 no_blank [] is found = omega (arith, found.1)
 no_blank (byte ∷ bytes) is found =
     let parts = no_blank_first byte (blankless bytes) is in
     no_blank bytes parts.1 (Contains-tail byte bytes 32 parts.0 found)
 
-word_at : (word rest : List ℕ) → blankless word ≡ true → get_or rest 0 32 ≡ 32 → IsFirstWord (word ++ rest) word rest
+pub word_at : (word rest : List ℕ) → blankless word ≡ true → get_or rest 0 32 ≡ 32 → IsFirstWord (word ++ rest) word rest
 word_at word rest is stops = record { spells = refl; whole = no_blank word is; stops = stops }
 
 -- one blank is passed
-one_blank : (front : List ℕ) → ¬ (get_or front 0 0 ≡ 32) → IsUnblanked (32 ∷ front) front
+pub one_blank : (front : List ℕ) → ¬ (get_or front 0 0 ≡ 32) → IsUnblanked (32 ∷ front) front
 one_blank front other = record { blanks = 1; spells = refl; other = other }
 
 number_5 : IsNumber (codes "5") 5
@@ -58,7 +57,6 @@ delimited byte rest other = record {
 }
 
 range_first : IsNext (after_locate []) (codes " 5 /a/") (Read.Range (record { span = Columns; first = 5; last = Some 5 })) (codes " /a/")
-unfolding blankless
 range_first = record {
   front = codes "5 /a/";
   unblanked = one_blank (codes "5 /a/") (λ same. omega arith);
@@ -90,7 +88,6 @@ range_and_string = GoesOn [] (codes " 5 /a/") (Read.Range (record { span = Colum
 
 -- w5-3 is reversed at its 3
 reversed_after_word : Fails locate_row [] (codes " w5-3") (record { left = 1; kind = ReversedRange })
-unfolding blankless
 reversed_after_word = Stops [] (codes " w5-3") _ (record {
   front = codes "w5-3";
   unblanked = one_blank (codes "w5-3") (λ same. omega arith);
@@ -119,7 +116,6 @@ reversed_after_word = Stops [] (codes " w5-3") _ (record {
 
 -- after word a number is missing, or something else comes
 word_apart : (after front : List ℕ) → get_or after 0 32 ≡ 32 → IsUnblanked after front → IsApart (codes "word" ++ after) front Words
-unfolding blankless
 word_apart after front stops unblanked = record { name = codes "word"; after = after; first = word_at (codes "word") after refl stops; names = inr (inl refl); unblanked = unblanked }
 
 word_alone : Fails locate_row [] (codes " word") (record { left = 0; kind = Missing })
@@ -139,7 +135,6 @@ word_alone = Stops [] (codes " word") _ (record {
 })
 
 word_and_string : Fails locate_row [] (codes " word /a/") (record { left = 3; kind = NotANumber })
-unfolding blankless
 word_and_string = Stops [] (codes " word /a/") _ (record {
   front = codes "word /a/";
   unblanked = one_blank (codes "word /a/") (λ same. omega arith);
