@@ -8,7 +8,7 @@ ghost use Rattle.run_desk.specs.Kept.{IsKept, link_through};
 ghost use Rattle.run_desk.specs.Moves.{CanMove, CanCome, HasCome, made, pool_moved, ends};
 ghost use Rattle.run_desk.specs.Pure as Pure;
 ghost use Rattle.core_machine.specs.Members.{is_member};
-ghost use Rattle.core_machine.specs.Woken.{IsCovering, AsksEarly, AreInside, HasReturned, LeastAwake, IsLarger, IsWhole, IsProducerIn, IsConsumerIn, OfDoors, AreEndsIn, IsReaderIn, IsStageIn, primes, commits};
+ghost use Rattle.core_machine.specs.Woken.{IsCovering, AsksEarly, AreInside, HasReturned, LeastEventAwake, IsLarger, IsWhole, IsProducerIn, IsConsumerIn, OfDoors, AreEndsIn, IsReaderIn, IsStageIn, primes, commits};
 
 use crate::ready::Ready;
 use pipe_model::{Link, NoMemory, Seen, Want};
@@ -92,12 +92,12 @@ pub(crate) fn bring_home(
     move_home(desk, pool, ready, links, strand, want)
 }
 
-/// The least strand that may go on, and its least stream. Who is found not to is taken out.
-pub(crate) fn least_awake(ready: &mut Ready, desk: &Desk) -> Option<(u32, u16)>
+/// The least strand that may go on, its least stream, and what it would be told there. Who is found not to is taken out.
+pub(crate) fn least_awake(ready: &mut Ready, desk: &Desk) -> Option<(u32, u16, Seen)>
     ensures size { ready.new.size ≡ ready.old.size }
     ensures inside { IfSome result (λ r. r.0 < ready.old.size) }
     ensures covers { IsCovering desk.now ready.old → IsCovering desk.now ready.new }
-    ensures least { LeastAwake desk.now ready.old result }
+    ensures least { LeastEventAwake desk.now ready.old result }
 {
     let size = ready.size();
     let mut from = 0;
@@ -105,8 +105,8 @@ pub(crate) fn least_awake(ready: &mut Ready, desk: &Desk) -> Option<(u32, u16)>
         let Some(strand) = ready.least() else {
             return None;
         };
-        if let Some(stream) = desk.ready_stream(strand) {
-            return Some((strand, stream));
+        if let Some((stream, seen)) = desk.ready_event(strand) {
+            return Some((strand, stream, seen));
         }
         ready.remove(strand);
         from = strand + 1;

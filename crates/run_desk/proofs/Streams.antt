@@ -1,5 +1,5 @@
 -- On which streams a strand may go on.
-use Rattle.std.proofs.Common.{◌≡◌, ◌≢◌, ◌⊎◌, inl, inr, ℕ, zero, suc, ◌+◌, ◌≤◌, ◌<◌, Bool, true, false, cond, ◌&&◌, ◌==◌, List, [], ◌∷◌, length, refl, sym, ◌∙◌, ap, arith, Option, Some, None, is_some, slice_get}
+use Rattle.std.proofs.Common.{◌≡◌, ◌≢◌, ◌⊎◌, inl, inr, ℕ, zero, suc, ◌+◌, ◌≤◌, ◌<◌, Bool, true, false, cond, ◌&&◌, ◌==◌, List, [], ◌∷◌, length, refl, sym, ◌∙◌, ap, arith, Option, Some, None, slice_get}
 use Rattle.confluence_laws.proofs.Basics.{equal_or_not, test_apart}
 use Rattle.pipe_model.specs.declared.step.Seen.TheVariants as Told
 use Rattle.run_desk.specs.declared.seat.Ask.{Ask}
@@ -49,10 +49,6 @@ past_inputs d s j (Now.Join u) w p m = cc
 past_inputs d s j (Now.Cut i) w p m = cc
 past_inputs d s j (Now.Done c) w p m = cc
 
-is_none : {A : Type 0} (x : Option A) → is_some x ≡ false → x ≡ None
-is_none None e = refl
-is_none (Some a) e = cc
-
 pub only_there : (d : DeskState) (s k : ℕ) → Pure.is_wide (Pure.ask_at d s) ≡ false → k ≡ Pure.stream_of (Pure.ask_at d s) → Pure.seen_at d s k ≡ None → (j : ℕ) → Pure.seen_at d s j ≡ None
 only_there d s k wide is none j = elim (equal_or_not j k) [
   | inl e ↦ ap (Pure.seen_at d s) e ∙ none
@@ -72,8 +68,8 @@ wide_none d s k wide some all before j = go (less_or_not j k)
     go (inl p) = before j p
     go (inr p) = past_inputs d s j (Pure.ask_at d s) wide (λ z. absurd (omega (arith, z, some, p))) (omega (arith, all, p))
 
-pub next_none : (d : DeskState) (s k : ℕ) → is_some (Pure.seen_at d s k) ≡ false → ((j : ℕ) → j < k → Pure.seen_at d s j ≡ None) → (j : ℕ) → j < k + 1 → Pure.seen_at d s j ≡ None
-next_none d s k none before j p = elim (equal_or_not j k) [ inl e ↦ ap (Pure.seen_at d s) e ∙ is_none (Pure.seen_at d s k) none | inr e ↦ before j (strict j k p e) ]
+pub next_none : (d : DeskState) (s k : ℕ) → Pure.seen_at d s k ≡ None → ((j : ℕ) → j < k → Pure.seen_at d s j ≡ None) → (j : ℕ) → j < k + 1 → Pure.seen_at d s j ≡ None
+next_none d s k none before j p = elim (equal_or_not j k) [ inl e ↦ ap (Pure.seen_at d s) e ∙ none | inr e ↦ before j (strict j k p e) ]
   where
     strict : (a b : ℕ) → a < b + 1 → a ≢ b → a < b
     strict a b p q = grind arith

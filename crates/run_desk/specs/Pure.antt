@@ -162,6 +162,11 @@ abbrev pub IsFirst : DeskState → ℕ → Option ℕ → Type 0
 IsFirst d s None = (k : ℕ) → seen_at d s k ≡ None
 IsFirst d s (Some k) = (is_some (seen_at d s k) ≡ true) × ((j : ℕ) → j < k → seen_at d s j ≡ None)
 
+-- the same, with what the strand would be told there
+abbrev pub IsFirstEvent : DeskState → ℕ → Option (ℕ × Seen) → Type 0
+IsFirstEvent d s None = IsFirst d s None
+IsFirstEvent d s (Some r) = IsFirst d s (Some r.0) × (seen_at d s r.0 ≡ Some r.1)
+
 -- a strand that asks so may go on on several streams
 abbrev pub is_wide : Ask → Bool
 is_wide Now.Any = true

@@ -221,33 +221,41 @@ impl Desk {
     }
 
     /// The least stream on which a strand may go on.
-    #[tactic(auto, using(crate::proofs::Streams::only_there, crate::proofs::Streams::only_below))]
     pub fn ready_stream(&self, strand: u32) -> Option<u16>
         ensures { Pure.IsFirst self.now strand result }
     {
+        let (stream, _) = self.ready_event(strand)?;
+        Some(stream)
+    }
+
+    /// The least stream on which a strand may go on, with what it would be told there.
+    #[tactic(auto, using(crate::proofs::Streams::only_there, crate::proofs::Streams::only_below))]
+    pub fn ready_event(&self, strand: u32) -> Option<(u16, Seen)>
+        ensures { Pure.IsFirstEvent self.now strand result }
+    {
         let ask = self.ask_of(strand);
         if is_wide(ask) {
-            return self.wide_stream(strand);
+            return self.wide_event(strand);
         }
         let stream = stream_of(ask);
-        self.seen_at(strand, stream)?;
-        Some(stream)
+        let seen = self.seen_by(strand, stream, ask)?;
+        Some((stream, seen))
     }
 
     // The same for a strand that may go on on several.
     #[tactic(auto, using(crate::proofs::Streams::wide_none, crate::proofs::Streams::next_none))]
-    fn wide_stream(&self, strand: u32) -> Option<u16>
+    fn wide_event(&self, strand: u32) -> Option<(u16, Seen)>
         requires { Pure.is_wide (Pure.ask_at self.now strand) ≡ true }
-        ensures { Pure.IsFirst self.now strand result }
+        ensures { Pure.IsFirstEvent self.now strand result }
     {
         let count = self.input_count(strand);
-        if self.seen_at(strand, 0).is_some() {
-            return Some(0);
+        if let Some(seen) = self.seen_at(strand, 0) {
+            return Some((0, seen));
         }
         let mut k = 1;
         while k < count {
-            if self.seen_at(strand, k).is_some() {
-                return Some(k);
+            if let Some(seen) = self.seen_at(strand, k) {
+                return Some((k, seen));
             }
             k += 1;
         }
