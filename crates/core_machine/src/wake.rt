@@ -152,7 +152,8 @@ fn settled_before(desk: &Desk, strand: u32, primes: bool, fills: bool) -> Settle
     }
 }
 
-// Wakes the strands for which the event settled something.
+// Wakes the strands for which the event settled something. Most events can settle nothing.
+#[inline(always)]
 fn wake_settled(ready: &mut Ready, desk: &Desk, strand: u32, before: Settled)
     requires { strand < ready.old.size }
     ensures larger { IsLarger ready.old ready.new }
@@ -160,9 +161,20 @@ fn wake_settled(ready: &mut Ready, desk: &Desk, strand: u32, before: Settled)
     ensures low { before.low ≡ false → is_some (Pure.level_code desk.now (negsuc 0)) ≡ true → IsWhole ready.new }
     ensures zero { before.zero ≡ false → is_some (Pure.level_code desk.now (pos 0)) ≡ true → IsWhole ready.new }
 {
-    if before.primer && before.low && before.zero {
-        return;
+    if !(before.primer && before.low && before.zero) {
+        wake_newly(ready, desk, strand, before);
     }
+}
+
+// The same, where something wasn't settled before.
+#[inline(never)]
+fn wake_newly(ready: &mut Ready, desk: &Desk, strand: u32, before: Settled)
+    requires { strand < ready.old.size }
+    ensures larger { IsLarger ready.old ready.new }
+    ensures stage { before.primer ≡ false → is_some (Pure.primed_of (slice_get desk.now.seats strand)) ≡ true → IsStageIn desk.now strand ready.new }
+    ensures low { before.low ≡ false → is_some (Pure.level_code desk.now (negsuc 0)) ≡ true → IsWhole ready.new }
+    ensures zero { before.zero ≡ false → is_some (Pure.level_code desk.now (pos 0)) ≡ true → IsWhole ready.new }
+{
     let primed = !before.primer && desk.is_primer(strand);
     let low = !before.low && desk.level_code(-1).is_some();
     let zero = !before.zero && desk.level_code(0).is_some();
