@@ -167,6 +167,11 @@ abbrev pub IsFirstEvent : DeskState → ℕ → Option (ℕ × Seen) → Type 0
 IsFirstEvent d s None = IsFirst d s None
 IsFirstEvent d s (Some r) = IsFirst d s (Some r.0) × (seen_at d s r.0 ≡ Some r.1)
 
+-- what is told, with its stream
+abbrev pub on_stream : ℕ → Option Seen → Option (ℕ × Seen)
+on_stream k None = None
+on_stream k (Some seen) = Some (k, seen)
+
 -- a strand that asks so may go on on several streams
 abbrev pub is_wide : Ask → Bool
 is_wide Now.Any = true

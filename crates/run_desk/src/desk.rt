@@ -5,7 +5,7 @@ ghost use Rattle.commit_levels.specs.UnitState.{IsLive};
 ghost use Rattle.run_desk.specs.Pure as Pure;
 
 use crate::doors::Doors;
-use crate::looks::{can_put, can_refuse, is_over, is_wide, primed_seen, shows, stream_of, up_seen};
+use crate::looks::{can_put, can_refuse, is_over, on_stream, primed_seen, shows, stream_of, up_seen};
 use crate::seat::{Ask, Seat, ask_seat, change_seat};
 use crate::sights::{forget, hold_of, see_at};
 use crate::wires::{close_ins, close_outs, offer_at, settle_at, take_at, withdraw_at};
@@ -229,17 +229,20 @@ impl Desk {
     }
 
     /// The least stream on which a strand may go on, with what it would be told there.
-    #[tactic(auto, using(crate::proofs::Streams::only_there, crate::proofs::Streams::only_below))]
+    #[inline(always)]
     pub fn ready_event(&self, strand: u32) -> Option<(u16, Seen)>
         ensures { Pure.IsFirstEvent self.now strand result }
     {
-        let ask = self.ask_of(strand);
-        if is_wide(ask) {
-            return self.wide_event(strand);
+        match self.ask_of(strand) {
+            Ask::Read(i) => on_stream(i, self.read_seen(strand, i)),
+            Ask::Take(i) => Some((i, Seen::Took(i))),
+            Ask::Write(o) => on_stream(o, self.write_seen(strand, o)),
+            Ask::Any | Ask::Gate => self.wide_event(strand),
+            ask => on_stream(
+                stream_of(ask),
+                self.seen_by(strand, stream_of(ask), ask),
+            ),
         }
-        let stream = stream_of(ask);
-        let seen = self.seen_by(strand, stream, ask)?;
-        Some((stream, seen))
     }
 
     // The same for a strand that may go on on several.
