@@ -98,6 +98,7 @@ impl<S: Stage> Core<S> {
     }
 
     // The least strand that may have an event, its least stream, and what it is told there.
+    #[inline(always)]
     fn least_event(&mut self) -> Option<(u32, u16, Seen)>
         ensures same { self.new ≡ self.old }
         ensures least { LeastEvent self.old result }

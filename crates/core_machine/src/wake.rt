@@ -16,6 +16,7 @@ use record_pool::Pool;
 use run_desk::Desk;
 
 /// Makes on the desk what a strand was told, and wakes whom it may concern.
+#[inline(always)]
 pub(crate) fn move_out(
     desk: &mut Desk,
     pool: &mut Pool,
@@ -41,6 +42,7 @@ pub(crate) fn move_out(
 
 /// Brings a strand home with what it wants next, and wakes it and whom that may concern. Out of memory leaves the desk
 /// and the pool as they were.
+#[inline(always)]
 pub(crate) fn move_home(
     desk: &mut Desk,
     pool: &mut Pool,
@@ -68,6 +70,7 @@ pub(crate) fn move_home(
 
 /// Brings a strand home with what it wants next, or, where it has ended, with nothing. Out of memory leaves the desk and
 /// the pool as they were.
+#[inline(always)]
 pub(crate) fn bring_home(
     desk: &mut Desk,
     pool: &mut Pool,
@@ -93,6 +96,7 @@ pub(crate) fn bring_home(
 }
 
 /// The least strand that may go on, its least stream, and what it would be told there. Who is found not to is taken out.
+#[inline(always)]
 pub(crate) fn least_awake(ready: &mut Ready, desk: &Desk) -> Option<(u32, u16, Seen)>
     ensures size { ready.new.size ≡ ready.old.size }
     ensures inside { IfSome result (λ r. r.0 < ready.old.size) }
@@ -244,9 +248,20 @@ fn wake_reader(ready: &mut Ready, desk: &Desk, links: &[Link], strand: u32, want
     ensures here { is_member ready.new strand ≡ true }
     ensures reader { IsReaderIn desk.now links.now strand want.now ready.new }
 {
-    ready.insert(strand);
+    wake(ready, strand);
     if let Want::Write(o, _) = want {
         wake_consumer(ready, links, desk.out_door(strand, *o));
+    }
+}
+
+// Wakes a strand that is mostly in the set already.
+fn wake(ready: &mut Ready, strand: u32)
+    requires { strand < ready.old.size }
+    ensures larger { IsLarger ready.old ready.new }
+    ensures here { is_member ready.new strand ≡ true }
+{
+    if !ready.has(strand) {
+        ready.insert(strand);
     }
 }
 
