@@ -5,8 +5,10 @@ mod fault;
 mod item;
 mod parts;
 mod piece;
+mod pieces;
 mod signs;
 mod straight_line;
+mod words;
 
 pub use fault::SpecFault;
 pub use piece::{Piece, PieceKind};
