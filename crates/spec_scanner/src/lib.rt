@@ -3,6 +3,7 @@
 
 mod fault;
 mod item;
+mod labels;
 mod parts;
 mod piece;
 mod pieces;
