@@ -3,6 +3,7 @@ pub mod Blanks
 pub mod Consoles
 pub mod Fronts
 pub mod LabelEntries
+pub mod Leasts
 pub mod Locates
 pub mod Readings
 pub mod Slashes

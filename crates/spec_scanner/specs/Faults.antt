@@ -1,6 +1,8 @@
 -- The faults of a text's spelling, each with its number and its place, and the least of them.
-use Rattle.std.specs.Prelude.{◌≡◌, ℕ, ◌<◌, ◌≤◌, List, ◌⊎◌}
+use Rattle.std.specs.Prelude.{◌≡◌, ℕ, ◌<◌, ◌≤◌, ◌==◌, ◌&&◌, ◌||◌, Bool, not, if◌then◌else◌, nat_lt, List, [], ◌⊎◌, MatchOption}
 use Rattle.std.specs.List.{Contains}
+use Rattle.std.specs.declared.option.Option.{Option}
+use Rattle.std.specs.declared.option.Option.TheVariants.{Some, None}
 use Rattle.spec_scanner.specs.declared.fault.Fault.{Fault}
 
 abbrev pub fault : ℕ → ℕ → Fault
@@ -14,3 +16,16 @@ IsBefore a b = (a.place < b.place) ⊎ ((a.place ≡ b.place) × (a.number ≤ b
 pub record IsLeast (least : Fault) (faults : List Fault) : Type 0 where
   pub among : Contains faults least
   pub before : (other : Fault) → Contains faults other → IsBefore least other
+
+-- a fault found before is the least of these faults, or there is none
+abbrev pub IsLeastSo : Option Fault → List Fault → Type 0
+IsLeastSo found faults = MatchOption found (faults ≡ []) (λ least. IsLeast least faults)
+
+-- the fault stands before the other
+abbrev pub is_before : Fault → Fault → Bool
+is_before a b = nat_lt a.place b.place || ((a.place == b.place) && not (nat_lt b.number a.number))
+
+-- the first of a fault found before, if any, and another one
+abbrev pub least : Option Fault → Fault → Fault
+least None other = other
+least (Some found) other = if is_before found other then found else other

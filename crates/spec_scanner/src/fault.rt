@@ -1,4 +1,5 @@
 ghost use Rattle.std.specs.Prelude.{◌≡◌};
+ghost use Rattle.spec_scanner.specs.Faults as Faults;
 
 use pipe_model::NoMemory;
 
@@ -7,6 +8,18 @@ use pipe_model::NoMemory;
 pub(crate) struct Fault {
     pub number: u8,
     pub place: u32,
+}
+
+// The first of a fault found before, if any, and another one.
+pub(crate) fn least(found: Option<Fault>, other: Fault) -> Fault
+    ensures { result ≡ Faults.least found other }
+{
+    match found {
+        Some(fault)
+            if fault.place < other.place
+                || fault.place == other.place && fault.number <= other.number => { fault }
+        _ => other,
+    }
 }
 
 /// Why a text isn't read: its fault of the least place, and of two at one place that of the lesser number, or want of memory.
