@@ -1,9 +1,10 @@
 -- Labels as the entries of a map, from the keys that have their names to their uses.
-use Rattle.std.proofs.Common.{◌≡◌, ℕ, zero, suc, ◌+◌, Bool, true, false, not, cond, if◌then◌else◌, List, [], ◌∷◌, ◌++◌, length, map, refl, ap, ◌∙◌, sym, arith, Some, None, Option, slice_get, slice_set, add-one}
-use Rattle.std.specs.List.{position, position_from, position_or_len, prefix_len}
+use Rattle.std.proofs.Common.{◌≡◌, ℕ, zero, suc, ◌+◌, ◌<◌, Bool, true, false, cond, if◌then◌else◌, List, [], ◌∷◌, ◌++◌, length, map, refl, ap, ◌∙◌, sym, arith, Some, None, Option, IfSome, slice_get, slice_set, add-one}
+use Rattle.std.specs.List.{position, position_from}
 use Rattle.std.specs.Option.{option_map_or}
 use Rattle.std.specs.Map.{keys_of, values_of}
 use Rattle.std.specs.Str.{bytes_eq}
+use Rattle.std.proofs.lemmas.List.{length-map}
 use Rattle.std.proofs.lemmas.Cmp.{nat_list_eq_equiv}
 use Rattle.std.proofs.lemmas.Iterator.Adapters.{position_from-zero}
 use Rattle.indexmap.specs.IndexMap.{insert_entry}
@@ -38,6 +39,11 @@ module _ {K : Type 0} (name : K → List ℕ) where
       ∙ sym (position_map (λ k. bytes_eq wanted (name k)) (λ (e : K × ℕ). bytes_eq wanted (name e.0)) (λ e. e.0) (λ _. refl) entries 0)
       ∙ position_map (λ (l : Label). bytes_eq l.name wanted) (λ (e : K × ℕ). bytes_eq wanted (name e.0)) label_of (λ e. nat_list_eq_equiv.symm wanted (name e.0)) entries 0
       ∙ sym (position_from-zero (λ (l : Label). bytes_eq l.name wanted) (labels_of entries))
+
+  -- a number of an entry is one of a label
+  pub number_within : (entries : List (K × ℕ)) (labels : List Label) → labels_of entries ≡ labels → (number : Option ℕ) → IfSome number (λ n. n < length entries) → IfSome number (λ n. n < length labels)
+  number_within entries labels are None within = within
+  number_within entries labels are (Some number) within = omega (arith, within, ap length are, length-map entries label_of)
 
   -- the uses of a number are the value at its place
   pub uses_at : (entries : List (K × ℕ)) (number uses : ℕ) → slice_get (values_of entries) number ≡ Some uses → uses_of (labels_of entries) number ≡ uses

@@ -1,9 +1,13 @@
 pub mod Cases
+pub mod Adds
 pub mod Blanks
 pub mod Consoles
+pub mod Cutting
 pub mod Fronts
 pub mod LabelEntries
 pub mod Leasts
+pub mod Loads
 pub mod Locates
 pub mod Readings
 pub mod Slashes
+pub mod SoFar

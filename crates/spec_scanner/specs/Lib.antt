@@ -1,5 +1,7 @@
+pub mod Additions
 pub mod Blanks
 pub mod Body
+pub mod Cuts
 pub mod Faults
 pub mod Labels
 pub mod Options

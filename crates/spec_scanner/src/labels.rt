@@ -1,4 +1,4 @@
-ghost use Rattle.std.specs.Prelude.{◌≡◌, ◌+◌, ◌<◌, ◌^◌, suc, [], ◌∷◌, ◌++◌, length, None, OnOk, OnErr};
+ghost use Rattle.std.specs.Prelude.{◌≡◌, ◌+◌, ◌<◌, ◌^◌, suc, [], ◌∷◌, ◌++◌, length, IfSome, None, OnOk, OnErr};
 ghost use Rattle.spec_scanner.specs.Labels.{number_of, used, uses_of};
 
 use indexmap::IndexMap;
@@ -40,7 +40,8 @@ impl Labels {
 
     /// The number of a label.
     pub fn number_of(&self, name: &[u8]) -> Option<usize>
-        ensures { result ≡ number_of self.now name.now }
+        ensures number { result ≡ number_of self.now name.now }
+        ensures within { IfSome result (λ number. number < length self.now) }
     {
         self.uses.get_index_of(name)
     }

@@ -1,18 +1,24 @@
 //! The text of a specification, so far of one form: `console | locate /string/ | .. | console`.
 #![tactic(auto)]
 
+mod cuts;
 mod fault;
+mod findings;
 mod item;
+mod labelled;
 mod labels;
 mod parts;
 mod piece;
 mod pieces;
+mod scanned;
 mod signs;
+mod stages;
 mod straight_line;
 mod words;
 
 pub use fault::SpecFault;
 pub use piece::{Piece, PieceKind};
+pub use scanned::Pieces;
 pub use straight_line::{one_reading, straight};
 
 #[cfg(test)]

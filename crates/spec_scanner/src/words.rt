@@ -1,4 +1,4 @@
-ghost use Rattle.std.specs.Prelude.{◌≡◌, ◌==◌, false, not, position, slice_get};
+ghost use Rattle.std.specs.Prelude.{◌≡◌, ◌==◌, ◌<◌, IfSome, false, length, not, position, slice_get};
 ghost use Rattle.std.specs.List.{last_or, list_all};
 ghost use Rattle.std.specs.Option.{option_map_or};
 ghost use Rattle.spec_scanner.specs.Stretches as Stretches;
@@ -165,7 +165,8 @@ fn first_colon(word: &[Item]) -> Option<usize>
 
 // How many items stand before the colon of a label, if there is one.
 pub(crate) fn colon_of(items: &[Item]) -> Option<usize>
-    ensures { result ≡ Pieces.colon_of items.now }
+    ensures count { result ≡ Pieces.colon_of items.now }
+    ensures within { IfSome result (λ count. count < length items.now) }
 {
     let begin = word_begin(items).unwrap_or(items.len());
     let (word, _) = split_word(items);

@@ -1,6 +1,6 @@
 use Rattle.std.proofs.Common.{◌∙◌, ◌++◌, ◌∷◌, [], ap, refl, subst, sym, None, ◌≡◌}
 use Rattle.spec_scanner.specs.Labels.{number_of}
-use Rattle.spec_scanner.proofs.LabelEntries.{label_of, labels_of, new_label}
+use Rattle.spec_scanner.proofs.LabelEntries.{labels_of, new_label}
 use Rattle.spec_scanner.proofs.labels.Labels.define.Goals as goal
 
 pub returns-clause-ok : goal.returns-clause-ok

@@ -1,4 +1,4 @@
-use Rattle.std.proofs.Common.{◌≡◌, ◌∙◌, add-one, ap, arith, sym, suc}
+use Rattle.std.proofs.Common.{◌∙◌, add-one, ap, arith, sym, suc}
 use Rattle.spec_scanner.specs.Labels.{used, uses_of}
 use Rattle.spec_scanner.proofs.LabelEntries.{used_at, uses_at}
 use Rattle.spec_scanner.proofs.labels.Labels.use_of.Goals as goal
