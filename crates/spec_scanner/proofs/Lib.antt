@@ -1,6 +1,7 @@
 pub mod Cases
 pub mod Adds
 pub mod Blanks
+pub mod Bodies
 pub mod Consoles
 pub mod Cutting
 pub mod Fronts

@@ -3,6 +3,7 @@ pub mod Blanks
 pub mod Body
 pub mod Cuts
 pub mod Faults
+pub mod Fronts
 pub mod Labels
 pub mod Options
 pub mod Pieces

@@ -1,6 +1,7 @@
 //! The text of a specification, so far of one form: `console | locate /string/ | .. | console`.
 #![tactic(auto)]
 
+mod body;
 mod cuts;
 mod fault;
 mod findings;
