@@ -6,7 +6,7 @@ use Rattle.std.proofs.lemmas.List.Quantifiers.{position-Some}
 use Rattle.spec_scanner.specs.declared.item.Item.{Item}
 use Rattle.spec_scanner.specs.Cuts.{IsCut, IsWhole}
 use Rattle.spec_scanner.specs.Stretches.{cut, put_first}
-use Rattle.spec_scanner.proofs.Fronts.{rest_of}
+use Rattle.spec_scanner.proofs.Prefixes.{rest_of}
 
 module _ (parts : Item → Bool) where
   whole_from : (items : List Item) (i : ℕ) → position_from parts i items ≡ None → IsWhole parts items

@@ -6,12 +6,12 @@ pub mod Bodies
 pub mod Consoles
 pub mod Cutting
 pub mod Finding
-pub mod Fronts
 pub mod LabelEntries
 pub mod Leasts
 pub mod Loads
 pub mod Locates
 pub mod Nowhere
+pub mod Prefixes
 pub mod Readings
 pub mod Settling
 pub mod Slashes

@@ -22,7 +22,7 @@ mod words;
 
 pub use fault::SpecFault;
 pub use piece::{Piece, PieceKind};
-pub use scanned::Pieces;
+pub use scanned::{Pieces, Scanned};
 pub use straight_line::{one_reading, straight};
 
 #[cfg(test)]

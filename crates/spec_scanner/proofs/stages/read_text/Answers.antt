@@ -3,7 +3,7 @@ use Rattle.spec_scanner.specs.Additions.{AddsFound}
 use Rattle.spec_scanner.specs.Pieces.{colon_of}
 use Rattle.spec_scanner.specs.Stretches.{without_front}
 use Rattle.spec_scanner.proofs.Adds.{text_parts}
-use Rattle.spec_scanner.proofs.Fronts.{rest_of}
+use Rattle.spec_scanner.proofs.Prefixes.{rest_of}
 use Rattle.spec_scanner.proofs.stages.read_text.Goals as goal
 
 pub returns : goal.returns

@@ -2,7 +2,7 @@ use Rattle.std.proofs.Common.{◌≡◌, ◌∙◌, ◌+◌, ap, sym, refl, fals
 use Rattle.std.specs.List.{position, prefix_len}
 use Rattle.spec_scanner.specs.declared.item.Item.{Item}
 use Rattle.spec_scanner.specs.Pieces.{colon_of, first_word, is_blank, is_plain_colon, is_starred}
-use Rattle.spec_scanner.proofs.Fronts.{first_other_or_length}
+use Rattle.spec_scanner.proofs.Prefixes.{first_other_or_length}
 use Rattle.spec_scanner.proofs.Loads.{colon_within}
 use Rattle.spec_scanner.proofs.words.colon_of.Goals as goal
 

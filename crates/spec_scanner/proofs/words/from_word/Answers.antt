@@ -1,6 +1,6 @@
 use Rattle.std.proofs.Common.{◌∙◌, ap, drop}
 use Rattle.spec_scanner.specs.Pieces.{is_blank}
-use Rattle.spec_scanner.proofs.Fronts.{first_other_or_length, rest_of}
+use Rattle.spec_scanner.proofs.Prefixes.{first_other_or_length, rest_of}
 use Rattle.spec_scanner.proofs.words.from_word.Goals as goal
 
 pub returns : goal.returns

@@ -1,5 +1,5 @@
 use Rattle.std.proofs.Common.{◌∙◌}
-use Rattle.spec_scanner.proofs.Fronts.{last_is}
+use Rattle.spec_scanner.proofs.Prefixes.{last_is}
 use Rattle.spec_scanner.proofs.words.last_item.Goals as goal
 
 pub returns : goal.returns

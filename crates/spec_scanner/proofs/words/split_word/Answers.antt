@@ -1,7 +1,7 @@
 use Rattle.std.proofs.Common.{◌≡◌, ◌∙◌, ap, drop, take}
 use Rattle.std.specs.List.{prefix_len}
 use Rattle.spec_scanner.specs.Pieces.{is_blank, is_no_blank}
-use Rattle.spec_scanner.proofs.Fronts.{first_or_length}
+use Rattle.spec_scanner.proofs.Prefixes.{first_or_length}
 use Rattle.spec_scanner.proofs.words.split_word.Goals as goal
 
 size_is : (c : goal.After-split_at) → c.unwrap_or-size.result ≡ prefix_len is_no_blank c.from_word-from.result.now

@@ -1,6 +1,6 @@
 use Rattle.std.proofs.Common.{◌∙◌, ap, sym}
 use Rattle.spec_scanner.specs.Stretches.{is_plain_blank, without_back}
-use Rattle.spec_scanner.proofs.Fronts.{last_goes, last_stays}
+use Rattle.spec_scanner.proofs.Prefixes.{last_goes, last_stays}
 use Rattle.spec_scanner.proofs.words.without_back.Goals as goal
 
 pub loop-last-preserved : goal.loop-last-preserved

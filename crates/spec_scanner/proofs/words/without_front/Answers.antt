@@ -1,6 +1,6 @@
 use Rattle.std.proofs.Common.{◌∙◌, ap, drop}
 use Rattle.spec_scanner.specs.Stretches.{is_plain_blank}
-use Rattle.spec_scanner.proofs.Fronts.{first_other_or_length, rest_of}
+use Rattle.spec_scanner.proofs.Prefixes.{first_other_or_length, rest_of}
 use Rattle.spec_scanner.proofs.words.without_front.Goals as goal
 
 pub returns : goal.returns
