@@ -13,6 +13,7 @@ pub mod Locates
 pub mod Nowhere
 pub mod Prefixes
 pub mod Readings
+pub mod Scans
 pub mod Settling
 pub mod Slashes
 pub mod SoFar

@@ -14,6 +14,7 @@ mod parts;
 mod piece;
 mod pieces;
 mod scanned;
+mod scanner;
 mod settings;
 mod signs;
 mod stages;
@@ -23,6 +24,7 @@ mod words;
 pub use fault::SpecFault;
 pub use piece::{Piece, PieceKind};
 pub use scanned::{Pieces, Scanned};
+pub use scanner::scan;
 pub use straight_line::{one_reading, straight};
 
 #[cfg(test)]
