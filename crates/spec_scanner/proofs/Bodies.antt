@@ -14,7 +14,7 @@ use Rattle.spec_scanner.specs.Body.{IsAlone, IsBody, IsItem, IsTail, Spells, is_
 use Rattle.spec_scanner.specs.Fronts.{front, front_of}
 
 -- a character is the byte where the test says so
-sign_is : (sign : Option ℕ) (byte : ℕ) → is_sign sign byte ≡ true → sign ≡ Some byte
+pub sign_is : (sign : Option ℕ) (byte : ℕ) → is_sign sign byte ≡ true → sign ≡ Some byte
 sign_is None byte is = cc
 sign_is (Some other) byte is = ap Some (eqb-true other byte is)
 
@@ -117,7 +117,7 @@ tail_there signs text rest byte next text_is next_is is =
     rw text_is (subst (Tells signs (byte ∷ rest)) (ap (front_of signs byte) (sym next_is) ∙ sym is) (front_tells signs byte rest))
 
 -- a spelling has a byte
-spelled : (signs : Signs) (reading : Reading) (byte : ℕ) (spelling : List ℕ) → Spells signs reading byte spelling → 0 < length spelling
+pub spelled : (signs : Signs) (reading : Reading) (byte : ℕ) (spelling : List ℕ) → Spells signs reading byte spelling → 0 < length spelling
 spelled signs Plain byte spelling is = omega (arith, ap length is.0)
 spelled signs Literal byte spelling (inl is) = omega (arith, ap length is.2)
 spelled signs Literal byte spelling (inr is) = omega (arith, ap length is.1)

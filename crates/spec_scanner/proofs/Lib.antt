@@ -11,8 +11,10 @@ pub mod Leasts
 pub mod Loads
 pub mod Locates
 pub mod Nowhere
+pub mod OneBodies
 pub mod Prefixes
 pub mod Readings
+pub mod Rising
 pub mod Scans
 pub mod Settling
 pub mod Slashes
