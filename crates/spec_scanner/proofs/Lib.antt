@@ -3,6 +3,7 @@ pub mod Adds
 pub mod Beginnings
 pub mod Blanks
 pub mod Bodies
+pub mod Clashing
 pub mod Consoles
 pub mod Cutting
 pub mod Finding
@@ -12,6 +13,7 @@ pub mod Loads
 pub mod Locates
 pub mod Nowhere
 pub mod OneBodies
+pub mod OneOutsets
 pub mod Prefixes
 pub mod Readings
 pub mod Rising

@@ -35,7 +35,7 @@ setting_with settings Name End setting = refl
 setting_with settings Name Escape setting = refl
 setting_with settings Name Name setting = refl
 
-same_option : (name other : OptionName) → is_same_option name other ≡ true → name ≡ other
+pub same_option : (name other : OptionName) → is_same_option name other ≡ true → name ≡ other
 same_option Separator Separator is = refl
 same_option Separator End is = cc
 same_option Separator Escape is = cc
