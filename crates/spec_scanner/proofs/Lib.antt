@@ -14,6 +14,7 @@ pub mod Locates
 pub mod Nowhere
 pub mod OneBodies
 pub mod OneOutsets
+pub mod OneReadings
 pub mod Prefixes
 pub mod Readings
 pub mod Rising

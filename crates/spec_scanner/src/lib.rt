@@ -8,6 +8,7 @@ mod findings;
 mod item;
 mod labelled;
 mod labels;
+mod laws;
 mod option_words;
 mod options;
 mod parts;
@@ -22,6 +23,7 @@ mod straight_line;
 mod words;
 
 pub use fault::SpecFault;
+pub use laws::{no_refusal, one_reading_of};
 pub use piece::{Piece, PieceKind};
 pub use scanned::{Pieces, Scanned};
 pub use scanner::scan;
