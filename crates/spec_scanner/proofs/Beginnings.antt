@@ -10,8 +10,8 @@ use Rattle.spec_scanner.specs.declared.signs.Choice.{Choice}
 use Rattle.spec_scanner.specs.declared.signs.OptionName.TheVariants.{Separator, End, Escape}
 use Rattle.spec_scanner.specs.declared.signs.Signs.{Signs}
 use Rattle.spec_scanner.specs.Faults.{IsLeastSo, fault}
-use Rattle.spec_scanner.specs.Options.{BeginsAs, HasOptions, Outset, Pair, clashes, in_force, no_signs, pair_faults, pairs_of, signs_of}
-use Rattle.spec_scanner.specs.Settings.{AreSettings, all_in, signs_in}
+use Rattle.spec_scanner.specs.Options.{AreWords, BeginsAs, HasOptions, Outset, Pair, Word, clashes, in_force, no_signs, pair_faults, pairs_of, signs_of}
+use Rattle.spec_scanner.specs.Settings.{AreSettings, IsReadOf, all_in, signs_in}
 use Rattle.spec_scanner.proofs.Leasts.{least_one}
 use Rattle.spec_scanner.proofs.Nowhere.{first_within, not_before, not_nowhere, split_first}
 use Rattle.spec_scanner.proofs.Wording.{Told, blanks_are}
@@ -19,6 +19,14 @@ use Rattle.spec_scanner.proofs.Wording.{Told, blanks_are}
 -- what is told of how a text begins
 abbrev pub Begins : List ℕ → Signs → ℕ → Option Fault → Type 0
 Begins text signs start least = (outset : Outset) × BeginsAs text outset × (outset.signs ≡ signs) × (outset.start ≡ start) × IsLeastSo least outset.faults
+
+-- what options say, from where they stand and their words
+abbrev pub outset_of : List ℕ → ℕ → List ℕ → List ℕ → List Word → Outset
+outset_of text blanks inside body words = record {
+  signs = signs_of (pairs_of words);
+  start = length text - length body;
+  faults = pair_faults (suc blanks + length inside) [] (pairs_of words) ++ clashes (in_force (pairs_of words));
+}
 
 -- the settings say what is in force
 three : {X : Type 0} (f : Option Choice → Option Choice → Option Choice → X) (a b c d e g : Option Choice) → a ≡ d → b ≡ e → c ≡ g → f a b c ≡ f d e g
@@ -88,6 +96,17 @@ module _ (text front : List ℕ) (unblanked : IsUnblanked text front) where
             length-drop (suc size) (take (length front - 1) (drop 1 front)),
           )
 
+      some_told : (read : OptionsRead) (signs : Signs) (least : Option Fault) → signs ≡ signs_in read.settings → ((faults : List Fault) → IsLeastSo read.fault faults → IsLeastSo least (faults ++ clashes (all_in read.settings)))
+          → (words : List Word) → AreWords (suc unblanked.blanks) inside words → IsReadOf (suc unblanked.blanks + length inside) (pairs_of words) read → Begins text signs ((((length text - length front) + 1) + size) + 1) least
+      some_told read signs least signs_is least_is words words_are is_read =
+          let faults = pair_faults (suc unblanked.blanks + length inside) [] (pairs_of words) in (
+            outset_of text unblanked.blanks inside body words,
+            inr (inr (record { inside = inside; body = body; blanks = unblanked.blanks; options = options; words = words; words_are = words_are; outset_is = refl {a = outset_of text unblanked.blanks inside body words} })),
+            sym (signs_is ∙ signs_are (pairs_of words) read.settings is_read.settings_are),
+            start_is,
+            subst (λ (all : List Choice). IsLeastSo least (faults ++ clashes all)) (all_are (pairs_of words) read.settings is_read.settings_are) (least_is faults is_read.least_is),
+          )
+
       pub begins_some : (read : OptionsRead) (signs : Signs) (least : Option Fault) → Told ((length text - length front) + 1) (take size (take (length front - 1) (drop 1 front))) (((length text - length front) + 1) + length (take size (take (length front - 1) (drop 1 front)))) read
           → signs ≡ signs_in read.settings → ((faults : List Fault) → IsLeastSo read.fault faults → IsLeastSo least (faults ++ clashes (all_in read.settings)))
           → Begins text signs ((((length text - length front) + 1) + size) + 1) least
@@ -95,12 +114,4 @@ module _ (text front : List ℕ) (unblanked : IsUnblanked text front) where
       begins_some read signs least told signs_is least_is =
           let at : (length text - length front) + 1 ≡ suc unblanked.blanks = omega (arith, blanks_are text front unblanked) in
           let here : Told (suc unblanked.blanks) inside (suc unblanked.blanks + length inside) read = subst (λ (n : ℕ). Told n inside (n + length inside) read) at told in
-          let words = here.0 in
-          let is_read = here.2 in
-          let faults = pair_faults (suc unblanked.blanks + length inside) [] (pairs_of words) in (
-            record { signs = signs_of (pairs_of words); start = length text - length body; faults = faults ++ clashes (in_force (pairs_of words)) },
-            inr (inr (record { inside = inside; body = body; blanks = unblanked.blanks; options = options; words = words; words_are = here.1; outset_is = refl })),
-            sym (signs_is ∙ signs_are (pairs_of words) read.settings is_read.settings_are),
-            start_is,
-            subst (λ (all : List Choice). IsLeastSo least (faults ++ clashes all)) (all_are (pairs_of words) read.settings is_read.settings_are) (least_is faults is_read.least_is),
-          )
+          some_told read signs least signs_is least_is here.0 here.1 here.2

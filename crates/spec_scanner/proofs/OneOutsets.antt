@@ -1,10 +1,11 @@
 -- A text begins in one way.
-use Rattle.std.proofs.Common.{◌≡◌, ◌≢◌, ℕ, zero, suc, ◌+◌, ◌-◌, List, [], ◌∷◌, ◌++◌, length, get_or, replicate, refl, sym, ap, ◌∙◌, subst, arith, inl, inr, length-append}
+use Rattle.std.proofs.Common.{◌≡◌, ◌≢◌, ℕ, zero, suc, ◌+◌, List, [], ◌∷◌, ◌++◌, length, get_or, replicate, refl, sym, ap, ◌∙◌, subst, arith, inl, inr, length-append}
 use Rattle.std.specs.List.{Contains}
 use Rattle.std.proofs.lemmas.List.Elements.{Contains-append_right}
 use Rattle.stage_syntax.specs.Words.{IsUnblanked}
 use Rattle.spec_scanner.specs.Faults.{fault}
-use Rattle.spec_scanner.specs.Options.{AreWords, BeginsAs, HasNone, HasSome, HasUnclosed, IsWordAt, Outset, Word, clashes, in_force, no_signs, pair_faults, pairs_of, signs_of}
+use Rattle.spec_scanner.proofs.Beginnings.{outset_of}
+use Rattle.spec_scanner.specs.Options.{AreWords, BeginsAs, HasNone, HasSome, HasUnclosed, IsWordAt, Outset, Word, no_signs}
 
 -- blanks before something else are determined
 one_blanks : (n m : ℕ) (a b : List ℕ) → replicate n 32 ++ a ≡ replicate m 32 ++ b → get_or a 0 0 ≢ 32 → get_or b 0 0 ≢ 32 → (n ≡ m) × (a ≡ b)
@@ -105,14 +106,6 @@ module _ (text : List ℕ) where
       let both = one_parenthesis x.blanks y.blanks x.unclosed.after y.unclosed.after x.unclosed.spells y.unclosed.spells in
       x.outset_is ∙ ap (λ (n : ℕ). record { signs = no_signs; start = length text; faults = fault 4 n ∷ [] }) both.0 ∙ sym y.outset_is
 
-  -- what options say, from where they stand and their words
-  abbrev outset_of : ℕ → List ℕ → List ℕ → List Word → Outset
-  outset_of blanks inside body words = record {
-    signs = signs_of (pairs_of words);
-    start = length text - length body;
-    faults = pair_faults (suc blanks + length inside) [] (pairs_of words) ++ clashes (in_force (pairs_of words));
-  }
-
   four : (make : ℕ → List ℕ → List ℕ → List Word → Outset) (n m : ℕ) (a b c d : List ℕ) (e f : List Word) → n ≡ m → a ≡ b → c ≡ d → e ≡ f → make n a c e ≡ make m b d f
   four make n m a b c d e f first second third fourth = cc
 
@@ -122,7 +115,7 @@ module _ (text : List ℕ) where
       let parts = one_before 41 x.inside y.inside x.body y.body x.options.whole y.options.whole both.1 in
       let there = subst (λ (n : ℕ). AreWords (suc n) y.inside y.words) (sym both.0) y.words_are in
       let words = one_words (suc x.blanks) x.inside x.words y.words x.words_are (subst (λ (bytes : List ℕ). AreWords (suc x.blanks) bytes y.words) (sym parts.0) there) in
-      x.outset_is ∙ four outset_of x.blanks y.blanks x.inside y.inside x.body y.body x.words y.words both.0 parts.0 parts.1 words ∙ sym y.outset_is
+      x.outset_is ∙ four (outset_of text) x.blanks y.blanks x.inside y.inside x.body y.body x.words y.words both.0 parts.0 parts.1 words ∙ sym y.outset_is
 
   -- a text begins in one way
   pub one_outset : (a b : Outset) → BeginsAs text a → BeginsAs text b → a ≡ b

@@ -123,7 +123,9 @@ regroup a b c d = simp append_assoc
 
 faults_last : (close : ℕ) (earlier pairs : List Pair) (pair : Pair)
     → pair_faults close earlier (pairs ++ pair ∷ []) ≡ pair_faults close earlier pairs ++ (word_faults (earlier ++ pairs) pair ++ value_faults close (option_of pair.word.bytes) pair.value)
-faults_last close earlier [] pair = rw (append-nil, append-nil) refl
+faults_last close earlier [] pair =
+    let of_value = value_faults close (option_of pair.word.bytes) pair.value in
+    ap (λ (rest : List Fault). word_faults earlier pair ++ rest) (append-nil of_value) ∙ ap (λ (before : List Pair). word_faults before pair ++ of_value) (sym (append-nil earlier))
 faults_last close earlier (first ∷ pairs) pair =
     let of_value = value_faults close (option_of pair.word.bytes) pair.value in
     let here = pair_faults close (earlier ++ first ∷ []) pairs in

@@ -60,10 +60,9 @@ fn at_option(settings: &Settings, name: OptionName) -> Setting
 }
 
 // The settings with another one of this option.
-fn with_option(settings: Settings, name: OptionName, setting: Setting) -> Settings
+fn with_option(mut settings: Settings, name: OptionName, setting: Setting) -> Settings
     ensures { result ≡ Specs.with_setting settings name setting }
 {
-    let mut settings = settings;
     match name {
         OptionName::Separator => settings.separator = setting,
         OptionName::End => settings.end = setting,
