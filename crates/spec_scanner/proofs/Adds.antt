@@ -45,11 +45,6 @@ module _ (old new : Findings) (other : Fault) (noted : new ≡ with_fault old ot
   pub pieces_noted : (result : Result Piece NoMemory) → IfOk result (λ piece. piece ≡ named) → IfOk result (λ piece. AddsFound old new [] (piece ∷ []) read)
   pieces_noted result = IfOk-weaker result (λ piece. piece ≡ named) (λ piece. AddsFound old new [] (piece ∷ []) read) piece_noted
 
--- no item by the length
-pub no_item : {X : Type 0} (items : List X) → (length items == 0) ≡ true → items ≡ []
-no_item [] is = refl
-no_item (item ∷ items) is = absurd (omega (arith, eqb-true (length (item ∷ items)) 0 is))
-
 -- a bad label alone, or with its stage
 pub bad_alone : (labels : List Label) (place end : ℕ) (items : List Item) → (length items == 0) ≡ true
     → bad_label labels place end items ≡ found (reference_piece None 0 place end ∷ []) labels (fault 8 place ∷ [])

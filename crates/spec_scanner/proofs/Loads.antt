@@ -6,7 +6,7 @@ use Rattle.std.proofs.lemmas.List.{length-map}
 use Rattle.std.proofs.lemmas.List.Quantifiers.{position-Some}
 use Rattle.spec_scanner.specs.declared.item.Item.{Item}
 use Rattle.spec_scanner.specs.Additions.{load}
-use Rattle.spec_scanner.specs.Labels.{Label, bad_label, define, good_label, labelled, number_of, read_stage, read_text, refer, used, uses_of}
+use Rattle.spec_scanner.specs.Labels.{Label, bad_label, define, good_label, labelled, number_of, read_text, refer, used, uses_of}
 use Rattle.spec_scanner.specs.Pieces.{bytes_of, colon_of, end_of, first_word, from_word, is_blank, is_good_label, is_no_blank, is_plain_colon, is_starred, place_of}
 use Rattle.spec_scanner.specs.Stretches.{without_front}
 
@@ -97,10 +97,6 @@ text_load labels item items (Some colon) is =
     (λ some. omega (arith, colon_within all colon is, length-map (take colon all) (λ (i : Item). i.byte), length-take colon all, some))
 
 -- a stage's text adds one at most, and has then two items at least
-pub stage_load : (labels : List Label) (closed : ℕ) (items : List Item) → 2 * load (read_stage labels closed items).labels ≤ 2 * load labels + length items
-stage_load labels closed [] = omega arith
-stage_load labels closed (item ∷ items) = text_load labels item items (colon_of (item ∷ items)) refl
-
 pub some_text_load : (labels : List Label) (items : List Item) → (length items == 0) ≡ false
     → 2 * load (read_text labels items (colon_of items)).labels ≤ 2 * load labels + length items
 some_text_load labels [] is = cc

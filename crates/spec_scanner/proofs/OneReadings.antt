@@ -1,5 +1,5 @@
 -- A text reads in one way at most, and is then not refused.
-use Rattle.std.proofs.Common.{◌≡◌, ℕ, ◌<◌, List, [], length, drop, refl, ap, ◌∙◌, sym, subst, arith, inl, inr}
+use Rattle.std.proofs.Common.{◌≡◌, ℕ, ◌<◌, List, [], length, drop, ap, ◌∙◌, sym, subst, arith, inl, inr}
 use Rattle.spec_scanner.specs.declared.fault.Fault.{Fault}
 use Rattle.spec_scanner.specs.declared.item.Item.{Item}
 use Rattle.spec_scanner.specs.declared.piece.Piece.{Piece}

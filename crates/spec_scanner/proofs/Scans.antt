@@ -26,10 +26,6 @@ pub one_escaped : (tail : List ℕ) (size : ℕ) → true ≡ nat_lt 0 (length t
 one_escaped [] size some = cc
 one_escaped (byte ∷ bytes) size some = refl
 
-pub none_escaped : (tail : List ℕ) (size : ℕ) → false ≡ nat_lt 0 (length tail) → no_escaped tail size ≡ []
-none_escaped [] size none = refl
-none_escaped (byte ∷ bytes) size none = let some = lt-ltb 0 (length (byte ∷ bytes)) (omega arith) in cc
-
 -- whether a pipeline has a piece
 abbrev pub has_some : List Piece → Bool
 has_some pieces = nat_lt 0 (length pieces)

@@ -34,9 +34,6 @@ pub record StagesSoFar (closed : ℕ) (old now : Findings) (before so_far : List
   pub goes_on : (new : Findings) (after : List Piece) → AddsFound now new so_far after (read_stages now.labels (cut is_separator rest closed))
       → AddsFound old new before after (read_stages old.labels (cut is_separator items closed))
 
-pub no_stage_yet : (closed : ℕ) (old : Findings) (before : List Piece) (items : List Item) → StagesSoFar closed old old before before items items
-no_stage_yet closed old before items = record { few = omega arith; goes_on = λ new after added. added }
-
 module _ (closed : ℕ) (old now next : Findings) (before so_far then_far : List Piece) (items rest : List Item) (read : StagesSoFar closed old now before so_far items rest) where
   pub one_stage_more : (front : List Item) (place : ℕ) (back : List Item) → IsCut is_separator rest front place back
       → AddsFound now next so_far then_far (read_stage now.labels place (trimmed front)) → 2 * load next.labels ≤ 2 * load now.labels + length (trimmed front)
@@ -82,9 +79,6 @@ pub record PipelinesSoFar (closed : ℕ) (old now : Findings) (before so_far : L
   pub few : 2 * load now.labels + length rest ≤ 2 * load old.labels + length items
   pub goes_on : (new : Findings) (after : List (List Piece)) → AddsRead now new so_far after (read_pipelines now.labels (cut is_end rest closed))
       → AddsRead old new before after (read_pipelines old.labels (cut is_end items closed))
-
-pub no_pipeline_yet : (closed : ℕ) (old : Findings) (before : List (List Piece)) (items : List Item) → PipelinesSoFar closed old old before before items items
-no_pipeline_yet closed old before items = record { few = omega arith; goes_on = λ new after added. added }
 
 module _ (closed : ℕ) (old now next : Findings) (before so_far then_far : List (List Piece)) (items rest : List Item) (read : PipelinesSoFar closed old now before so_far items rest) where
   pub one_pipeline_more : (front : List Item) (place : ℕ) (back : List Item) → IsCut is_end rest front place back

@@ -1,4 +1,4 @@
-//! The text of a specification, so far of one form: `console | locate /string/ | .. | console`.
+//! The text of a specification: what it reads as, or its least fault; and a reader of one form alone, `console | locate /string/ | .. | console`.
 #![tactic(auto)]
 
 mod body;

@@ -70,7 +70,7 @@ impl Scanned {
     }
 
     /// The pipelines.
-    pub fn as_slice(&self) -> &[Pieces]
+    pub fn pipelines(&self) -> &[Pieces]
         ensures pipelines { result.now ≡ self.now }
         ensures read { (text : List ℕ) × Reads text self.now }
     {
@@ -78,7 +78,7 @@ impl Scanned {
     }
 
     /// The pipelines by value.
-    pub fn into_vec(self) -> Vec<Pieces>
+    pub fn into_pipelines(self) -> Vec<Pieces>
         ensures pipelines { result.items ≡ self }
         ensures read { (text : List ℕ) × Reads text self }
     {

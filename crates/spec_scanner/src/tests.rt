@@ -100,7 +100,7 @@ fn shown(alloc: Global, text: &[u8]) -> Result<String, Fail> {
     let mut out = String::new(alloc);
     match scan(alloc, text) {
         Ok(scanned) => {
-            for pieces in scanned.as_slice() {
+            for pieces in scanned.pipelines() {
                 for piece in pieces.as_slice() {
                     show_piece(&mut out, piece)?;
                 }
