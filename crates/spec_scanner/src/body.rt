@@ -16,7 +16,7 @@ pub(crate) struct Body {
 }
 
 /// A byte that is read from the front of a body, and the length of its spelling.
-#[derive(Clone, Copy, Debug, PartialEq, Eq)]
+#[derive(Clone, Copy)]
 struct Front {
     byte: u8,
     reading: Reading,

@@ -1,5 +1,5 @@
 /// How a byte of a specification's body is read.
-#[derive(Clone, Copy, Debug, PartialEq, Eq)]
+#[derive(Clone, Copy)]
 pub(crate) enum Reading {
     /// As itself.
     Plain,
@@ -12,7 +12,7 @@ pub(crate) enum Reading {
 }
 
 /// A byte of a specification's body, with the place where its spelling begins and the place just after that.
-#[derive(Clone, Copy, Debug, PartialEq, Eq)]
+#[derive(Clone, Copy)]
 pub(crate) struct Item {
     pub byte: u8,
     pub reading: Reading,

@@ -7,7 +7,7 @@ use crate::fault::Fault;
 use crate::signs::{Choice, OptionName};
 
 /// A word among the options, at its place.
-#[derive(Clone, Copy, Debug)]
+#[derive(Clone, Copy)]
 pub(crate) struct OptionWord<'a> {
     pub bytes: &'a [u8],
     pub place: u32,

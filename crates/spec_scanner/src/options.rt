@@ -13,7 +13,7 @@ use bstr::ByteSlice;
 use stage_syntax::{first_word, without_blanks};
 
 /// How a text begins: the characters in force, the place of its body, and the least fault of its options.
-#[derive(Clone, Copy, Debug, PartialEq, Eq)]
+#[derive(Clone, Copy)]
 pub(crate) struct Begun {
     pub signs: Signs,
     pub start: usize,

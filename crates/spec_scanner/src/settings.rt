@@ -11,14 +11,14 @@ use crate::option_words::{OptionWord, choice_at, named_option, value_fault};
 use crate::signs::{Choice, OptionName, Signs};
 
 /// Whether an option is given, and what its first pair chooses.
-#[derive(Clone, Copy, Debug, PartialEq, Eq)]
+#[derive(Clone, Copy)]
 pub(crate) struct Setting {
     pub is_given: bool,
     pub choice: Option<Choice>,
 }
 
 /// What the options say.
-#[derive(Clone, Copy, Debug, PartialEq, Eq)]
+#[derive(Clone, Copy)]
 pub(crate) struct Settings {
     pub separator: Setting,
     pub end: Setting,
@@ -104,7 +104,7 @@ fn settle(settings: Settings, name: Option<OptionName>, choice: Option<Choice>) 
 }
 
 /// What was read of the options so far: what they say, and their least fault.
-#[derive(Clone, Copy, Debug, PartialEq, Eq)]
+#[derive(Clone, Copy)]
 pub(crate) struct OptionsRead {
     pub settings: Settings,
     pub fault: Option<Fault>,
