@@ -103,12 +103,12 @@ bare_pipelines : (labels : List Label) (pipelines : List Stretch) → AreBare (r
 bare_pipelines labels [] = tt
 bare_pipelines labels (pipeline ∷ pipelines) = by_test (is_ignored pipeline) refl (bare_pipelines labels pipelines)
     (bare_pipelines (read_stages labels (cut is_separator pipeline.inside pipeline.closed)).labels pipelines) where
-  by_test : (is : Bool) → is_ignored pipeline ≡ is → AreBare (read_pipelines labels pipelines).faults
-      → AreBare (read_pipelines (read_stages labels (cut is_separator pipeline.inside pipeline.closed)).labels pipelines).faults
-      → AreBare (read_pipelines labels (pipeline ∷ pipelines)).faults
-  by_test true is skipped rest = rw is skipped
-  by_test false is skipped rest =
-      rw is (bare_append (read_stages labels (cut is_separator pipeline.inside pipeline.closed)).faults
+      by_test : (is : Bool) → is_ignored pipeline ≡ is → AreBare (read_pipelines labels pipelines).faults
+          → AreBare (read_pipelines (read_stages labels (cut is_separator pipeline.inside pipeline.closed)).labels pipelines).faults
+          → AreBare (read_pipelines labels (pipeline ∷ pipelines)).faults
+      by_test true is skipped rest = rw is skipped
+      by_test false is skipped rest =
+          rw is (bare_append (read_stages labels (cut is_separator pipeline.inside pipeline.closed)).faults
           (read_pipelines (read_stages labels (cut is_separator pipeline.inside pipeline.closed)).labels pipelines).faults
           (bare_stages labels (cut is_separator pipeline.inside pipeline.closed)) rest)
 
