@@ -64,7 +64,7 @@ module _ (stands : List Stand) (kinds : List Kind) where
   later_faultless earlier (stage ∷ (next ∷ stages)) (string ∷ strings) later none few =
       let stand : Stand = record { piece = piece_of stage; first = false; last = false } in
       none_of_all _ _ _ _ (no_stage_fault stand (length earlier) (omega arith)) (no_kind_fault stand kinds (length earlier)) (locate_faultless stage string false false earlier later.0)
-          (later_faultless (earlier ++ stand ∷ []) (next ∷ stages) strings later.1 (still_none stage string earlier later.0 none) (omega (arith, length-append earlier (stand ∷ []))))
+      (later_faultless (earlier ++ stand ∷ []) (next ∷ stages) strings later.1 (still_none stage string earlier later.0 none) (omega (arith, length-append earlier (stand ∷ []))))
 
   -- the first stage has none, so none has
   pub line_faultless : (first : Spelled) (stages : List Spelled) (strings : List (List ℕ)) → IsConsoleStage first → AreLater stages strings → length strings < 1023
@@ -73,4 +73,4 @@ module _ (stands : List Stand) (kinds : List Kind) where
   line_faultless first (stage ∷ stages) strings console later few =
       let stand : Stand = record { piece = piece_of first; first = true; last = false } in
       none_of_all _ _ _ _ (no_stage_fault stand 0 (omega arith)) (no_kind_fault stand kinds 0) (rw console.names refl)
-          (later_faultless (stand ∷ []) (stage ∷ stages) strings later (first_none first false console) (omega arith))
+      (later_faultless (stand ∷ []) (stage ∷ stages) strings later (first_none first false console) (omega arith))

@@ -38,7 +38,7 @@ module _ (first : Spelled) (stages : List Spelled) (strings : List (List ℕ)) (
     from_first [] strings later single = absurd later
     from_first (stage ∷ stages) strings later single =
         ap₂ (λ strand strands. strand ∷ strands) (first_is stands (length strings + 1) single [] (omega arith))
-            (strands_later stands (length strings + 1) single 1 (stage ∷ stages) strings later (omega arith) (omega arith))
+        (strands_later stands (length strings + 1) single 1 (stage ∷ stages) strings later (omega arith) (omega arith))
 
   -- the outcomes are the kinds
   outcomes_are : AreOutcomes (stands_in true (pieces_of (first ∷ stages))) (map (λ kind. Ok kind) (kinds_of strings))
@@ -54,9 +54,9 @@ module _ (first : Spelled) (stages : List Spelled) (strings : List (List ℕ)) (
       let all : stages_of (stands_of (pieces_of (first ∷ stages) ∷ [])) ≡ stands_in true (pieces_of (first ∷ stages)) = ap stages_of one ∙ all_stages true (first ∷ stages) in
       let links = links_are (stands_of (pieces_of (first ∷ stages) ∷ [])) in
       ap₂ (λ (strands : List Strand) (links : List Link). let net : Net = record { strands = strands; links = links } in net)
-          (ap₂ (λ links stands. strands_from (stands_of (pieces_of (first ∷ stages) ∷ [])) links 0 stands (kinds_of strings)) links all
-              ∙ strands_are (stands_of (pieces_of (first ∷ stages) ∷ [])) one)
-          links
+      (ap₂ (λ links stands. strands_from (stands_of (pieces_of (first ∷ stages) ∷ [])) links 0 stands (kinds_of strings)) links all
+      ∙ strands_are (stands_of (pieces_of (first ∷ stages) ∷ [])) one)
+      links
 
   -- a straight line of at most 1,022 LOCATEs is its net
   pub line_graph : length strings ≤ 1022 → IsGraph (pieces_of (first ∷ stages) ∷ []) (line_net [] strings)

@@ -44,12 +44,12 @@ module _ (stands : List Stand) (count : ℕ) (single : streams_of stands None �
   strands_later number [] strings later after sum = absurd later
   strands_later number (stage ∷ []) [] later after sum =
       ap (λ ports. placed number ConsoleOut ports ∷ [])
-          (ap (ports_of (chain 0 count) number ConsoleOut) single
-              ∙ last_ports (chain 0 count) number (linked_in 0 count number after (omega arith)) (not_linked_out 0 count number (omega arith)))
+      (ap (ports_of (chain 0 count) number ConsoleOut) single
+      ∙ last_ports (chain 0 count) number (linked_in 0 count number after (omega arith)) (not_linked_out 0 count number (omega arith)))
   strands_later number (stage ∷ []) (string ∷ strings) later after sum = absurd later
   strands_later number (stage ∷ (next ∷ stages)) [] later after sum = absurd later
   strands_later number (stage ∷ (next ∷ stages)) (string ∷ strings) later after sum =
       ap₂ (λ ports strands. placed number (Locate all_columns (Some string)) ports ∷ strands)
-          (ap (ports_of (chain 0 count) number (Locate all_columns (Some string))) single
-              ∙ locate_ports (chain 0 count) number string (linked_in 0 count number after (omega arith)) (linked_out 0 count number (omega arith) (omega arith)))
-          (strands_later (suc number) (next ∷ stages) strings later.1 (omega arith) (omega arith))
+      (ap (ports_of (chain 0 count) number (Locate all_columns (Some string))) single
+      ∙ locate_ports (chain 0 count) number string (linked_in 0 count number after (omega arith)) (linked_out 0 count number (omega arith) (omega arith)))
+      (strands_later (suc number) (next ∷ stages) strings later.1 (omega arith) (omega arith))
