@@ -1,0 +1,40 @@
+-- The kinds of the stages of a straight line.
+use Rattle.std.proofs.Common.{ℕ, Bool, false, List, [], ◌∷◌, map, refl, Some, Ok}
+use Rattle.pipe_model.specs.declared.kind.Kind.{Kind}
+use Rattle.pipe_model.specs.declared.kind.Kind.TheVariants.{ConsoleOut, Locate}
+use Rattle.pipe_model.specs.Straight.{all_columns}
+use Rattle.stage_syntax.specs.Kinds.{IsKind}
+use Rattle.stage_syntax.specs.Rows.{Ended, GoesOn, console_kind, console_row, locate_row}
+use Rattle.stage_syntax.specs.declared.part.Value.TheVariants as Read
+use Rattle.net_graph.specs.Nets.{AreOutcomes}
+use Rattle.net_graph.specs.Stands.{stands_in}
+use Rattle.net_graph.proofs.StraightPieces.{AreLater, IsConsoleStage, IsLocateStage, Spelled, pieces_of}
+
+-- the kinds of the stages after the first
+abbrev pub kinds_later : List (List ℕ) → List Kind
+kinds_later [] = ConsoleOut ∷ []
+kinds_later (string ∷ strings) = Locate all_columns (Some string) ∷ kinds_later strings
+
+-- a CONSOLE's kind
+pub console_is : (stage : Spelled) (first : Bool) → IsConsoleStage stage → IsKind stage.name stage.arg first (console_kind first)
+console_is stage first console = record {
+  row = console_row first;
+  named = rw console.names refl;
+  makes = Ended [] stage.arg.bytes (console_kind first) console.ended refl;
+}
+
+-- a LOCATE's kind
+pub locate_is : (stage : Spelled) (string : List ℕ) (first : Bool) → IsLocateStage stage string → IsKind stage.name stage.arg first (Locate all_columns (Some string))
+locate_is stage string first locate = record {
+  row = locate_row;
+  named = rw locate.names refl;
+  makes = GoesOn [] stage.arg.bytes (Read.String string) locate.left _ locate.next (Ended (Read.String string ∷ []) locate.left _ locate.ended refl);
+}
+
+-- the stages after the first are of these kinds
+pub later_are : (stages : List Spelled) (strings : List (List ℕ)) → AreLater stages strings → AreOutcomes (stands_in false (pieces_of stages)) (map (λ kind. Ok kind) (kinds_later strings))
+later_are [] strings later = absurd later
+later_are (stage ∷ []) [] later = (console_is stage false later, tt)
+later_are (stage ∷ []) (string ∷ strings) later = absurd later
+later_are (stage ∷ (next ∷ stages)) [] later = absurd later
+later_are (stage ∷ (next ∷ stages)) (string ∷ strings) later = (locate_is stage string false later.0, later_are (next ∷ stages) strings later.1)

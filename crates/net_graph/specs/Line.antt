@@ -1,0 +1,39 @@
+-- The net of a straight line: CONSOLE, a LOCATE for each string, CONSOLE.
+use Rattle.std.specs.Prelude.{ℕ, suc, ◌+◌, Bool, true, false, List, [], ◌∷◌, length}
+use Rattle.std.specs.declared.option.Option.TheVariants.{Some}
+use Rattle.pipe_model.specs.declared.net.Net.{Net}
+use Rattle.pipe_model.specs.declared.net.Strand.{Strand}
+use Rattle.pipe_model.specs.declared.kind.Kind.{Kind}
+use Rattle.pipe_model.specs.declared.kind.Kind.TheVariants.{ConsoleIn, ConsoleOut, Locate}
+use Rattle.pipe_model.specs.Straight.{all_columns, chain}
+
+-- the k-th stage of the main specification, which has one strand and these places, connected or not
+abbrev pub strand : ℕ → Kind → List Bool → List Bool → Strand
+strand k kind ins outs = record {
+  name = k ∷ [];
+  kind = kind;
+  part = 0;
+  unit = 0;
+  ports = record { inputs = length ins; outputs = length outs; has_input = ins; has_output = outs };
+}
+
+-- the CONSOLE that reads
+abbrev pub first_strand : List ℕ → Strand
+first_strand bytes = strand 0 (ConsoleIn bytes) [] (true ∷ [])
+
+-- LOCATE of a string in the whole record
+abbrev pub locate_strand : ℕ → List ℕ → Strand
+locate_strand k string = strand k (Locate all_columns (Some string)) (true ∷ []) (true ∷ [])
+
+-- the CONSOLE that writes
+abbrev pub last_strand : ℕ → Strand
+last_strand k = strand k ConsoleOut (true ∷ []) (false ∷ [])
+
+-- a LOCATE for each string, and the last CONSOLE, from a number on
+abbrev pub strands_from : ℕ → List (List ℕ) → List Strand
+strands_from k [] = last_strand k ∷ []
+strands_from k (string ∷ strings) = locate_strand k string ∷ strands_from (suc k) strings
+
+-- the net of the straight line that reads these bytes and has LOCATEs of these strings
+abbrev pub line_net : List ℕ → List (List ℕ) → Net
+line_net bytes strings = record { strands = first_strand bytes ∷ strands_from 1 strings; links = chain 0 (length strings + 1) }
