@@ -2,9 +2,11 @@
 use Rattle.std.proofs.Common.{◌≡◌, ◌≢◌, ℕ, zero, suc, ◌+◌, ◌<◌, ◌≤◌, true, false, List, [], ◌∷◌, length, refl, ap, arith, eq-eqb, ne_eqb, inl, inr}
 use Rattle.std.proofs.lemmas.Bool.{cases_eq}
 use Rattle.pipe_model.specs.Straight.{chain}
+use Rattle.spec_scanner.proofs.StraightStages.{AreLater}
+use Rattle.spec_scanner.proofs.StraightWords.{Spelled}
 use Rattle.net_graph.specs.Nets.{is_linked_in, is_linked_out, links_in}
 use Rattle.net_graph.specs.Stands.{Stand}
-use Rattle.net_graph.proofs.StraightPieces.{AreLater, Spelled, pieces_of}
+use Rattle.net_graph.proofs.StraightPieces.{pieces_of}
 
 -- a strand after the first of a chain, up to its last, has a link to its input
 pub linked_in : (from count stage : ℕ) → from < stage → stage ≤ from + count → is_linked_in (chain from count) stage 0 ≡ true

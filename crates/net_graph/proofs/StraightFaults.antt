@@ -4,9 +4,11 @@ use Rattle.std.specs.List.{list_any}
 use Rattle.std.proofs.lemmas.List.Folds.{list_any-append}
 use Rattle.pipe_model.specs.declared.kind.Kind.{Kind}
 use Rattle.spec_scanner.specs.declared.fault.Fault.{Fault}
+use Rattle.spec_scanner.proofs.StraightStages.{AreLater, IsConsoleStage, IsLocateStage}
+use Rattle.spec_scanner.proofs.StraightWords.{Spelled, piece_of}
 use Rattle.net_graph.specs.Faults.{console_faults, faults_from, is_console, is_same, kind_faults, stage_faults}
 use Rattle.net_graph.specs.Stands.{Stand, stands_in}
-use Rattle.net_graph.proofs.StraightPieces.{AreLater, IsConsoleStage, IsLocateStage, Spelled, piece_of, pieces_of}
+use Rattle.net_graph.proofs.StraightPieces.{pieces_of}
 
 -- stages of known kinds have no fault of their kind
 no_kind_fault : (stand : Stand) (kinds : List Kind) (number : ℕ) → kind_faults stand (slice_get (map (λ kind. Ok kind) kinds) number) ≡ []

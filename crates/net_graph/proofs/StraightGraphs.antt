@@ -6,6 +6,13 @@ use Rattle.pipe_model.specs.declared.net.Link.{Link}
 use Rattle.pipe_model.specs.declared.net.Net.{Net}
 use Rattle.pipe_model.specs.declared.net.Strand.{Strand}
 use Rattle.pipe_model.specs.Straight.{chain}
+use Rattle.spec_scanner.proofs.StraightReads.{line_read}
+use Rattle.spec_scanner.proofs.StraightStages.{AreLater, IsConsoleStage}
+use Rattle.spec_scanner.proofs.StraightWords.{Spelled}
+use Rattle.spec_scanner.specs.declared.piece.Piece.{Piece}
+use Rattle.spec_scanner.specs.Reads.{Reads}
+use Rattle.spec_scanner.specs.Straight.{IsStraight}
+use Rattle.spec_scanner.proofs.Readings.{length-locates}
 use Rattle.net_graph.specs.Faults.{IsGraph}
 use Rattle.net_graph.specs.Line.{first_strand, line_net, strands_from as line_from}
 use Rattle.net_graph.specs.Nets.{AreOutcomes, links_from, links_in, net_of, strands_from}
@@ -13,7 +20,7 @@ use Rattle.net_graph.specs.Stands.{Stand, stages_of, stands_in, stands_of, strea
 use Rattle.net_graph.proofs.StraightChains.{links_later}
 use Rattle.net_graph.proofs.StraightFaults.{line_faultless}
 use Rattle.net_graph.proofs.StraightKinds.{console_is, kinds_later, later_are}
-use Rattle.net_graph.proofs.StraightPieces.{AreLater, IsConsoleStage, Spelled, all_stages, one_stream, pieces_of, stands_of_one}
+use Rattle.net_graph.proofs.StraightPieces.{all_stages, one_stream, pieces_of, stands_of_one}
 use Rattle.net_graph.proofs.StraightStrands.{first_is, strands_later}
 
 -- the kinds of the stages
@@ -68,3 +75,10 @@ module _ (first : Spelled) (stages : List Spelled) (strings : List (List ℕ)) (
         good = rw one (line_faultless (stands_in true (pieces_of (first ∷ stages))) (kinds_of strings) first stages strings console later (omega arith));
         net_is = sym net_is_line;
       }
+
+-- the text of a straight line makes its net
+pub straight_graph : (text : List ℕ) (strings : List (List ℕ)) → IsStraight text strings → (pipelines : List (List Piece)) × Reads text pipelines × IsGraph pipelines (line_net [] strings)
+straight_graph text strings line =
+    let read = line_read text strings line in
+    let few : length strings ≤ 1022 = omega (arith, length-locates line.middle strings line.locates, line.few) in
+    (pieces_of (read.first ∷ read.stages) ∷ [], read.reads, line_graph read.first read.stages strings read.console read.later few)

@@ -6,9 +6,11 @@ use Rattle.pipe_model.specs.Straight.{all_columns}
 use Rattle.stage_syntax.specs.Kinds.{IsKind}
 use Rattle.stage_syntax.specs.Rows.{Ended, GoesOn, console_kind, console_row, locate_row}
 use Rattle.stage_syntax.specs.declared.part.Value.TheVariants as Read
+use Rattle.spec_scanner.proofs.StraightStages.{AreLater, IsConsoleStage, IsLocateStage}
+use Rattle.spec_scanner.proofs.StraightWords.{Spelled}
 use Rattle.net_graph.specs.Nets.{AreOutcomes}
 use Rattle.net_graph.specs.Stands.{stands_in}
-use Rattle.net_graph.proofs.StraightPieces.{AreLater, IsConsoleStage, IsLocateStage, Spelled, pieces_of}
+use Rattle.net_graph.proofs.StraightPieces.{pieces_of}
 
 -- the kinds of the stages after the first
 abbrev pub kinds_later : List (List ℕ) → List Kind

@@ -6,12 +6,14 @@ use Rattle.pipe_model.specs.declared.net.Link.{Link}
 use Rattle.pipe_model.specs.declared.net.Ports.{Ports}
 use Rattle.pipe_model.specs.declared.net.Strand.{Strand}
 use Rattle.pipe_model.specs.Straight.{all_columns, chain}
+use Rattle.spec_scanner.proofs.StraightStages.{AreLater}
+use Rattle.spec_scanner.proofs.StraightWords.{Spelled}
 use Rattle.net_graph.specs.Line.{first_strand, strands_from as line_from}
 use Rattle.net_graph.specs.Nets.{is_linked_in, is_linked_out, ports_of, strands_from}
 use Rattle.net_graph.specs.Stands.{Stand, stands_in, streams_of}
 use Rattle.net_graph.proofs.StraightChains.{linked_in, linked_out, not_linked_out}
 use Rattle.net_graph.proofs.StraightKinds.{kinds_later}
-use Rattle.net_graph.proofs.StraightPieces.{AreLater, Spelled, pieces_of}
+use Rattle.net_graph.proofs.StraightPieces.{pieces_of}
 
 -- a strand of these places
 abbrev placed : ℕ → Kind → Ports → Strand

@@ -23,4 +23,10 @@ pub mod Scans
 pub mod Settling
 pub mod Slashes
 pub mod SoFar
+pub mod StraightCuts
+pub mod StraightItems
+pub mod StraightReads
+pub mod StraightStages
+pub mod StraightTrims
+pub mod StraightWords
 pub mod Wording

@@ -17,7 +17,7 @@ abbrev pub operand_of : {part string : List ℕ} → IsLocate part string → Li
 operand_of {part} {string} locate = blanks locate.between ++ delimited string
 
 -- blanks after the string's slash are the end of what is spelled
-closed_after : (name : List ℕ) (between after : ℕ) (string : List ℕ)
+pub closed_after : (name : List ℕ) (between after : ℕ) (string : List ℕ)
     → (name ++ (blanks between ++ delimited string)) ++ blanks after ≡ name ++ (blanks between ++ (47 ∷ string ++ (47 ∷ blanks after)))
 closed_after name between after string =
     append_assoc name (blanks between ++ delimited string) (blanks after)
@@ -31,11 +31,11 @@ one_blank (suc between) bytes apart = (blanks between ++ bytes, refl)
 
 module _ (part string : List ℕ) (locate : IsLocate part string) where
   -- the name has as many bytes as `locate`
-  name_length : length locate.name ≡ 6
+  pub name_length : length locate.name ≡ 6
   name_length = sym (length-map locate.name to_ascii_lowercase) ∙ ap length locate.names
 
   -- a LOCATE begins with a letter and ends with a slash
-  is_bare : IsBare (locate.name ++ operand_of locate)
+  pub is_bare : IsBare (locate.name ++ operand_of locate)
   is_bare =
       let front = begins_alike locate.name 108 (codes "ocate") locate.names in
       record {
