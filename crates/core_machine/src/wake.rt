@@ -35,9 +35,8 @@ pub(crate) fn move_out(
         IsWellFormed net → IsKept net texts st left desk.old → AsksEarly desk.old → IsCovering desk.old ready.old → IsCovering desk.new ready.new }
 {
     let before = settled_before(desk, strand, primes(seen), ends(seen));
-    let door = desk.told_door(strand, seen);
-    wake_ends(ready, desk, links, strand, seen, door);
-    desk.make_through(pool, strand, seen, door);
+    wake_ends(ready, desk, links, strand, seen);
+    desk.make(pool, strand, seen);
     wake_settled(ready, desk, strand, before);
 }
 
@@ -225,22 +224,14 @@ fn wake_followers(ready: &mut Ready, desk: &Desk, strand: u32)
 
 // Wakes the strands at the other ends of the links that what was told concerns: of a record that was taken its
 // producer, of one that was put its consumer, and at an end all.
-fn wake_ends(
-    ready: &mut Ready,
-    desk: &Desk,
-    links: &[Link],
-    strand: u32,
-    seen: Seen,
-    door: Option<u32>,
-)
-    requires links { AreInside links.now ready.old.size }
-    requires door { door ≡ Pure.told_door desk.now strand seen }
+fn wake_ends(ready: &mut Ready, desk: &Desk, links: &[Link], strand: u32, seen: Seen)
+    requires { AreInside links.now ready.old.size }
     ensures larger { IsLarger ready.old ready.new }
     ensures ends { AreEndsIn desk.now links.now strand seen ready.new }
 {
     match seen {
-        Seen::Took(_) => wake_producer(ready, links, door),
-        Seen::Put(_) => wake_consumer(ready, links, door),
+        Seen::Took(i) => wake_producer(ready, links, desk.in_door(strand, i)),
+        Seen::Put(o) => wake_consumer(ready, links, desk.out_door(strand, o)),
         Seen::Ended(_) => {
             wake_consumers(ready, links, desk.outputs(strand));
             wake_producers(ready, links, desk.inputs(strand));

@@ -80,45 +80,34 @@ impl Desk {
         ensures desk { self.new ≡ made self.old strand seen }
         ensures pool { pool.new ≡ pool_moved self.old pool.old strand seen }
     {
-        let door = self.told_door(strand, seen);
-        self.make_through(pool, strand, seen, door);
-    }
-
-    /// The same, for a caller that has looked up the link.
-    pub fn make_through(&mut self, pool: &mut Pool, strand: u32, seen: Seen, door: Option<u32>)
-        requires can { CanMove self.old pool.old strand seen }
-        requires door { door ≡ Pure.told_door self.old strand seen }
-        ensures desk { self.new ≡ made self.old strand seen }
-        ensures pool { pool.new ≡ pool_moved self.old pool.old strand seen }
-    {
-        self.move_on(pool, strand, seen, door);
+        self.move_on(pool, strand, seen);
         change_seat(&mut self.seats, strand, seen);
     }
 
-    /// The number of the link that what a strand is told concerns, if it concerns one.
-    pub fn told_door(&self, strand: u32, seen: Seen) -> Option<u32>
-        ensures { result ≡ Pure.told_door self.now strand seen }
-    {
-        match seen {
-            Seen::Saw(i) | Seen::Took(i) => self.in_door(strand, i),
-            Seen::Put(o) | Seen::Refused(o) => self.out_door(strand, o),
-            _ => None,
-        }
-    }
-
     // The same, but for the seat.
-    fn move_on(&mut self, pool: &mut Pool, strand: u32, seen: Seen, door: Option<u32>)
-        requires can { CanMove self.old pool.old strand seen }
-        requires door { door ≡ Pure.told_door self.old strand seen }
+    fn move_on(&mut self, pool: &mut Pool, strand: u32, seen: Seen)
+        requires { CanMove self.old pool.old strand seen }
         ensures desk { self.new ≡ moved self.old strand seen }
         ensures pool { pool.new ≡ pool_moved self.old pool.old strand seen }
     {
         match seen {
             Seen::Up(level, _) => self.unit.reach(strand, level),
-            Seen::Saw(_) => see_at(&self.wires, &mut self.sights, pool, door),
-            Seen::Took(_) => take_at(&mut self.wires, pool, door),
-            Seen::Put(_) => settle_at(&mut self.wires, pool, door),
-            Seen::Refused(_) => withdraw_at(&mut self.wires, pool, door),
+            Seen::Saw(i) => {
+                let door = self.in_door(strand, i);
+                see_at(&self.wires, &mut self.sights, pool, door);
+            }
+            Seen::Took(i) => {
+                let door = self.in_door(strand, i);
+                take_at(&mut self.wires, pool, door);
+            }
+            Seen::Put(o) => {
+                let door = self.out_door(strand, o);
+                settle_at(&mut self.wires, pool, door);
+            }
+            Seen::Refused(o) => {
+                let door = self.out_door(strand, o);
+                withdraw_at(&mut self.wires, pool, door);
+            }
             Seen::Ended(code) => self.end(pool, strand, code),
             _ => {}
         }
