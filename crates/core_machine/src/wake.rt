@@ -241,7 +241,6 @@ fn wake_ends(ready: &mut Ready, desk: &Desk, links: &[Link], strand: u32, seen: 
 }
 
 // Wakes a strand that comes home, and the one that may see what it writes.
-#[inline(always)]
 fn wake_reader(ready: &mut Ready, desk: &Desk, links: &[Link], strand: u32, want: &Want)
     requires strand { strand < ready.old.size }
     requires links { AreInside links.now ready.old.size }

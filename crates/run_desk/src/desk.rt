@@ -115,7 +115,6 @@ impl Desk {
 
     /// A strand comes home with what it wants next. Where it writes, it offers the record that it saw last on an
     /// input, which is empty where it saw none, or new bytes. Out of memory leaves all as it was.
-    #[inline(always)]
     pub fn come_home(&mut self, pool: &mut Pool, strand: u32, want: &Want) -> Result<(), NoMemory>
         requires { CanCome self.old pool.old strand want.now }
         ensures home { IfOk result (λ done. HasCome self.old pool.old strand want.now self.new pool.new) }
