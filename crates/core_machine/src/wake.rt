@@ -65,7 +65,21 @@ pub(crate) fn move_home(
     wake_reader(ready, desk, links, strand, want);
     desk.come_home(pool, strand, want)?;
     wake_settled(ready, desk, strand, before);
+    rest(ready, desk, strand, want);
     Ok(())
+}
+
+// Takes out a strand that came home to write and can't go on before its record is taken.
+fn rest(ready: &mut Ready, desk: &Desk, strand: u32, want: &Want)
+    requires { strand < ready.old.size }
+    ensures size { ready.new.size ≡ ready.old.size }
+    ensures covers { IsCovering desk.now ready.old → IsCovering desk.now ready.new }
+{
+    if let Want::Write(_, _) = want {
+        if desk.ready_event(strand).is_none() {
+            ready.remove(strand);
+        }
+    }
 }
 
 /// Brings a strand home with what it wants next, or, where it has ended, with nothing. Out of memory leaves the desk and
@@ -89,7 +103,33 @@ pub(crate) fn bring_home(
     ensures covers { (net : NetIs) (texts : ℕ → List ℕ) (st : State) (left : Left) → net.links ≡ links.now → length net.strands ≡ ready.old.size →
         IsWellFormed net → IsKept net texts st left desk.old → AsksEarly desk.new → IsCovering desk.old ready.old → IsCovering desk.new ready.new }
 {
-    if desk.has_ended(strand) {
+    let has_ended = desk.has_ended(strand);
+    come_back(desk, pool, ready, links, strand, has_ended, want)
+}
+
+/// The same, where it is known whether the strand has ended.
+#[inline(always)]
+pub(crate) fn come_back(
+    desk: &mut Desk,
+    pool: &mut Pool,
+    ready: &mut Ready,
+    links: &[Link],
+    strand: u32,
+    has_ended: bool,
+    want: &Want,
+) -> Result<(), NoMemory>
+    requires ended { has_ended ≡ Pure.ended_at desk.old strand }
+    requires can { has_ended ≡ false → CanCome desk.old pool.old strand want.now }
+    requires strand { strand < ready.old.size }
+    requires links { AreInside links.now ready.old.size }
+    ensures home { IfOk result (λ done. HasReturned desk.old pool.old strand want.now desk.new pool.new) }
+    ensures err { OnErr result (desk.new ≡ desk.old) }
+    ensures err_pool { OnErr result (pool.new ≡ pool.old) }
+    ensures size { ready.new.size ≡ ready.old.size }
+    ensures covers { (net : NetIs) (texts : ℕ → List ℕ) (st : State) (left : Left) → net.links ≡ links.now → length net.strands ≡ ready.old.size →
+        IsWellFormed net → IsKept net texts st left desk.old → AsksEarly desk.new → IsCovering desk.old ready.old → IsCovering desk.new ready.new }
+{
+    if has_ended {
         return Ok(());
     }
     move_home(desk, pool, ready, links, strand, want)
@@ -124,7 +164,8 @@ fn primes(seen: Seen) -> bool
     matches!(seen, Seen::Saw(_) | Seen::Ended(_))
 }
 
-fn ends(seen: Seen) -> bool
+/// Whether what is told is the strand's end.
+pub(crate) fn ends(seen: Seen) -> bool
     ensures { result ≡ ends seen }
 {
     matches!(seen, Seen::Ended(_))

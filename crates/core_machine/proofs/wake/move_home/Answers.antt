@@ -18,7 +18,7 @@ returns-clause-covers c = λ net texts st left same size formed kept early cover
     before.ensures.low ∙ ap (λ z. not z || is_some (Pure.level_code d (negsuc 0))) c.commits.ensures in
     let zero_is : before.result.zero ≡ (not (commits w) || is_some (Pure.level_code d (pos 0))) =
     before.ensures.zero ∙ ap (λ z. not z || is_some (Pure.level_code d (pos 0))) c.commits.ensures in
-    covers_home net texts st left d c.come_home.new.self c.args.links.now same formed kept early c.args.pool.now c.come_home.new.pool s w
+    c.rest.ensures.covers (covers_home net texts st left d c.come_home.new.self c.args.links.now same formed kept early c.args.pool.now c.come_home.new.pool s w
     c.args.ready.now c.wake_reader.new.ready new before.result.low before.result.zero size come
     c.wake_reader.ensures.larger c.wake_reader.ensures.here c.wake_reader.ensures.reader c.wake_settled.ensures.larger
-    low_is zero_is c.wake_settled.ensures.low c.wake_settled.ensures.zero covers
+    low_is zero_is c.wake_settled.ensures.low c.wake_settled.ensures.zero covers)
