@@ -5,7 +5,7 @@ use Rattle.run_desk.specs.Moves.{made, ends}
 use Rattle.run_desk.specs.Pure as Pure
 use Rattle.core_machine.specs.Woken.{IsCovering, IsWhole, IsStageIn, primes}
 use Rattle.core_machine.proofs.Outs.{covers_out}
-use Rattle.core_machine.proofs.wake.move_out.Goals as goal
+use Rattle.core_machine.proofs.settle.move_settling.Goals as goal
 
 pub returns-clause-covers : goal.returns-clause-covers
 returns-clause-covers c = λ net texts st left same size formed kept early covers.
