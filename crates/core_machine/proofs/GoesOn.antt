@@ -86,7 +86,7 @@ module _ {S : Type 0} (stands : S → Strand → List Event → Type 0) (is_look
   pub right_bytes : bytes_with (is_looking stage) e ≡ bytes_told (looks_at (looks_of actors) s) d' places' s seen
   right_bytes =
       sym (told_are stands is_looking net budget longer (out ++ here ∷ []) (slice_set actors s (gone_out seen a)) d' places' ready' was_out (looks_at (looks_of actors) s) s e (past (play net journal) s) seen
-        (turned_past stands is_looking net budget journal out actors d places ready sound s k e may) (goes_on stands is_looking net budget journal out actors d places ready sound s k e may) seen_at
+      (turned_past stands is_looking net budget journal out actors d places ready sound s k e may) (goes_on stands is_looking net budget journal out actors d places ready sound s k e may) seen_at
       ∙ ap (λ b. bytes_with b e) looks_so)
 
   abbrev job : (b : Actor S) → b.stage ≡ None → b.looks ≡ a.looks → b.saw_end ≡ (a.saw_end || is_end seen) → JobStands stands is_looking net (looks_of (slice_set actors s b)) longer s here seen stage
@@ -158,7 +158,7 @@ module _ {S : Type 0} (stands : S → Strand → List Event → Type 0) (is_look
           let b_is : on ≡ b = cc in
           let new : Actor S = asking_for (bare asked) on in
           let home = sound_home stands is_looking net budget longer out' (slice_set actors s off) d' places' ready' lost s here next asked among done d2 places2 ready2 off (get_set_same actors s off a there)
-            (came stands is_looking net budget longer out' (slice_set actors s off) d' places' ready' lost s here next asked among done d2 places2 returned) size2 covers2 in
+          (came stands is_looking net budget longer out' (slice_set actors s off) d' places' ready' lost s here next asked among done d2 places2 returned) size2 covers2 in
           let none : without here out' ≡ [] = ap (without here) out_is ∙ none_without here in
           subst (λ (x : Actor S). IsSound stands is_looking net budget longer [] (slice_set stayed s (asking_for (bare x.asked) x)) d2 places2 ready2) b_is
           (subst (λ (l : List (Actor S)). IsSound stands is_looking net budget longer [] l d2 places2 ready2) (set_set actors s off new ∙ sym (set_set actors s on new))

@@ -77,7 +77,12 @@ impl<S: Stage> Core<S> {
         let looks = looks(&self.actors, strand);
         let bytes = bytes_told(looks, &self.desk, &self.pool, strand, seen);
         let Ok(()) = resume_at(&mut self.actors, at, alloc, seen, bytes) else {
-            give_up(&mut self.actors, &mut self.out, at, self.journal.len() as u64);
+            give_up(
+                &mut self.actors,
+                &mut self.out,
+                at,
+                self.journal.len() as u64,
+            );
             self.is_broken = true;
             return Err(NoMemory);
         };
@@ -90,7 +95,12 @@ impl<S: Stage> Core<S> {
             ends(seen),
             asked_by(&self.actors, at),
         ) else {
-            give_up(&mut self.actors, &mut self.out, at, self.journal.len() as u64);
+            give_up(
+                &mut self.actors,
+                &mut self.out,
+                at,
+                self.journal.len() as u64,
+            );
             self.is_broken = true;
             return Err(NoMemory);
         };

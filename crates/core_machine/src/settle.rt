@@ -1,14 +1,13 @@
 //! What one event may settle for many: a commit level that is full, and whether a stage's first strand has seen a record.
-ghost use Rattle.std.specs.Prelude.{◌≡◌, ◌<◌, ◌||◌, not, ℕ, List, Option as OptionOf, Some, length, slice_get, is_some, true, false, pos, negsuc, IfOk, IfSome, OnErr};
+ghost use Rattle.std.specs.Prelude.{◌≡◌, ◌<◌, ◌||◌, not, ℕ, List, length, slice_get, is_some, true, false, pos, negsuc, IfOk, OnErr};
 ghost use Rattle.pipe_model.specs.declared.net.Net.{Net as NetIs};
 ghost use Rattle.pipe_model.specs.State.{State};
 ghost use Rattle.pipe_model.specs.Licence.{Left};
 ghost use Rattle.pipe_model.specs.WellFormed.{IsWellFormed};
-ghost use Rattle.run_desk.specs.Kept.{IsKept, link_through};
+ghost use Rattle.run_desk.specs.Kept.{IsKept};
 ghost use Rattle.run_desk.specs.Moves.{CanMove, CanCome, HasCome, made, pool_moved, ends};
 ghost use Rattle.run_desk.specs.Pure as Pure;
-ghost use Rattle.core_machine.specs.Members.{is_member};
-ghost use Rattle.core_machine.specs.Woken.{IsCovering, AsksEarly, AreInside, HasReturned, LeastEventAwake, IsLarger, IsWhole, IsProducerIn, IsConsumerIn, OfDoors, AreEndsIn, IsReaderIn, IsStageIn, primes, commits};
+ghost use Rattle.core_machine.specs.Woken.{IsCovering, AsksEarly, AreInside, IsLarger, IsWhole, IsStageIn, primes, commits};
 
 use crate::ready::Ready;
 use crate::wake::{commits, ends, primes, wake_ends, wake_reader};
@@ -17,7 +16,7 @@ use record_pool::Pool;
 use run_desk::Desk;
 
 /// Makes on the desk what a strand was told, and wakes whom it may concern.
-#[inline(never)]
+#[inline(always)]
 pub(crate) fn move_settling(
     desk: &mut Desk,
     pool: &mut Pool,

@@ -1,5 +1,5 @@
 //! The desk and the set of the strands that may go on, changed together: who may go on after an event is woken.
-ghost use Rattle.std.specs.Prelude.{◌≡◌, ◌<◌, ◌||◌, not, ℕ, List, Option as OptionOf, Some, length, slice_get, is_some, true, false, pos, negsuc, IfOk, IfSome, OnErr};
+ghost use Rattle.std.specs.Prelude.{◌≡◌, ◌<◌, not, ℕ, List, Some, length, true, false, IfOk, IfSome, OnErr};
 ghost use Rattle.pipe_model.specs.declared.net.Net.{Net as NetIs};
 ghost use Rattle.pipe_model.specs.State.{State};
 ghost use Rattle.pipe_model.specs.Licence.{Left};
@@ -8,7 +8,7 @@ ghost use Rattle.run_desk.specs.Kept.{IsKept, link_through};
 ghost use Rattle.run_desk.specs.Moves.{CanMove, CanCome, HasCome, made, pool_moved, ends};
 ghost use Rattle.run_desk.specs.Pure as Pure;
 ghost use Rattle.core_machine.specs.Members.{is_member};
-ghost use Rattle.core_machine.specs.Woken.{IsCovering, AsksEarly, AreInside, HasReturned, LeastEventAwake, IsLarger, IsWhole, IsProducerIn, IsConsumerIn, OfDoors, AreEndsIn, IsReaderIn, IsStageIn, primes, commits};
+ghost use Rattle.core_machine.specs.Woken.{IsCovering, AsksEarly, AreInside, HasReturned, LeastEventAwake, IsLarger, IsProducerIn, IsConsumerIn, OfDoors, AreEndsIn, IsReaderIn, primes, commits};
 
 use crate::ready::Ready;
 use crate::settle::{home_settling, move_settling};
@@ -230,6 +230,7 @@ pub(crate) fn commits(want: &Want) -> bool
 
 // Wakes the strands at the other ends of the links that what was told concerns: of a record that was taken its
 // producer, of one that was put its consumer, and at an end all.
+#[inline(always)]
 pub(crate) fn wake_ends(ready: &mut Ready, desk: &Desk, links: &[Link], strand: u32, seen: Seen)
     requires { AreInside links.now ready.old.size }
     ensures larger { IsLarger ready.old ready.new }
@@ -247,6 +248,7 @@ pub(crate) fn wake_ends(ready: &mut Ready, desk: &Desk, links: &[Link], strand: 
 }
 
 // Wakes a strand that comes home, and the one that may see what it writes.
+#[inline(always)]
 pub(crate) fn wake_reader(ready: &mut Ready, desk: &Desk, links: &[Link], strand: u32, want: &Want)
     requires strand { strand < ready.old.size }
     requires links { AreInside links.now ready.old.size }

@@ -5,7 +5,9 @@ ghost use Rattle.commit_levels.specs.UnitState.{IsLive};
 ghost use Rattle.run_desk.specs.Pure as Pure;
 
 use crate::doors::Doors;
-use crate::looks::{can_put, can_refuse, is_over, on_stream, primed_seen, shows, stream_of, up_seen};
+use crate::looks::{
+    can_put, can_refuse, is_over, on_stream, primed_seen, shows, stream_of, up_seen,
+};
 use crate::seat::{Ask, Seat, ask_seat, change_seat};
 use crate::sights::{forget, hold_of, see_at};
 use crate::wires::{close_ins, close_outs, offer_at, settle_at, take_at, withdraw_at};
@@ -75,6 +77,7 @@ impl Desk {
     }
 
     /// What a turn does where a strand is told this: the strand is out then, and asks for nothing. It takes no memory.
+    #[inline(always)]
     pub fn make(&mut self, pool: &mut Pool, strand: u32, seen: Seen)
         requires { CanMove self.old pool.old strand seen }
         ensures desk { self.new ≡ made self.old strand seen }
@@ -85,6 +88,7 @@ impl Desk {
     }
 
     // The same, but for the seat.
+    #[inline(always)]
     fn move_on(&mut self, pool: &mut Pool, strand: u32, seen: Seen)
         requires { CanMove self.old pool.old strand seen }
         ensures desk { self.new ≡ moved self.old strand seen }
@@ -115,6 +119,7 @@ impl Desk {
 
     /// A strand comes home with what it wants next. Where it writes, it offers the record that it saw last on an
     /// input, which is empty where it saw none, or new bytes. Out of memory leaves all as it was.
+    #[inline(always)]
     pub fn come_home(&mut self, pool: &mut Pool, strand: u32, want: &Want) -> Result<(), NoMemory>
         requires { CanCome self.old pool.old strand want.now }
         ensures home { IfOk result (λ done. HasCome self.old pool.old strand want.now self.new pool.new) }
@@ -147,6 +152,7 @@ impl Desk {
     }
 
     // One that writes a record on an output.
+    #[inline(always)]
     fn write(&mut self, pool: &mut Pool, strand: u32, o: u16, out: &Out) -> Result<(), NoMemory>
         requires ask { CanAsk self.old strand (Now.Write o) }
         requires hold { CanHold self.old pool.old strand out.now }
@@ -238,10 +244,7 @@ impl Desk {
             Ask::Take(i) => Some((i, Seen::Took(i))),
             Ask::Write(o) => on_stream(o, self.write_seen(strand, o)),
             Ask::Any | Ask::Gate => self.wide_event(strand),
-            ask => on_stream(
-                stream_of(ask),
-                self.seen_by(strand, stream_of(ask), ask),
-            ),
+            ask => on_stream(stream_of(ask), self.seen_by(strand, stream_of(ask), ask)),
         }
     }
 

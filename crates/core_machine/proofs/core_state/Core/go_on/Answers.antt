@@ -79,11 +79,10 @@ invariant_of-self g c =
     let at : slice_get (slice_set i.actors.items c.args.strand (gone_on c.args.seen on.2 on.3 on.0)) c.args.strand ≡ Some gave.0 = subst (λ l. slice_get l c.args.strand ≡ Some gave.0) on.7 gave.1 in
     let actors_are : c.give_up.new.actors.items ≡ slice_set (slice_set i.actors.items c.args.strand (gone_on c.args.seen on.2 on.3 on.0)) c.args.strand (given_up gave.0) = gave.2 ∙ ap (λ l. slice_set l c.args.strand (given_up gave.0)) on.7 in
     let out_is : c.give_up.new.out.items ≡ i.out.items ++ suc (length i.journal.items) ∷ [] = c.give_up.ensures.out ∙ ap (λ p. i.out.items ++ p ∷ []) place in
-    let gone = gave_up g.S.Stage.stands g.S.Stage.is_looking i.net i.budget i.journal.items i.out.items i.actors.items i.desk i.pool i.ready c.self.invariant.0 c.args.strand c.args.stream c.requires.may.0 may on.0 on.1 on.4 on.5 c.args.seen c.requires.may.2 space moved.desk moved.pool moved.ready c.move_out.ensures.desk c.move_out.ensures.pool c.move_out.ensures.size covers on.2 on.3 gave.0 at in
-    (
+    let gone = gave_up g.S.Stage.stands g.S.Stage.is_looking i.net i.budget i.journal.items i.out.items i.actors.items i.desk i.pool i.ready c.self.invariant.0 c.args.strand c.args.stream c.requires.may.0 may on.0 on.1 on.4 on.5 c.args.seen c.requires.may.2 space moved.desk moved.pool moved.ready c.move_out.ensures.desk c.move_out.ensures.pool c.move_out.ensures.size covers on.2 on.3 gave.0 at in (
       subst (λ j. IsSound g.S.Stage.stands g.S.Stage.is_looking i.net i.budget j c.give_up.new.out.items c.give_up.new.actors.items moved.desk moved.pool moved.ready) (sym c.push_reserved.ensures.items)
-      (subst (λ o. IsSound g.S.Stage.stands g.S.Stage.is_looking i.net i.budget (i.journal.items ++ (record { strand = c.args.strand; stream = c.args.stream }) ∷ []) o c.give_up.new.actors.items moved.desk moved.pool moved.ready) (sym out_is)
-      (subst (λ a. IsSound g.S.Stage.stands g.S.Stage.is_looking i.net i.budget (i.journal.items ++ (record { strand = c.args.strand; stream = c.args.stream }) ∷ []) (i.out.items ++ suc (length i.journal.items) ∷ []) a moved.desk moved.pool moved.ready) (sym actors_are) gone)),
+          (subst (λ o. IsSound g.S.Stage.stands g.S.Stage.is_looking i.net i.budget (i.journal.items ++ (record { strand = c.args.strand; stream = c.args.stream }) ∷ []) o c.give_up.new.actors.items moved.desk moved.pool moved.ready) (sym out_is)
+          (subst (λ a. IsSound g.S.Stage.stands g.S.Stage.is_looking i.net i.budget (i.journal.items ++ (record { strand = c.args.strand; stream = c.args.stream }) ∷ []) (i.out.items ++ suc (length i.journal.items) ∷ []) a moved.desk moved.pool moved.ready) (sym actors_are) gone)),
       search rules,
       search rules,
     )
@@ -206,11 +205,10 @@ invariant_of-self-in_default-come_back g c =
     let covered : IsCovering moved.desk c.come_back.new.ready = subst (λ x. IsCovering x c.come_back.new.ready) same.err (kept (subst AsksEarly (sym same.err) early) gone.covers) in
     let back = sound_ready g.S.Stage.stands g.S.Stage.is_looking i.net i.budget (i.journal.items ++ (record { strand = c.args.strand; stream = c.args.stream }) ∷ []) (i.out.items ++ suc (length i.journal.items) ∷ []) (slice_set (slice_set i.actors.items c.args.strand (gone_on c.args.seen on.2 on.3 on.0)) c.args.strand (given_up gave.0)) moved.desk moved.pool moved.ready gone c.come_back.new.ready c.come_back.ensures.size covered in
     let back_here = subst (λ x. IsSound g.S.Stage.stands g.S.Stage.is_looking i.net i.budget (i.journal.items ++ (record { strand = c.args.strand; stream = c.args.stream }) ∷ []) (i.out.items ++ suc (length i.journal.items) ∷ []) (slice_set (slice_set i.actors.items c.args.strand (gone_on c.args.seen on.2 on.3 on.0)) c.args.strand (given_up gave.0)) x c.come_back.new.pool c.come_back.new.ready) (sym same.err)
-    (subst (λ x. IsSound g.S.Stage.stands g.S.Stage.is_looking i.net i.budget (i.journal.items ++ (record { strand = c.args.strand; stream = c.args.stream }) ∷ []) (i.out.items ++ suc (length i.journal.items) ∷ []) (slice_set (slice_set i.actors.items c.args.strand (gone_on c.args.seen on.2 on.3 on.0)) c.args.strand (given_up gave.0)) moved.desk x c.come_back.new.ready) (sym same.err_pool) back) in
-    (
+    (subst (λ x. IsSound g.S.Stage.stands g.S.Stage.is_looking i.net i.budget (i.journal.items ++ (record { strand = c.args.strand; stream = c.args.stream }) ∷ []) (i.out.items ++ suc (length i.journal.items) ∷ []) (slice_set (slice_set i.actors.items c.args.strand (gone_on c.args.seen on.2 on.3 on.0)) c.args.strand (given_up gave.0)) moved.desk x c.come_back.new.ready) (sym same.err_pool) back) in (
       subst (λ j. IsSound g.S.Stage.stands g.S.Stage.is_looking i.net i.budget j c.give_up-in_default-come_back.new.out.items c.give_up-in_default-come_back.new.actors.items c.come_back.new.desk c.come_back.new.pool c.come_back.new.ready) (sym c.push_reserved.ensures.items)
-      (subst (λ o. IsSound g.S.Stage.stands g.S.Stage.is_looking i.net i.budget (i.journal.items ++ (record { strand = c.args.strand; stream = c.args.stream }) ∷ []) o c.give_up-in_default-come_back.new.actors.items c.come_back.new.desk c.come_back.new.pool c.come_back.new.ready) (sym out_is)
-      (subst (λ a. IsSound g.S.Stage.stands g.S.Stage.is_looking i.net i.budget (i.journal.items ++ (record { strand = c.args.strand; stream = c.args.stream }) ∷ []) (i.out.items ++ suc (length i.journal.items) ∷ []) a c.come_back.new.desk c.come_back.new.pool c.come_back.new.ready) (sym actors_are) back_here)),
+          (subst (λ o. IsSound g.S.Stage.stands g.S.Stage.is_looking i.net i.budget (i.journal.items ++ (record { strand = c.args.strand; stream = c.args.stream }) ∷ []) o c.give_up-in_default-come_back.new.actors.items c.come_back.new.desk c.come_back.new.pool c.come_back.new.ready) (sym out_is)
+          (subst (λ a. IsSound g.S.Stage.stands g.S.Stage.is_looking i.net i.budget (i.journal.items ++ (record { strand = c.args.strand; stream = c.args.stream }) ∷ []) (i.out.items ++ suc (length i.journal.items) ∷ []) a c.come_back.new.desk c.come_back.new.pool c.come_back.new.ready) (sym actors_are) back_here)),
       search rules,
       search rules,
     )
@@ -283,8 +281,8 @@ invariant_of-self-2 g c =
     let sound = went_home g.S.Stage.stands g.S.Stage.is_looking i.net i.budget i.journal.items i.out.items i.actors.items i.desk i.pool i.ready c.self.invariant.0 c.args.strand c.args.stream c.requires.may.0 may on.0 on.1 on.4 on.5 c.args.seen c.requires.may.2 space moved.desk moved.pool moved.ready c.move_out.ensures.desk c.move_out.ensures.pool c.move_out.ensures.size covers on.2 on.3 alone c.bytes_told-bytes.result.now bytes_is on.6 on.8 bared.0 at c.come_back.new.desk c.come_back.new.pool c.come_back.new.ready home c.come_back.ensures.size covered in
     let actors_are : c.bare_at.new.actors.items ≡ slice_set (slice_set i.actors.items c.args.strand (gone_on c.args.seen on.2 on.3 on.0)) c.args.strand (asking_for (bare bared.0.asked) bared.0) = bared.2 ∙ ap (λ l. slice_set l c.args.strand (asking_for (bare bared.0.asked) bared.0)) on.7 in (
       subst (λ j. IsSound g.S.Stage.stands g.S.Stage.is_looking i.net i.budget j i.out.items c.bare_at.new.actors.items c.come_back.new.desk c.come_back.new.pool c.come_back.new.ready) (sym c.push_reserved.ensures.items)
-      (subst (λ o. IsSound g.S.Stage.stands g.S.Stage.is_looking i.net i.budget (i.journal.items ++ (record { strand = c.args.strand; stream = c.args.stream }) ∷ []) o c.bare_at.new.actors.items c.come_back.new.desk c.come_back.new.pool c.come_back.new.ready) (sym alone)
-      (subst (λ a. IsSound g.S.Stage.stands g.S.Stage.is_looking i.net i.budget (i.journal.items ++ (record { strand = c.args.strand; stream = c.args.stream }) ∷ []) [] a c.come_back.new.desk c.come_back.new.pool c.come_back.new.ready) (sym actors_are) sound)),
+          (subst (λ o. IsSound g.S.Stage.stands g.S.Stage.is_looking i.net i.budget (i.journal.items ++ (record { strand = c.args.strand; stream = c.args.stream }) ∷ []) o c.bare_at.new.actors.items c.come_back.new.desk c.come_back.new.pool c.come_back.new.ready) (sym alone)
+          (subst (λ a. IsSound g.S.Stage.stands g.S.Stage.is_looking i.net i.budget (i.journal.items ++ (record { strand = c.args.strand; stream = c.args.stream }) ∷ []) [] a c.come_back.new.desk c.come_back.new.pool c.come_back.new.ready) (sym actors_are) sound)),
       search rules,
       search rules,
     )
