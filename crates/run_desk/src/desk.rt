@@ -165,6 +165,7 @@ impl Desk {
         Ok(())
     }
 
+    #[inline(always)]
     fn hold(&self, pool: &mut Pool, strand: u32, out: &Out) -> Result<Grip, NoMemory>
         requires { CanHold self.now pool.old strand out.now }
         ensures hold { IfOk result (λ grip. IsHold self.now pool.old strand out.now grip pool.new) }
