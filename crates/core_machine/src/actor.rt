@@ -82,6 +82,7 @@ fn note_end<S: Stage>(actor: &mut Actor<S>, seen: Seen)
 }
 
 /// The strand's coroutine is given up after want of memory: the strand is out for good, with the entry of this place.
+#[cold]
 pub(crate) fn give_up<S: Stage>(
     actors: &mut Vec<Actor<S>>,
     out: &mut Vec<u64>,

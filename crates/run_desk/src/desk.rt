@@ -195,6 +195,7 @@ impl Desk {
         }
     }
 
+    #[cold]
     fn end(&mut self, pool: &mut Pool, strand: u32, code: i32)
         requires member { strand < length self.old.unit }
         requires live { IsLive self.old.unit strand }
@@ -251,6 +252,7 @@ impl Desk {
 
     // The same for a strand that may go on on several.
     #[tactic(auto, using(crate::proofs::Streams::wide_none, crate::proofs::Streams::next_none))]
+    #[inline(never)]
     fn wide_event(&self, strand: u32) -> Option<(u16, Seen)>
         requires { Pure.is_wide (Pure.ask_at self.now strand) ≡ true }
         ensures { Pure.IsFirstEvent self.now strand result }
