@@ -6,14 +6,15 @@ use Rattle.pipe_model.specs.declared.net.Strand.{Strand}
 use Rattle.pipe_model.specs.declared.step.Entry.{Entry}
 use Rattle.pipe_model.specs.declared.step.Seen.{Seen}
 use Rattle.pipe_model.specs.declared.step.Want.{Want as Asked}
-use Rattle.pipe_model.specs.Event.{Event}
+use Rattle.pipe_model.specs.Event.{Event, has_ended}
+use Rattle.pipe_model.specs.Event.Event.{Up, Saw, SawEnd, SawAllEnd, Took, Put, Refused, Primed, Opened, Joined, Severed, Ended}
 use Rattle.pipe_model.specs.State.{Who, past}
 use Rattle.pipe_model.specs.Licence.{licence}
 use Rattle.pipe_model.specs.Play.{play}
 use Rattle.record_pool.specs.declared.pool.Held.{Held}
 use Rattle.stage_steps.specs.Coroutine.{told, bytes_with, CanResume, Resumes}
 use Rattle.run_desk.specs.Desk.{DeskState}
-use Rattle.run_desk.specs.Moves.{made, pool_moved, sight_through, CanCome}
+use Rattle.run_desk.specs.Moves.{made, pool_moved, sight_through, CanCome, ends}
 use Rattle.run_desk.specs.Pure as Pure
 use Rattle.connectors.specs.WireState.{IsHeldIn}
 use Rattle.confluence_laws.proofs.Basics.{test_same, at_some}
@@ -26,7 +27,7 @@ use Rattle.core_machine.specs.Sound.{IsSound}
 use Rattle.core_machine.specs.Woken.{IsCovering, AsksEarly, HasReturned}
 use Rattle.core_machine.proofs.Jobs.{can_run, done_take}
 use Rattle.core_machine.proofs.Plays.{get_set_same, looks_of, looks_here}
-use Rattle.core_machine.proofs.Sounds.{sight_held, told_are, can_home, came, came_early, sound_home, in_range, turned_past, goes_on, sound_turned, job_turned, job_event}
+use Rattle.core_machine.proofs.Sounds.{sight_held, told_are, can_home, ended_is, came, came_early, sound_home, in_range, turned_past, goes_on, sound_turned, job_turned, job_event}
 
 -- what is set twice is set once
 pub set_set : {A : Type 0} (xs : List A) (i : ℕ) (x y : A) → slice_set (slice_set xs i x) i y ≡ slice_set xs i y
@@ -40,6 +41,21 @@ none_without p = ap (λ b. cond (not b) (p ∷ []) []) (test_same p)
 
 pub one_among : (p : ℕ) → is_among p (p ∷ []) ≡ true
 one_among p = ap (λ b. b || false) (test_same p)
+
+-- an event ends a strand just where what is told of it is the end
+end_told : (e : Event) (h : List Event) → has_ended h ≡ false → has_ended (e ∷ h) ≡ ends (told e)
+end_told (Ended c) h going = refl
+end_told (Up l c) h going = going
+end_told (Saw i r) h going = going
+end_told (SawEnd i) h going = going
+end_told SawAllEnd h going = going
+end_told (Took i) h going = going
+end_told (Put o r) h going = going
+end_told (Refused o) h going = going
+end_told (Primed p) h going = going
+end_told (Opened k) h going = going
+end_told (Joined k c) h going = going
+end_told (Severed s) h going = going
 
 module _ {S : Type 0} (stands : S → Strand → List Event → Type 0) (is_looking : S → Bool) (net : Net) (budget : ℕ) (journal : List Entry) (out : List ℕ) (actors : List (Actor S)) (d : DeskState) (places : List (Option Held)) (ready : Members)
     (sound : IsSound stands is_looking net budget journal out actors d places ready)
@@ -70,7 +86,7 @@ module _ {S : Type 0} (stands : S → Strand → List Event → Type 0) (is_look
   pub right_bytes : bytes_with (is_looking stage) e ≡ bytes_told (looks_at (looks_of actors) s) d' places' s seen
   right_bytes =
       sym (told_are stands is_looking net budget longer (out ++ here ∷ []) (slice_set actors s (gone_out seen a)) d' places' ready' was_out (looks_at (looks_of actors) s) s e (past (play net journal) s) seen
-        (turned_past stands is_looking net budget journal out actors d places ready sound s k e may) (goes_on stands is_looking net budget journal out actors d places ready sound s k e may) seen_at
+      (turned_past stands is_looking net budget journal out actors d places ready sound s k e may) (goes_on stands is_looking net budget journal out actors d places ready sound s k e may) seen_at
       ∙ ap (λ b. bytes_with b e) looks_so)
 
   abbrev job : (b : Actor S) → b.stage ≡ None → b.looks ≡ a.looks → b.saw_end ≡ (a.saw_end || is_end seen) → JobStands stands is_looking net (looks_of (slice_set actors s b)) longer s here seen stage
@@ -121,6 +137,13 @@ module _ {S : Type 0} (stands : S → Strand → List Event → Type 0) (is_look
       done : DoneStands stands is_looking net (looks_of (slice_set actors s off)) (take here longer) s here next asked
       done = done_take stands is_looking net (looks_of (slice_set actors s off)) longer s here seen stage (job off refl refl refl) bytes (job_bytes off refl refl refl bytes bytes_are) next asked same_look resumed
 
+      -- it has ended just where that is what it was told
+      pub home_ended : ends seen ≡ Pure.ended_at d' s
+      home_ended =
+          sym (ended_is stands is_looking net budget longer out' (slice_set actors s off) d' places' ready' lost s here next asked among done
+          ∙ ap has_ended (turned_past stands is_looking net budget journal out actors d places ready sound s k e may)
+          ∙ end_told e (past (play net journal) s) (goes_on stands is_looking net budget journal out actors d places ready sound s k e may) ∙ ap ends seen_at)
+
       pub home_can : Pure.ended_at d' s ≡ false → CanCome d' places' s asked
       home_can = can_home stands is_looking net budget longer out' (slice_set actors s off) d' places' ready' lost s here next asked among done
 
@@ -135,7 +158,7 @@ module _ {S : Type 0} (stands : S → Strand → List Event → Type 0) (is_look
           let b_is : on ≡ b = cc in
           let new : Actor S = asking_for (bare asked) on in
           let home = sound_home stands is_looking net budget longer out' (slice_set actors s off) d' places' ready' lost s here next asked among done d2 places2 ready2 off (get_set_same actors s off a there)
-            (came stands is_looking net budget longer out' (slice_set actors s off) d' places' ready' lost s here next asked among done d2 places2 returned) size2 covers2 in
+          (came stands is_looking net budget longer out' (slice_set actors s off) d' places' ready' lost s here next asked among done d2 places2 returned) size2 covers2 in
           let none : without here out' ≡ [] = ap (without here) out_is ∙ none_without here in
           subst (λ (x : Actor S). IsSound stands is_looking net budget longer [] (slice_set stayed s (asking_for (bare x.asked) x)) d2 places2 ready2) b_is
           (subst (λ (l : List (Actor S)). IsSound stands is_looking net budget longer [] l d2 places2 ready2) (set_set actors s off new ∙ sym (set_set actors s on new))

@@ -392,7 +392,7 @@ module _ {S : Type 0} (stands : S → Strand → List Event → Type 0) (is_look
     asks : has_ended (past st s) ≡ false → Some (meaning want (last_seen (past st s))) ≡ next strand.0 (past st s)
     asks going = subst (λ h. has_ended h ≡ false → Some (meaning want (last_seen h)) ≡ next strand.0 h) (sym home_past) (done.asks strand.0 strand.1) going
 
-    ended_is : Pure.ended_at d s ≡ has_ended (past st s)
+    pub ended_is : Pure.ended_at d s ≡ has_ended (past st s)
     ended_is =
         let a = at_some d.seats s (subst (λ n. s < n) (sym sound.run.kept.laid.seat_count) place) in
         ap Pure.ended_of a.1 ∙ (sound.run.kept.seats s a.0 a.1).ended

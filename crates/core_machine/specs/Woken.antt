@@ -30,11 +30,6 @@ abbrev pub LeastAwake : DeskState → Members → Option (ℕ × ℕ) → Type 0
 LeastAwake d set None = IsCovering d set → (s k : ℕ) → Pure.seen_at d s k ≡ None
 LeastAwake d set (Some r) = Pure.IsFirst d r.0 (Some r.1) × (IsCovering d set → (t k : ℕ) → t < r.0 → Pure.seen_at d t k ≡ None)
 
--- the strand and the stream of an event
-abbrev pub place_of : Option (ℕ × ℕ × Seen) → Option (ℕ × ℕ)
-place_of None = None
-place_of (Some r) = Some (r.0, r.1)
-
 -- the same, with what the strand would be told there
 abbrev pub LeastEventAwake : DeskState → Members → Option (ℕ × ℕ × Seen) → Type 0
 LeastEventAwake d set None = LeastAwake d set None

@@ -34,9 +34,7 @@ pub(crate) fn send_out<S: Stage>(actors: &mut Vec<Actor<S>>, strand: usize, seen
     ensures { (a : ActorIs S) × (slice_get actors.old.items strand ≡ Some a) × (a.stage ≡ Some result) × (actors.new.items ≡ slice_set actors.old.items strand (gone_out seen a)) }
 {
     let actor = &mut actors[strand];
-    if matches!(seen, Seen::SawEnd(0)) {
-        actor.saw_end = true;
-    }
+    note_end(actor, seen);
     let Some(stage) = mem::replace(&mut actor.stage, None) else {
         unreachable!()
     };
@@ -84,6 +82,7 @@ fn note_end<S: Stage>(actor: &mut Actor<S>, seen: Seen)
 }
 
 /// The strand's coroutine is given up after want of memory: the strand is out for good, with the entry of this place.
+#[cold]
 pub(crate) fn give_up<S: Stage>(
     actors: &mut Vec<Actor<S>>,
     out: &mut Vec<u64>,

@@ -115,7 +115,7 @@ impl<S: Stage> Core<S> {
     }
 
     // Makes an event that may be: the strand is out with the job that is answered.
-    pub(crate) fn go_out(&mut self, strand: u32, stream: u16, seen: Seen) -> Job<S>
+    fn go_out(&mut self, strand: u32, stream: u16, seen: Seen) -> Job<S>
         requires may { (e : Event) × (licence_of self.old strand stream ≡ Some e) × (told e ≡ seen) }
         requires space { length self.old.journal < self.old.budget }
         ensures after { self.new ≡ turned self.old (record { strand = strand; stream = stream }) }
@@ -179,7 +179,7 @@ impl<S: Stage> Core<S> {
     }
 
     // The bytes that go with the last event of a strand that is out.
-    pub(crate) fn bytes_seen(&self, strand: u32, seen: Seen) -> &[u8]
+    fn bytes_seen(&self, strand: u32, seen: Seen) -> &[u8]
         ensures { (e : Event) (h : List Event) → past (state_of self.now) strand ≡ e ∷ h → has_ended h ≡ false → told e ≡ seen → result.now ≡ bytes_with (looks_at self.now.looking strand) e }
     {
         bytes_told(self.looks(strand), &self.desk, &self.pool, strand, seen)

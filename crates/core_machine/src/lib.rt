@@ -7,6 +7,7 @@ mod core_state;
 mod job;
 mod ready;
 mod run;
+mod settle;
 mod start;
 mod tells;
 #[cfg(test)]

@@ -1,7 +1,7 @@
 use crate::actor::{asked_by, bare_at, bytes_told, give_up, looks, resume_at};
 use crate::core_state::Core;
 use crate::job::RunEnd;
-use crate::wake::{bring_home, least_awake, move_out};
+use crate::wake::{come_back, ends, least_awake, move_out};
 use outside::Gate;
 use pipe_model::{Entry, NoMemory, Seen};
 use stage_steps::Stage;
@@ -77,19 +77,30 @@ impl<S: Stage> Core<S> {
         let looks = looks(&self.actors, strand);
         let bytes = bytes_told(looks, &self.desk, &self.pool, strand, seen);
         let Ok(()) = resume_at(&mut self.actors, at, alloc, seen, bytes) else {
-            give_up(&mut self.actors, &mut self.out, at, self.journal.len() as u64);
+            give_up(
+                &mut self.actors,
+                &mut self.out,
+                at,
+                self.journal.len() as u64,
+            );
             self.is_broken = true;
             return Err(NoMemory);
         };
-        let Ok(()) = bring_home(
+        let Ok(()) = come_back(
             &mut self.desk,
             &mut self.pool,
             &mut self.ready,
             self.net.links.as_slice(),
             strand,
+            ends(seen),
             asked_by(&self.actors, at),
         ) else {
-            give_up(&mut self.actors, &mut self.out, at, self.journal.len() as u64);
+            give_up(
+                &mut self.actors,
+                &mut self.out,
+                at,
+                self.journal.len() as u64,
+            );
             self.is_broken = true;
             return Err(NoMemory);
         };

@@ -1,5 +1,5 @@
 //! The desk and the set of the strands that may go on, changed together: who may go on after an event is woken.
-ghost use Rattle.std.specs.Prelude.{◌≡◌, ◌<◌, ◌||◌, not, ℕ, List, Option as OptionOf, Some, length, slice_get, is_some, true, false, pos, negsuc, IfOk, IfSome, OnErr};
+ghost use Rattle.std.specs.Prelude.{◌≡◌, ◌<◌, not, ℕ, List, Some, length, true, false, IfOk, IfSome, OnErr};
 ghost use Rattle.pipe_model.specs.declared.net.Net.{Net as NetIs};
 ghost use Rattle.pipe_model.specs.State.{State};
 ghost use Rattle.pipe_model.specs.Licence.{Left};
@@ -8,9 +8,10 @@ ghost use Rattle.run_desk.specs.Kept.{IsKept, link_through};
 ghost use Rattle.run_desk.specs.Moves.{CanMove, CanCome, HasCome, made, pool_moved, ends};
 ghost use Rattle.run_desk.specs.Pure as Pure;
 ghost use Rattle.core_machine.specs.Members.{is_member};
-ghost use Rattle.core_machine.specs.Woken.{IsCovering, AsksEarly, AreInside, HasReturned, LeastEventAwake, IsLarger, IsWhole, IsProducerIn, IsConsumerIn, OfDoors, AreEndsIn, IsReaderIn, IsStageIn, primes, commits};
+ghost use Rattle.core_machine.specs.Woken.{IsCovering, AsksEarly, AreInside, HasReturned, LeastEventAwake, IsLarger, IsProducerIn, IsConsumerIn, OfDoors, AreEndsIn, IsReaderIn, primes, commits};
 
 use crate::ready::Ready;
+use crate::settle::{home_settling, move_settling};
 use pipe_model::{Link, NoMemory, Seen, Want};
 use record_pool::Pool;
 use run_desk::Desk;
@@ -34,16 +35,40 @@ pub(crate) fn move_out(
     ensures covers { (net : NetIs) (texts : ℕ → List ℕ) (st : State) (left : Left) → net.links ≡ links.now → length net.strands ≡ ready.old.size →
         IsWellFormed net → IsKept net texts st left desk.old → AsksEarly desk.old → IsCovering desk.old ready.old → IsCovering desk.new ready.new }
 {
-    let before = settled_before(desk, strand, primes(seen), ends(seen));
-    let door = desk.told_door(strand, seen);
-    wake_ends(ready, desk, links, strand, seen, door);
-    desk.make_through(pool, strand, seen, door);
-    wake_settled(ready, desk, strand, before);
+    if primes(seen) {
+        move_settling(desk, pool, ready, links, strand, seen);
+        return;
+    }
+    move_plainly(desk, pool, ready, links, strand, seen);
+}
+
+// The same for what can settle nothing for others.
+#[inline(always)]
+fn move_plainly(
+    desk: &mut Desk,
+    pool: &mut Pool,
+    ready: &mut Ready,
+    links: &[Link],
+    strand: u32,
+    seen: Seen,
+)
+    requires can { CanMove desk.old pool.old strand seen }
+    requires strand { strand < ready.old.size }
+    requires links { AreInside links.now ready.old.size }
+    requires plain { primes seen ≡ false }
+    ensures desk { desk.new ≡ made desk.old strand seen }
+    ensures pool { pool.new ≡ pool_moved desk.old pool.old strand seen }
+    ensures size { ready.new.size ≡ ready.old.size }
+    ensures covers { (net : NetIs) (texts : ℕ → List ℕ) (st : State) (left : Left) → net.links ≡ links.now → length net.strands ≡ ready.old.size →
+        IsWellFormed net → IsKept net texts st left desk.old → AsksEarly desk.old → IsCovering desk.old ready.old → IsCovering desk.new ready.new }
+{
+    wake_ends(ready, desk, links, strand, seen);
+    desk.make(pool, strand, seen);
 }
 
 /// Brings a strand home with what it wants next, and wakes it and whom that may concern. Out of memory leaves the desk
 /// and the pool as they were.
-#[inline(always)]
+#[inline(never)]
 pub(crate) fn move_home(
     desk: &mut Desk,
     pool: &mut Pool,
@@ -62,11 +87,50 @@ pub(crate) fn move_home(
     ensures covers { (net : NetIs) (texts : ℕ → List ℕ) (st : State) (left : Left) → net.links ≡ links.now → length net.strands ≡ ready.old.size →
         IsWellFormed net → IsKept net texts st left desk.old → AsksEarly desk.new → IsCovering desk.old ready.old → IsCovering desk.new ready.new }
 {
-    let before = settled_before(desk, strand, false, commits(want));
+    if commits(want) {
+        return home_settling(desk, pool, ready, links, strand, want);
+    }
+    home_plainly(desk, pool, ready, links, strand, want)
+}
+
+// The same for a want that can settle nothing for others.
+#[inline(always)]
+fn home_plainly(
+    desk: &mut Desk,
+    pool: &mut Pool,
+    ready: &mut Ready,
+    links: &[Link],
+    strand: u32,
+    want: &Want,
+) -> Result<(), NoMemory>
+    requires can { CanCome desk.old pool.old strand want.now }
+    requires strand { strand < ready.old.size }
+    requires links { AreInside links.now ready.old.size }
+    requires plain { commits want.now ≡ false }
+    ensures home { IfOk result (λ done. HasCome desk.old pool.old strand want.now desk.new pool.new) }
+    ensures err { OnErr result (desk.new ≡ desk.old) }
+    ensures err_pool { OnErr result (pool.new ≡ pool.old) }
+    ensures size { ready.new.size ≡ ready.old.size }
+    ensures covers { (net : NetIs) (texts : ℕ → List ℕ) (st : State) (left : Left) → net.links ≡ links.now → length net.strands ≡ ready.old.size →
+        IsWellFormed net → IsKept net texts st left desk.old → AsksEarly desk.new → IsCovering desk.old ready.old → IsCovering desk.new ready.new }
+{
     wake_reader(ready, desk, links, strand, want);
     desk.come_home(pool, strand, want)?;
-    wake_settled(ready, desk, strand, before);
+    rest(ready, desk, strand, want);
     Ok(())
+}
+
+// Takes out a strand that came home to write and can't go on before its record is taken.
+fn rest(ready: &mut Ready, desk: &Desk, strand: u32, want: &Want)
+    requires { strand < ready.old.size }
+    ensures size { ready.new.size ≡ ready.old.size }
+    ensures covers { IsCovering desk.now ready.old → IsCovering desk.now ready.new }
+{
+    if let Want::Write(_, _) = want {
+        if desk.ready_event(strand).is_none() {
+            ready.remove(strand);
+        }
+    }
 }
 
 /// Brings a strand home with what it wants next, or, where it has ended, with nothing. Out of memory leaves the desk and
@@ -90,7 +154,33 @@ pub(crate) fn bring_home(
     ensures covers { (net : NetIs) (texts : ℕ → List ℕ) (st : State) (left : Left) → net.links ≡ links.now → length net.strands ≡ ready.old.size →
         IsWellFormed net → IsKept net texts st left desk.old → AsksEarly desk.new → IsCovering desk.old ready.old → IsCovering desk.new ready.new }
 {
-    if desk.has_ended(strand) {
+    let has_ended = desk.has_ended(strand);
+    come_back(desk, pool, ready, links, strand, has_ended, want)
+}
+
+/// The same, where it is known whether the strand has ended.
+#[inline(always)]
+pub(crate) fn come_back(
+    desk: &mut Desk,
+    pool: &mut Pool,
+    ready: &mut Ready,
+    links: &[Link],
+    strand: u32,
+    has_ended: bool,
+    want: &Want,
+) -> Result<(), NoMemory>
+    requires ended { has_ended ≡ Pure.ended_at desk.old strand }
+    requires can { has_ended ≡ false → CanCome desk.old pool.old strand want.now }
+    requires strand { strand < ready.old.size }
+    requires links { AreInside links.now ready.old.size }
+    ensures home { IfOk result (λ done. HasReturned desk.old pool.old strand want.now desk.new pool.new) }
+    ensures err { OnErr result (desk.new ≡ desk.old) }
+    ensures err_pool { OnErr result (pool.new ≡ pool.old) }
+    ensures size { ready.new.size ≡ ready.old.size }
+    ensures covers { (net : NetIs) (texts : ℕ → List ℕ) (st : State) (left : Left) → net.links ≡ links.now → length net.strands ≡ ready.old.size →
+        IsWellFormed net → IsKept net texts st left desk.old → AsksEarly desk.new → IsCovering desk.old ready.old → IsCovering desk.new ready.new }
+{
+    if has_ended {
         return Ok(());
     }
     move_home(desk, pool, ready, links, strand, want)
@@ -119,128 +209,36 @@ pub(crate) fn least_awake(ready: &mut Ready, desk: &Desk) -> Option<(u32, u16, S
     None
 }
 
-fn primes(seen: Seen) -> bool
+pub(crate) fn primes(seen: Seen) -> bool
     ensures { result ≡ primes seen }
 {
     matches!(seen, Seen::Saw(_) | Seen::Ended(_))
 }
 
-fn ends(seen: Seen) -> bool
+/// Whether what is told is the strand's end.
+pub(crate) fn ends(seen: Seen) -> bool
     ensures { result ≡ ends seen }
 {
     matches!(seen, Seen::Ended(_))
 }
 
-fn commits(want: &Want) -> bool
+pub(crate) fn commits(want: &Want) -> bool
     ensures { result ≡ commits want.now }
 {
     matches!(want, Want::Commit(_))
 }
 
-// What one event may settle for many. Yes where it is settled already, and where the event can't settle it.
-#[derive(Clone, Copy)]
-struct Settled {
-    primer: bool,
-    low: bool,
-    zero: bool,
-}
-
-fn settled_before(desk: &Desk, strand: u32, primes: bool, fills: bool) -> Settled
-    ensures primer { result.primer ≡ (not primes || is_some (Pure.primed_of (slice_get desk.now.seats strand))) }
-    ensures low { result.low ≡ (not fills || is_some (Pure.level_code desk.now (negsuc 0))) }
-    ensures zero { result.zero ≡ (not fills || is_some (Pure.level_code desk.now (pos 0))) }
-{
-    Settled {
-        primer: !primes || desk.is_primer(strand),
-        low: !fills || desk.level_code(-1).is_some(),
-        zero: !fills || desk.level_code(0).is_some(),
-    }
-}
-
-// Wakes the strands for which the event settled something. Most events can settle nothing.
-#[inline(always)]
-fn wake_settled(ready: &mut Ready, desk: &Desk, strand: u32, before: Settled)
-    requires { strand < ready.old.size }
-    ensures larger { IsLarger ready.old ready.new }
-    ensures stage { before.primer ≡ false → is_some (Pure.primed_of (slice_get desk.now.seats strand)) ≡ true → IsStageIn desk.now strand ready.new }
-    ensures low { before.low ≡ false → is_some (Pure.level_code desk.now (negsuc 0)) ≡ true → IsWhole ready.new }
-    ensures zero { before.zero ≡ false → is_some (Pure.level_code desk.now (pos 0)) ≡ true → IsWhole ready.new }
-{
-    if !(before.primer && before.low && before.zero) {
-        wake_newly(ready, desk, strand, before);
-    }
-}
-
-// The same, where something wasn't settled before.
-#[inline(never)]
-fn wake_newly(ready: &mut Ready, desk: &Desk, strand: u32, before: Settled)
-    requires { strand < ready.old.size }
-    ensures larger { IsLarger ready.old ready.new }
-    ensures stage { before.primer ≡ false → is_some (Pure.primed_of (slice_get desk.now.seats strand)) ≡ true → IsStageIn desk.now strand ready.new }
-    ensures low { before.low ≡ false → is_some (Pure.level_code desk.now (negsuc 0)) ≡ true → IsWhole ready.new }
-    ensures zero { before.zero ≡ false → is_some (Pure.level_code desk.now (pos 0)) ≡ true → IsWhole ready.new }
-{
-    let primed = !before.primer && desk.is_primer(strand);
-    let low = !before.low && desk.level_code(-1).is_some();
-    let zero = !before.zero && desk.level_code(0).is_some();
-    wake_stage(ready, desk, strand, primed);
-    wake_all(ready, low || zero);
-}
-
-fn wake_all(ready: &mut Ready, full: bool)
-    ensures larger { IsLarger ready.old ready.new }
-    ensures all { full ≡ true → IsWhole ready.new }
-{
-    if full {
-        ready.insert_all();
-    }
-}
-
-// The strands of a stage stand together, and its first one first.
-fn wake_stage(ready: &mut Ready, desk: &Desk, strand: u32, primed: bool)
-    requires { strand < ready.old.size }
-    ensures larger { IsLarger ready.old ready.new }
-    ensures stage { primed ≡ true → IsStageIn desk.now strand ready.new }
-{
-    if primed {
-        wake_followers(ready, desk, strand);
-    }
-}
-
-fn wake_followers(ready: &mut Ready, desk: &Desk, strand: u32)
-    requires { strand < ready.old.size }
-    ensures larger { IsLarger ready.old ready.new }
-    ensures stage { IsStageIn desk.now strand ready.new }
-{
-    let size = ready.size();
-    let mut next = strand + 1;
-    while next < size {
-        if desk.first_of(next) != strand {
-            return;
-        }
-        ready.insert(next);
-        next += 1;
-    }
-}
-
 // Wakes the strands at the other ends of the links that what was told concerns: of a record that was taken its
 // producer, of one that was put its consumer, and at an end all.
-fn wake_ends(
-    ready: &mut Ready,
-    desk: &Desk,
-    links: &[Link],
-    strand: u32,
-    seen: Seen,
-    door: Option<u32>,
-)
-    requires links { AreInside links.now ready.old.size }
-    requires door { door ≡ Pure.told_door desk.now strand seen }
+#[inline(always)]
+pub(crate) fn wake_ends(ready: &mut Ready, desk: &Desk, links: &[Link], strand: u32, seen: Seen)
+    requires { AreInside links.now ready.old.size }
     ensures larger { IsLarger ready.old ready.new }
     ensures ends { AreEndsIn desk.now links.now strand seen ready.new }
 {
     match seen {
-        Seen::Took(_) => wake_producer(ready, links, door),
-        Seen::Put(_) => wake_consumer(ready, links, door),
+        Seen::Took(i) => wake_producer(ready, links, desk.in_door(strand, i)),
+        Seen::Put(o) => wake_consumer(ready, links, desk.out_door(strand, o)),
         Seen::Ended(_) => {
             wake_consumers(ready, links, desk.outputs(strand));
             wake_producers(ready, links, desk.inputs(strand));
@@ -251,7 +249,7 @@ fn wake_ends(
 
 // Wakes a strand that comes home, and the one that may see what it writes.
 #[inline(always)]
-fn wake_reader(ready: &mut Ready, desk: &Desk, links: &[Link], strand: u32, want: &Want)
+pub(crate) fn wake_reader(ready: &mut Ready, desk: &Desk, links: &[Link], strand: u32, want: &Want)
     requires strand { strand < ready.old.size }
     requires links { AreInside links.now ready.old.size }
     ensures larger { IsLarger ready.old ready.new }

@@ -36,14 +36,6 @@ in_door d s i = joined (slice_get (inputs_of (slice_get d.doors s)) i)
 abbrev pub out_door : DeskState → ℕ → ℕ → Option ℕ
 out_door d s o = joined (slice_get (outputs_of (slice_get d.doors s)) o)
 
--- the number of the link that what a strand is told concerns, if it concerns one
-abbrev pub told_door : DeskState → ℕ → Seen → Option ℕ
-told_door d s (Saw i) = in_door d s i
-told_door d s (Took i) = in_door d s i
-told_door d s (Put o) = out_door d s o
-told_door d s (Refused o) = out_door d s o
-told_door d s _ = None
-
 -- Wires
 
 -- the wire behind a door

@@ -5,7 +5,9 @@ ghost use Rattle.commit_levels.specs.UnitState.{IsLive};
 ghost use Rattle.run_desk.specs.Pure as Pure;
 
 use crate::doors::Doors;
-use crate::looks::{can_put, can_refuse, is_over, on_stream, primed_seen, shows, stream_of, up_seen};
+use crate::looks::{
+    can_put, can_refuse, is_over, on_stream, primed_seen, shows, stream_of, up_seen,
+};
 use crate::seat::{Ask, Seat, ask_seat, change_seat};
 use crate::sights::{forget, hold_of, see_at};
 use crate::wires::{close_ins, close_outs, offer_at, settle_at, take_at, withdraw_at};
@@ -75,50 +77,41 @@ impl Desk {
     }
 
     /// What a turn does where a strand is told this: the strand is out then, and asks for nothing. It takes no memory.
+    #[inline(always)]
     pub fn make(&mut self, pool: &mut Pool, strand: u32, seen: Seen)
         requires { CanMove self.old pool.old strand seen }
         ensures desk { self.new ≡ made self.old strand seen }
         ensures pool { pool.new ≡ pool_moved self.old pool.old strand seen }
     {
-        let door = self.told_door(strand, seen);
-        self.make_through(pool, strand, seen, door);
-    }
-
-    /// The same, for a caller that has looked up the link.
-    pub fn make_through(&mut self, pool: &mut Pool, strand: u32, seen: Seen, door: Option<u32>)
-        requires can { CanMove self.old pool.old strand seen }
-        requires door { door ≡ Pure.told_door self.old strand seen }
-        ensures desk { self.new ≡ made self.old strand seen }
-        ensures pool { pool.new ≡ pool_moved self.old pool.old strand seen }
-    {
-        self.move_on(pool, strand, seen, door);
+        self.move_on(pool, strand, seen);
         change_seat(&mut self.seats, strand, seen);
     }
 
-    /// The number of the link that what a strand is told concerns, if it concerns one.
-    pub fn told_door(&self, strand: u32, seen: Seen) -> Option<u32>
-        ensures { result ≡ Pure.told_door self.now strand seen }
-    {
-        match seen {
-            Seen::Saw(i) | Seen::Took(i) => self.in_door(strand, i),
-            Seen::Put(o) | Seen::Refused(o) => self.out_door(strand, o),
-            _ => None,
-        }
-    }
-
     // The same, but for the seat.
-    fn move_on(&mut self, pool: &mut Pool, strand: u32, seen: Seen, door: Option<u32>)
-        requires can { CanMove self.old pool.old strand seen }
-        requires door { door ≡ Pure.told_door self.old strand seen }
+    #[inline(always)]
+    fn move_on(&mut self, pool: &mut Pool, strand: u32, seen: Seen)
+        requires { CanMove self.old pool.old strand seen }
         ensures desk { self.new ≡ moved self.old strand seen }
         ensures pool { pool.new ≡ pool_moved self.old pool.old strand seen }
     {
         match seen {
             Seen::Up(level, _) => self.unit.reach(strand, level),
-            Seen::Saw(_) => see_at(&self.wires, &mut self.sights, pool, door),
-            Seen::Took(_) => take_at(&mut self.wires, pool, door),
-            Seen::Put(_) => settle_at(&mut self.wires, pool, door),
-            Seen::Refused(_) => withdraw_at(&mut self.wires, pool, door),
+            Seen::Saw(i) => {
+                let door = self.in_door(strand, i);
+                see_at(&self.wires, &mut self.sights, pool, door);
+            }
+            Seen::Took(i) => {
+                let door = self.in_door(strand, i);
+                take_at(&mut self.wires, pool, door);
+            }
+            Seen::Put(o) => {
+                let door = self.out_door(strand, o);
+                settle_at(&mut self.wires, pool, door);
+            }
+            Seen::Refused(o) => {
+                let door = self.out_door(strand, o);
+                withdraw_at(&mut self.wires, pool, door);
+            }
             Seen::Ended(code) => self.end(pool, strand, code),
             _ => {}
         }
@@ -159,6 +152,7 @@ impl Desk {
     }
 
     // One that writes a record on an output.
+    #[inline(always)]
     fn write(&mut self, pool: &mut Pool, strand: u32, o: u16, out: &Out) -> Result<(), NoMemory>
         requires ask { CanAsk self.old strand (Now.Write o) }
         requires hold { CanHold self.old pool.old strand out.now }
@@ -171,6 +165,7 @@ impl Desk {
         Ok(())
     }
 
+    #[inline(always)]
     fn hold(&self, pool: &mut Pool, strand: u32, out: &Out) -> Result<Grip, NoMemory>
         requires { CanHold self.now pool.old strand out.now }
         ensures hold { IfOk result (λ grip. IsHold self.now pool.old strand out.now grip pool.new) }
@@ -200,6 +195,7 @@ impl Desk {
         }
     }
 
+    #[cold]
     fn end(&mut self, pool: &mut Pool, strand: u32, code: i32)
         requires member { strand < length self.old.unit }
         requires live { IsLive self.old.unit strand }
@@ -250,15 +246,13 @@ impl Desk {
             Ask::Take(i) => Some((i, Seen::Took(i))),
             Ask::Write(o) => on_stream(o, self.write_seen(strand, o)),
             Ask::Any | Ask::Gate => self.wide_event(strand),
-            ask => on_stream(
-                stream_of(ask),
-                self.seen_by(strand, stream_of(ask), ask),
-            ),
+            ask => on_stream(stream_of(ask), self.seen_by(strand, stream_of(ask), ask)),
         }
     }
 
     // The same for a strand that may go on on several.
     #[tactic(auto, using(crate::proofs::Streams::wide_none, crate::proofs::Streams::next_none))]
+    #[inline(never)]
     fn wide_event(&self, strand: u32) -> Option<(u16, Seen)>
         requires { Pure.is_wide (Pure.ask_at self.now strand) ≡ true }
         ensures { Pure.IsFirstEvent self.now strand result }

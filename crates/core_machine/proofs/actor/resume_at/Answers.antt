@@ -13,15 +13,29 @@ none_ok P (Err x) e = tt
 pub returns-in_err-actor : goal.returns-in_err-actor
 returns-in_err-actor g c =
     let a = c.index_mut-actor.result.now in
-    let at : slice_get c.args.actors.now.items c.args.strand ≡ Some a = read_there c.args.actors.now.items c.args.strand a (at_place c.args.actors.now.items c.args.strand c.requires.2) c.index_mut-actor.ensures.value in
-    (a, c.in-Some.stage, c.resume.new.self, a.asked, at, ap (λ (z : Actor g.row.S.Denot). z.stage) (sym c.note_end.ensures) ∙ c.in-Some.is, c.resume.ensures.looks_same,
+    let at : slice_get c.args.actors.now.items c.args.strand ≡ Some a = read_there c.args.actors.now.items c.args.strand a (at_place c.args.actors.now.items c.args.strand c.requires.2) c.index_mut-actor.ensures.value in (
+      a,
+      c.in-Some.stage,
+      c.resume.new.self,
+      a.asked,
+      at,
+      ap (λ (z : Actor g.row.S.Denot). z.stage) (sym c.note_end.ensures) ∙ c.in-Some.is,
+      c.resume.ensures.looks_same,
       ap (λ (z : Actor g.row.S.Denot). slice_set c.args.actors.now.items c.args.strand (record { stage = Some c.resume.new.self; asked = z.asked; looks = z.looks; saw_end = z.saw_end })) c.note_end.ensures,
-      none_ok _ c.from_residual.result c.from_residual.ensures.0)
+      none_ok _ c.from_residual.result c.from_residual.ensures.0,
+    )
 
 pub returns : goal.returns
 returns g c =
     let a = c.index_mut-actor.result.now in
-    let at : slice_get c.args.actors.now.items c.args.strand ≡ Some a = read_there c.args.actors.now.items c.args.strand a (at_place c.args.actors.now.items c.args.strand c.requires.2) c.index_mut-actor.ensures.value in
-    (a, c.in-Some.stage, c.resume.new.self, c.in_ok-actor.field-0, at, ap (λ (z : Actor g.row.S.Denot). z.stage) (sym c.note_end.ensures) ∙ c.in-Some.is, c.resume.ensures.looks_same,
+    let at : slice_get c.args.actors.now.items c.args.strand ≡ Some a = read_there c.args.actors.now.items c.args.strand a (at_place c.args.actors.now.items c.args.strand c.requires.2) c.index_mut-actor.ensures.value in (
+      a,
+      c.in-Some.stage,
+      c.resume.new.self,
+      c.in_ok-actor.field-0,
+      at,
+      ap (λ (z : Actor g.row.S.Denot). z.stage) (sym c.note_end.ensures) ∙ c.in-Some.is,
+      c.resume.ensures.looks_same,
       ap (λ (z : Actor g.row.S.Denot). slice_set c.args.actors.now.items c.args.strand (record { stage = Some c.resume.new.self; asked = c.in_ok-actor.field-0; looks = z.looks; saw_end = z.saw_end })) c.note_end.ensures,
-      c.in_ok-actor.ensures.resumes)
+      c.in_ok-actor.ensures.resumes,
+    )

@@ -4,7 +4,7 @@ use Rattle.run_desk.specs.Moves.{HasCome}
 use Rattle.run_desk.specs.Pure as Pure
 use Rattle.core_machine.specs.Woken.{commits}
 use Rattle.core_machine.proofs.Homes.{covers_home}
-use Rattle.core_machine.proofs.wake.move_home.Goals as goal
+use Rattle.core_machine.proofs.settle.home_settling.Goals as goal
 
 pub returns-clause-covers : goal.returns-clause-covers
 returns-clause-covers c = λ net texts st left same size formed kept early covers.
