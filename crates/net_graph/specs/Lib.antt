@@ -1,3 +1,4 @@
 pub mod Faults
 pub mod Nets
+pub mod Numbered
 pub mod Stands
