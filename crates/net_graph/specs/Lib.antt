@@ -1,4 +1,5 @@
 pub mod Faults
+pub mod Fed
 pub mod Nets
 pub mod Numbered
 pub mod Stands
