@@ -119,7 +119,8 @@ impl Outcome {
 }
 
 /// How the program is called.
-const USAGE: &str = "usage: pipe SPEC [--workers N] [--steps N] [--trace NAME] [--check NAME] | pipe --sample N";
+const USAGE: &str =
+    "usage: pipe SPEC [--workers N] [--steps N] [--trace NAME] [--check NAME] | pipe --sample N";
 
 // Adds a text for which there is room.
 fn add(text: &mut ArrayString<ROOM>, more: &str)
@@ -132,7 +133,8 @@ fn add(text: &mut ArrayString<ROOM>, more: &str)
 // Adds a text and a number, for which there is room.
 fn add_number<N: Integer>(text: &mut ArrayString<ROOM>, before: &str, number: N)
     requires { length text.old.bytes + length before.now + 40 ≤ 256 }
-    ensures { text.new.bytes ≡ text.old.bytes ++ (before.now ++ N.text number) }
+    ensures text { text.new.bytes ≡ text.old.bytes ++ (before.now ++ N.text number) }
+    ensures few { length text.new.bytes ≤ length text.old.bytes + length before.now + 40 }
 {
     add(text, before);
     let mut buffer = Buffer::new();
