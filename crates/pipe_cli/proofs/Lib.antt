@@ -1,0 +1,14 @@
+pub mod Commands
+pub mod CoreRuns
+pub mod Feds
+pub mod Finishes
+pub mod GraphKinds
+pub mod Kept
+pub mod LineFed
+pub mod LineFormed
+pub mod LineReply
+pub mod LineStrands
+pub mod Replies
+pub mod Runs
+pub mod Streams
+pub mod Unread

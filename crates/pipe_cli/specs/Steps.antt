@@ -1,5 +1,5 @@
 -- What the parts of a call do.
-use Rattle.std.specs.Prelude.{◌≡◌, ◌⊎◌, ℕ, ◌<◌, ◌≤◌, true, false, List, [], length}
+use Rattle.std.specs.Prelude.{◌≡◌, ◌⊎◌, ℕ, ◌<◌, ◌≤◌, true, false, List, [], length, ⊤}
 use Rattle.pipe_model.specs.declared.net.Net.{Net}
 use Rattle.pipe_model.specs.declared.step.Entry.{Entry}
 use Rattle.pipe_model.specs.Play.{play, IsLegal, IsLicensed, IsComplete}
@@ -9,7 +9,7 @@ use Rattle.outside.specs.Sink.{Gained}
 use Rattle.pipe_cli.specs.declared.status.Outcome.{Outcome}
 use Rattle.pipe_cli.specs.declared.status.Outcome.TheVariants.{Done, Coded, SpecRefused, Stalled, Spent, ReadFault, WriteFault, NoMemory, Usage, InputTooLarge, NotYet}
 use Rattle.pipe_cli.specs.Devices.{Device, Steady, Failed, IsRead}
-use Rattle.pipe_cli.specs.Meaning.{Means, IsRunOf, input_limit, reads_any}
+use Rattle.pipe_cli.specs.Meaning.{Means, input_limit, reads_any}
 use Rattle.pipe_cli.specs.Answer.{IsCutShort}
 
 -- the input was read to its end
@@ -54,6 +54,20 @@ IsTakenPart net input input' outcome = (reads_any net ≡ true) × IsPart input 
 -- why the words of a call aren't run, in words, or in want of memory
 abbrev pub StopsWords : List (List ℕ) → Outcome → Type 0
 StopsWords words outcome = (outcome ≡ NoMemory) ⊎ ((input : List ℕ) → Means words input outcome [])
+
+-- the outcome is of words that aren't run, or want of memory
+abbrev pub IsUnrun : Outcome → Type 0
+IsUnrun Usage = ⊤
+IsUnrun NotYet = ⊤
+IsUnrun (SpecRefused number argument place) = ⊤
+IsUnrun NoMemory = ⊤
+IsUnrun Done = ⊥
+IsUnrun (Coded code) = ⊥
+IsUnrun Stalled = ⊥
+IsUnrun (Spent steps) = ⊥
+IsUnrun ReadFault = ⊥
+IsUnrun WriteFault = ⊥
+IsUnrun InputTooLarge = ⊥
 
 -- a core that ran a net to its end, within the steps
 pub record HasCompleted (net : Net) (steps : ℕ) (core : Machine) : Type 0 where

@@ -1,4 +1,4 @@
-ghost use Rattle.std.specs.Prelude.{◌≡◌, ◌⊎◌, ◌≤◌, ℕ, List, [], map, MatchResult, IfOk, Some};
+ghost use Rattle.std.specs.Prelude.{◌≡◌, ◌⊎◌, ◌≤◌, ℕ, List, [], map, MatchResult, IfOk, IfErr, Some};
 ghost use Rattle.std.specs.String.{string_bytes};
 ghost use Rattle.pipe_model.specs.declared.net.Net.{Net as NetIs};
 ghost use Rattle.pipe_model.specs.declared.net.Strand.{Strand as StrandIs};
@@ -8,7 +8,7 @@ ghost use Rattle.stage_steps.specs.First.{IsFirstKind};
 ghost use Rattle.pipe_cli.specs.declared.status.Outcome.{Outcome as OutcomeIs};
 ghost use Rattle.pipe_cli.specs.Meaning.{IsNetOf, IsRunOf, RunsNet};
 ghost use Rattle.pipe_cli.specs.Refusals.{IsTextOutcome};
-ghost use Rattle.pipe_cli.specs.Steps.{StopsWords};
+ghost use Rattle.pipe_cli.specs.Steps.{IsUnrun, StopsWords};
 
 use crate::command::{Command, WordsFault};
 use crate::status::Outcome;
@@ -28,6 +28,7 @@ pub(crate) struct Call {
 // The net that words run. An error is that they aren't run, or want of memory.
 pub(crate) fn called(alloc: Global, words: &[String]) -> Result<Call, Outcome>
     ensures called { MatchResult result (λ call. RunsNet (map (λ word. string_bytes word) words.now) call.net call.steps) (λ outcome. StopsWords (map (λ word. string_bytes word) words.now) outcome) }
+    ensures unrun { IfErr result IsUnrun }
     ensures whole { IfOk result (λ call. IsWellFormed call.net) }
     ensures kinds { IfOk result (λ call. (s : ℕ) (p : StrandIs) → strand_at call.net nothing_yet s ≡ Some p → IsFirstKind p.kind) }
     ensures few { IfOk result (λ call. call.steps ≤ 50000000) }
@@ -39,15 +40,19 @@ pub(crate) fn called(alloc: Global, words: &[String]) -> Result<Call, Outcome>
 
 // The specification that words run, and the most steps.
 fn spec_of(alloc: Global, words: &[String]) -> Result<(Rec, u64), Outcome>
-    ensures { MatchResult result (λ run. IsRunOf (map (λ word. string_bytes word) words.now) run.0 run.1) (λ outcome. StopsWords (map (λ word. string_bytes word) words.now) outcome) }
+    ensures run { MatchResult result (λ run. IsRunOf (map (λ word. string_bytes word) words.now) run.0 run.1) (λ outcome. StopsWords (map (λ word. string_bytes word) words.now) outcome) }
+    ensures unrun { IfErr result IsUnrun }
+    ensures few { IfOk result (λ run. run.1 ≤ 50000000) }
 {
     match read_words(alloc, words) {
-        Ok(Command::Run {
-            spec,
-            workers: _,
-            steps,
-            trace: None,
-        }) => Ok((spec, steps)),
+        Ok(
+            Command::Run {
+                spec,
+                workers: _,
+                steps,
+                trace: None,
+            },
+        ) => Ok((spec, steps)),
         Ok(_) => Err(Outcome::NotYet),
         Err(WordsFault::Usage) => Err(Outcome::Usage),
         Err(WordsFault::NoMemory) => Err(Outcome::NoMemory),
@@ -73,11 +78,13 @@ fn net_of(alloc: Global, spec: &[u8]) -> Result<Net, Outcome>
     match build(alloc, scanned) {
         Ok(net) => Ok(net),
         Err(NetFault::NoMemory) => Err(Outcome::NoMemory),
-        Err(NetFault::Refused {
-            number,
-            argument,
-            place,
-        }) => Err(Outcome::SpecRefused {
+        Err(
+            NetFault::Refused {
+                number,
+                argument,
+                place,
+            },
+        ) => Err(Outcome::SpecRefused {
             number,
             argument,
             place,

@@ -87,7 +87,10 @@ pub(crate) fn outcome_of(core: &Core<Box<FirstStage>>) -> Outcome
 }
 
 // Writes what the writing CONSOLE kept. The only error is a write fault.
-pub(crate) fn write_kept<O: Sink>(output: &mut O, core: &Core<Box<FirstStage>>) -> Result<(), Outcome>
+pub(crate) fn write_kept<O: Sink>(
+    output: &mut O,
+    core: &Core<Box<FirstStage>>,
+) -> Result<(), Outcome>
     requires home { core.now.out ≡ [] }
     ensures { let old = device (O.written output.old) (O.faults output.old) in let new = device (O.written output.new) (O.faults output.new) in
         MatchResult result (λ _. IsWritten (console_from (state_of core.now) 0 core.now.net.strands) old new) (λ outcome. IsPartWritten (console_from (state_of core.now) 0 core.now.net.strands) old new outcome) }

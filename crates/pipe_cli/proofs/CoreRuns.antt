@@ -1,0 +1,84 @@
+-- What a core is started with, and what it has done at the end of its run.
+use Rattle.std.proofs.Common.{◌≡◌, ℕ, Bool, true, false, List, [], sym, ◌∙◌, ap, subst, arith, Some, None, is_some, refl}
+use Rattle.pipe_model.specs.declared.net.Net.{Net}
+use Rattle.pipe_model.specs.declared.net.Strand.{Strand}
+use Rattle.pipe_model.specs.declared.kind.Kind.{Kind}
+use Rattle.pipe_model.specs.declared.kind.Kind.TheVariants.{ConsoleIn, ConsoleOut, Locate, FanOut, FanIn, FanInAny, Elastic, Copy}
+use Rattle.pipe_model.specs.declared.step.Entry.{Entry}
+use Rattle.pipe_model.specs.State.{Who, nothing_yet, strand_at}
+use Rattle.pipe_model.specs.Licence.{licence, none_left}
+use Rattle.pipe_model.specs.Play.{play, IsLegal, IsLicensed, IsComplete}
+use Rattle.pipe_model.specs.Table.{line_of}
+use Rattle.pipe_model.specs.Table.Parting.{Queued}
+use Rattle.pipe_model.specs.WellFormed.{IsWellFormed, IsQueue}
+use Rattle.stage_steps.specs.First.{IsFirstKind}
+use Rattle.core_machine.specs.declared.job.RunEnd.TheVariants as End
+use Rattle.core_machine.specs.Machine.{Machine, started, left_by, HasStopped, IsLawful}
+use Rattle.core_machine.specs.Answered.{HasRun, Ends}
+use Rattle.core_machine.specs.Start.{HasNoQueue}
+use Rattle.pipe_cli.specs.Steps.{HasCompleted, HasSpent}
+
+-- What a core is started with
+
+-- a stage of the first kinds has one strand
+one_strand : (p : Strand) (k : Kind) → IsFirstKind k → (line_of p k).parting ≡ Queued → ⊥
+one_strand p (ConsoleIn bytes) first is = cc
+one_strand p ConsoleOut first is = cc
+one_strand p (Locate range text) first is = cc
+one_strand p FanOut first is = absurd first
+one_strand p FanIn first is = absurd first
+one_strand p FanInAny first is = absurd first
+one_strand p Elastic first is = absurd first
+one_strand p Copy first is = absurd first
+
+-- so no link is a queue
+pub no_queue : (net : Net) → IsWellFormed net → ((s : Who) (p : Strand) → strand_at net nothing_yet s ≡ Some p → IsFirstKind p.kind) → HasNoQueue net
+no_queue net formed kinds j link at = go link.queue (λ is. (formed.queues j link at).0 is)
+  where
+    go : (b : Bool) → (b ≡ true → IsQueue net link) → b ≡ false
+    go true queue = (let q = queue refl in absurd (one_strand q.producer q.producer.kind (kinds link.from q.producer q.from_strand) q.queued))
+    go false queue = refl
+
+-- At the end
+
+-- a journal is complete where no strand may have an event
+complete_if : (net : Net) (es : List Entry) → ((s k : ℕ) → licence net (play net es) none_left s k ≡ None) → IsComplete net es
+complete_if net es none e may = (let z : false ≡ true = sym (ap is_some (none e.strand e.stream)) ∙ may in cc)
+
+-- where no strand is out and none may have an event, none may have one whoever is left out
+stopped_all : (m : Machine) → HasStopped m → (s k : ℕ) → licence m.net (play m.net m.journal) none_left s k ≡ None
+stopped_all m stopped = subst (λ out. (s k : ℕ) → licence m.net (play m.net m.journal) (left_by m.journal out) s k ≡ None) stopped.0 stopped.1
+
+module _ (net : Net) (steps : ℕ) (looking : List Bool) (old new : Machine) (first : old ≡ started net steps looking) (run : HasRun old new) (lawful : IsLawful new) where
+  net_is : new.net ≡ net
+  net_is = ap (λ (m : Machine). m.net) run.after ∙ ap (λ (m : Machine). m.net) first
+
+  budget_is : new.budget ≡ steps
+  budget_is = ap (λ (m : Machine). m.budget) run.after ∙ ap (λ (m : Machine). m.budget) first
+
+  out_is : new.out ≡ []
+  out_is = ap (λ (m : Machine). m.out) run.after ∙ ap (λ (m : Machine). m.out) first
+
+  legal_is : IsLegal net new.journal
+  legal_is = subst (λ z. IsLegal z new.journal) net_is lawful.legal
+
+  -- it came to its end
+  pub run_completed : Ends End.Complete new → HasCompleted net steps new
+  run_completed stopped = record {
+    net_is = net_is;
+    home = out_is;
+    legal = legal_is;
+    complete = subst (λ z. IsComplete z new.journal) net_is (complete_if new.net new.journal (stopped_all new stopped));
+    within = let w = lawful.within in omega (arith, w, budget_is);
+  }
+
+  -- its journal was full before
+  pub run_spent : Ends End.Spent new → HasSpent net steps
+  run_spent ends =
+      let may : is_some (licence new.net (play new.net new.journal) none_left ends.1.0.0 ends.1.0.1) ≡ true = subst (λ out. is_some (licence new.net (play new.net new.journal) (left_by new.journal out) ends.1.0.0 ends.1.0.1) ≡ true) out_is ends.1.1.0 in
+      record {
+        journal = new.journal;
+        legal = legal_is;
+        full = ends.0 ∙ budget_is;
+        more = (record { strand = ends.1.0.0; stream = ends.1.0.1 }, subst (λ z. IsLicensed z (play z new.journal) (record { strand = ends.1.0.0; stream = ends.1.0.1 })) net_is may);
+      }
