@@ -127,8 +127,8 @@ module _ (bytes : List ℕ) (strings : List (List ℕ)) where
   pub line_no_queue : (j : ℕ) (link : Link) → slice_get net.links j ≡ Some link → link.queue ≡ false
   line_no_queue j link at = (line_link j link at).no_queue
 
-  -- the net of a straight line of 1,024 stages at most is well formed
-  pub line_formed : length strings ≤ 1022 → IsWellFormed net
+  -- the net of a straight line of 65,536 stages at most is well formed
+  pub line_formed : length strings ≤ 65534 → IsWellFormed net
   line_formed few = lone_formed net (all_places (λ s p. IsLone net s p) net.strands lone_strand) (all_places (λ j link. IsLink net link) net.links line_link)
       (let size = line_size bytes strings in omega (arith, size, few))
       (apart_links (λ a b. a.from == b.from && a.output == b.output) (λ j k apart. ap (λ b. b && true) (test_apart j k apart)) 0 (length strings + 1))

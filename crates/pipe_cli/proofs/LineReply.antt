@@ -50,7 +50,7 @@ no_files : (st : State) (k : ℕ) (strings : List (List ℕ)) → files_from st 
 no_files st k [] = refl
 no_files st k (string ∷ strings) = no_files st (suc k) strings
 
-module _ (bytes : List ℕ) (strings : List (List ℕ)) (few : length strings ≤ 1022) (es : List Entry) (legal : IsLegal (line_net bytes strings) es) where
+module _ (bytes : List ℕ) (strings : List (List ℕ)) (few : length strings ≤ 65534) (es : List Entry) (legal : IsLegal (line_net bytes strings) es) where
   abbrev net : Net
   net = line_net bytes strings
 

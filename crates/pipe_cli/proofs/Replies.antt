@@ -1,22 +1,28 @@
 -- From what the parts of a call did to what the call answers.
-use Rattle.std.proofs.Common.{◌≡◌, ◌≢◌, ◌⊎◌, ⊎_elim, inl, inr, ℕ, ◌<◌, List, [], ◌++◌, length, refl, sym, ◌∙◌, ap, subst, arith, append-nil, length-append, Option, Some, None}
+use Rattle.std.proofs.Common.{◌≡◌, ◌≢◌, ◌⊎◌, ⊎_elim, inl, inr, ℕ, ◌<◌, Bool, true, false, List, [], ◌++◌, length, refl, sym, ◌∙◌, ap, subst, arith, append-nil, length-append, Option, Some, None}
 use Rattle.std.specs.Option.{IfSome}
 use Rattle.outside.specs.Source.{Gave}
+use Rattle.pipe_model.specs.declared.net.Net.{Net}
+use Rattle.pipe_model.specs.WellFormed.{IsWellFormed}
+use Rattle.net_graph.specs.Fed.{fed}
 use Rattle.pipe_cli.specs.declared.status.Status.{Status}
-use Rattle.pipe_cli.specs.declared.status.Status.TheVariants.{Zero, Spent, ReadFault, WriteFault, NoMemory, InputTooLarge, NotYet}
+use Rattle.pipe_cli.specs.declared.status.Status.TheVariants as Told
+use Rattle.pipe_cli.specs.declared.status.Outcome.{Outcome}
+use Rattle.pipe_cli.specs.declared.status.Outcome.TheVariants.{Done, Coded, SpecRefused, Stalled, Spent, ReadFault, WriteFault, NoMemory, Usage, InputTooLarge, NotYet}
+use Rattle.pipe_cli.specs.Status.{status_of}
 use Rattle.pipe_cli.specs.Devices.{Device, Outside, Steady}
-use Rattle.pipe_cli.specs.Meaning.{Means, IsStraightLine, input_limit}
-use Rattle.pipe_cli.specs.Answer.{HasCause, Decides, Reports, AllSteady, NoneFailed, IsMeant, Answers}
-use Rattle.pipe_cli.specs.Steps.{status_of, IsWhole, IsPart, StopsReading, StopsRunning, IsWritten, IsPartWritten}
-use Rattle.std.specs.declared.result.Result.{Result}
-use Rattle.std.specs.Prelude.{Ok, Err, MatchResult}
+use Rattle.pipe_cli.specs.Meaning.{Means, RunMeans, RunsNet, ReadsInput, input_limit, reads_any}
+use Rattle.pipe_cli.specs.Answer.{HasCause, IsRun, IsUsed, Decides, Reports, AllSteady, NoneFailed, IsMeant, Answers}
+use Rattle.pipe_cli.specs.Steps.{StopsReading, StopsRunning, IsTaken, IsTakenPart, IsUnrun, IsWritten, IsPartWritten, StopsWords}
+use Rattle.pipe_cli.proofs.Finishes.{exhausts}
+use Rattle.pipe_cli.proofs.Unread.{means_on}
 use Rattle.pipe_cli.proofs.Streams.{gained-none, gave-none}
 
--- The words alone decide the status.
+-- The words alone decide the outcome.
 
 -- nothing was read and nothing written
-unread : (words : List (List ℕ)) (input output : Device) (status : Status) → HasCause words input input output output [] [] status → Decides words input input output output status
-unread words input output status cause = record {
+unread : (words : List (List ℕ)) (input output : Device) (outcome : Outcome) → HasCause words input input output output [] [] outcome → Decides words input input output output outcome
+unread words input output outcome cause = record {
   given = [];
   wrote = [];
   gave = gave-none input.bytes;
@@ -24,88 +30,121 @@ unread words input output status cause = record {
   cause = cause;
 }
 
-pub decides-words : (words : List (List ℕ)) (input output : Device) (status : Status)
-    → (status ≡ NoMemory) ⊎ ((status ≡ NotYet) × ((strings : List (List ℕ)) → ¬ IsStraightLine words strings))
-    → Decides words input input output output status
-decides-words words input output status reason =
-    let P : Status → Type 0 = λ s. Decides words input input output output s in
+untouched : (words : List (List ℕ)) (input output : Device) (outcome : Outcome) → IsUnrun outcome → Means words [] outcome [] → HasCause words input input output output [] [] outcome
+untouched words input output Usage unrun means = (means, record { unread = refl; unwritten = refl; input_steady = refl; output_steady = refl })
+untouched words input output NotYet unrun means = (means, record { unread = refl; unwritten = refl; input_steady = refl; output_steady = refl })
+untouched words input output (SpecRefused number argument place) unrun means = (means, record { unread = refl; unwritten = refl; input_steady = refl; output_steady = refl })
+untouched words input output NoMemory unrun means = absurd means
+untouched words input output Done unrun means = absurd unrun
+untouched words input output (Coded code) unrun means = absurd unrun
+untouched words input output Stalled unrun means = absurd unrun
+untouched words input output (Spent steps) unrun means = absurd unrun
+untouched words input output ReadFault unrun means = absurd unrun
+untouched words input output WriteFault unrun means = absurd unrun
+untouched words input output InputTooLarge unrun means = absurd unrun
+
+pub decides_words : (words : List (List ℕ)) (input output : Device) (outcome : Outcome) → IsUnrun outcome → StopsWords words outcome → Decides words input input output output outcome
+decides_words words input output outcome unrun stops =
     ⊎_elim
-    (λ memory. subst P (sym memory) (unread words input output NoMemory (refl, refl, refl)))
-    (λ other. subst P (sym other.0) (unread words input output NotYet ((other.1, refl), refl, refl, refl)))
-    reason
-
--- The reading decides the status.
-
-stopped : (words strings : List (List ℕ)) (input input' output : Device) (given : List ℕ) (status : Status) → IsStraightLine words strings → StopsReading input input' given status → HasCause words input input' output output given [] status
-stopped words strings input input' output given Zero line stops = absurd stops
-stopped words strings input input' output given Spent line stops = absurd stops
-stopped words strings input input' output given ReadFault line stops = ((strings, line), stops.0, refl, stops.1, refl)
-stopped words strings input input' output given WriteFault line stops = absurd stops
-stopped words strings input input' output given NoMemory line stops = (refl, stops, refl)
-stopped words strings input input' output given InputTooLarge line stops =
-    ((record { strings = strings; straight = line; past = stops.0 }, refl), stops.1, refl)
-stopped words strings input input' output given NotYet line stops = absurd stops
-
-pub decides-reading : (words strings : List (List ℕ)) (input input' output : Device) (status : Status) → IsStraightLine words strings → IsPart input input' status → Decides words input input' output output status
-decides-reading words strings input input' output status line part = record {
-  given = part.given;
-  wrote = [];
-  gave = part.gave;
-  gained = gained-none output.bytes;
-  cause = stopped words strings input input' output part.given status line part.stops;
-}
-
--- The run decides the status.
-
-pub decides-running : (words strings : List (List ℕ)) (bytes : List ℕ) (input input' output : Device) (status : Status) → IsStraightLine words strings → IsWhole input input' bytes → StopsRunning bytes strings status → Decides words input input' output output status
-decides-running words strings bytes input input' output status line whole stops =
-    let P : Status → Type 0 = λ s. Decides words input input' output output s in
-    ⊎_elim
-    (λ memory. subst P (sym memory) (record { given = bytes; wrote = []; gave = whole.gave; gained = gained-none output.bytes; cause = (refl, whole.steady, refl) }))
-    (λ other.
-    let spent = other.1 in
-    subst P (sym other.0) (record {
-      given = bytes;
-      wrote = [];
-      gave = whole.gave;
-      gained = gained-none output.bytes;
-      cause = ((record { strings = strings; straight = line; fits = whole.fits; journal = spent.journal; legal = spent.legal; full = spent.full; more = spent.more }, refl), whole.ended, whole.steady, refl);
-    }))
+    (λ memory. subst (λ o. Decides words input input output output o) (sym memory) (unread words input output NoMemory (refl, refl, refl)))
+    (λ means. unread words input output outcome (untouched words input output outcome unrun (means [])))
     stops
 
--- The writing decides the status.
+-- The reading decides the outcome.
 
-pub decides-writing : (words strings : List (List ℕ)) (bytes wrote : List ℕ) (input input' output output' : Device) (done : Result (Unit {0}) Status) → IsWhole input input' bytes → Means words bytes Zero wrote →
-    MatchResult done (λ _. IsWritten wrote output output') (λ status. IsPartWritten wrote output output' status) → Decides words input input' output output' (status_of done)
-decides-writing words strings bytes wrote input input' output output' (Ok unit) whole means written = record {
-  given = bytes;
-  wrote = wrote;
-  gave = whole.gave;
-  gained = written.gained;
-  cause = (means, whole.ended, whole.steady, written.steady);
+stopped : (words : List (List ℕ)) (input input' output : Device) (given : List ℕ) (outcome : Outcome) → ReadsInput words → StopsReading input input' given outcome → HasCause words input input' output output given [] outcome
+stopped words input input' output given ReadFault reads stops = (reads, stops.0, refl, stops.1, refl)
+stopped words input input' output given InputTooLarge reads stops = ((reads, stops.0, refl), stops.1, refl)
+stopped words input input' output given NoMemory reads stops = (refl, stops, refl)
+stopped words input input' output given Done reads stops = absurd stops
+stopped words input input' output given (Coded code) reads stops = absurd stops
+stopped words input input' output given (SpecRefused number argument place) reads stops = absurd stops
+stopped words input input' output given Stalled reads stops = absurd stops
+stopped words input input' output given (Spent steps) reads stops = absurd stops
+stopped words input input' output given WriteFault reads stops = absurd stops
+stopped words input input' output given Usage reads stops = absurd stops
+stopped words input input' output given NotYet reads stops = absurd stops
+
+pub decides_reading : (words : List (List ℕ)) (net : Net) (steps : ℕ) (input input' output : Device) (outcome : Outcome) → RunsNet words net steps → IsTakenPart net input input' outcome → Decides words input input' output output outcome
+decides_reading words net steps input input' output outcome runs part = record {
+  given = part.1.given;
+  wrote = [];
+  gave = part.1.gave;
+  gained = gained-none output.bytes;
+  cause = stopped words input input' output part.1.given outcome (record { net = net; steps = steps; runs = runs; reader = part.0 }) part.1.stops;
 }
-decides-writing words strings bytes wrote input input' output output' (Err status) whole means part =
-    let P : Status → Type 0 = λ s. Decides words input input' output output' s in
-    subst P (sym part.fault) (record {
-      given = bytes;
-      wrote = part.wrote;
-      gave = whole.gave;
-      gained = part.gained;
-      cause = (record { output = wrote; meant = means; cut = part.cut }, whole.ended, whole.steady, part.failed);
-    })
+
+-- The run decides the outcome.
+
+module _ (words : List (List ℕ)) (net : Net) (steps : ℕ) (runs : RunsNet words net steps) (formed : IsWellFormed net) (bytes : List ℕ) (input input' : Device) (took : IsTaken net input input' bytes) where
+  used : IsUsed net bytes input input'
+  used = record { reads = took.reads; leaves = took.leaves; steady = took.steady }
+
+  pub decides_running : (after : Net) → after ≡ fed bytes net → (output : Device) (outcome : Outcome) → StopsRunning after steps outcome → Decides words input input' output output outcome
+  decides_running after is output outcome stops =
+      ⊎_elim
+      (λ memory. subst (λ o. Decides words input input' output output o) (sym memory)
+      (record { given = bytes; wrote = []; gave = took.gave; gained = gained-none output.bytes; cause = (refl, took.steady, refl) }))
+      (λ spent. subst (λ o. Decides words input input' output output o) (sym spent.0)
+      (record {
+        given = bytes;
+        wrote = [];
+        gave = took.gave;
+        gained = gained-none output.bytes;
+        cause = record { net = net; means = (exhausts words net steps runs bytes took.fits took.leaves formed after is spent.1, refl); used = used; steady = refl };
+      }))
+      stops
+
+  -- The writing decides the outcome.
+
+  run_cause : (output output' : Device) (wrote : List ℕ) (outcome : Outcome) → RunMeans words net bytes outcome wrote → Steady output output' → HasCause words input input' output output' bytes wrote outcome
+  run_cause output output' wrote Done means steady = record { net = net; means = means; used = used; steady = steady }
+  run_cause output output' wrote (Coded code) means steady = record { net = net; means = means; used = used; steady = steady }
+  run_cause output output' wrote Stalled means steady = record { net = net; means = means; used = used; steady = steady }
+  run_cause output output' wrote (Spent n) means steady = record { net = net; means = means; used = used; steady = steady }
+  run_cause output output' wrote (SpecRefused number argument place) means steady = absurd means
+  run_cause output output' wrote ReadFault means steady = absurd means
+  run_cause output output' wrote WriteFault means steady = absurd means
+  run_cause output output' wrote NoMemory means steady = absurd means
+  run_cause output output' wrote Usage means steady = absurd means
+  run_cause output output' wrote InputTooLarge means steady = absurd means
+  run_cause output output' wrote NotYet means steady = absurd means
+
+  pub decides_done : (output output' : Device) (wrote : List ℕ) (outcome : Outcome) → RunMeans words net bytes outcome wrote → IsWritten wrote output output' → Decides words input input' output output' outcome
+  decides_done output output' wrote outcome means written = record {
+    given = bytes;
+    wrote = wrote;
+    gave = took.gave;
+    gained = written.gained;
+    cause = run_cause output output' wrote outcome means written.steady;
+  }
+
+  pub decides_part : (output output' : Device) (whole : List ℕ) (outcome decided : Outcome) → RunMeans words net bytes outcome whole → IsPartWritten whole output output' decided → Decides words input input' output output' decided
+  decides_part output output' whole outcome decided means part = subst (λ o. Decides words input input' output output' o) (sym part.fault)
+      (record {
+        given = bytes;
+        wrote = part.wrote;
+        gave = took.gave;
+        gained = part.gained;
+        cause = record { net = net; outcome = outcome; whole = whole; means = means; cut = part.cut; used = used; failed = part.failed };
+      })
 
 -- The answer.
 
 module _ (words : List (List ℕ)) (input input' output output' : Device) (given wrote : List ℕ) where
-  -- a status that is no fault was decided without one
-  unfailed : (decided : Status) → decided ≢ ReadFault → decided ≢ WriteFault → HasCause words input input' output output' given wrote decided → Steady input input' × Steady output output'
-  unfailed Zero no_read no_write cause = (cause.2, cause.3)
-  unfailed Spent no_read no_write cause = (cause.2, cause.3)
+  -- an outcome that is no fault was decided without one
+  unfailed : (decided : Outcome) → decided ≢ ReadFault → decided ≢ WriteFault → HasCause words input input' output output' given wrote decided → Steady input input' × Steady output output'
+  unfailed Done no_read no_write cause = (cause.used.steady, cause.steady)
+  unfailed (Coded code) no_read no_write cause = (cause.used.steady, cause.steady)
+  unfailed Stalled no_read no_write cause = (cause.used.steady, cause.steady)
+  unfailed (Spent steps) no_read no_write cause = (cause.used.steady, cause.steady)
+  unfailed (SpecRefused number argument place) no_read no_write cause = (cause.1.input_steady, cause.1.output_steady)
   unfailed ReadFault no_read no_write cause = absurd (no_read refl)
   unfailed WriteFault no_read no_write cause = absurd (no_write refl)
   unfailed NoMemory no_read no_write cause = (cause.1, cause.2)
+  unfailed Usage no_read no_write cause = (cause.1.input_steady, cause.1.output_steady)
   unfailed InputTooLarge no_read no_write cause = (cause.1, cause.2)
-  unfailed NotYet no_read no_write cause = (cause.2, cause.3)
+  unfailed NotYet no_read no_write cause = (cause.1.input_steady, cause.1.output_steady)
 
 -- a source that has nothing left gave all that it had
 all_given : (given : List ℕ) (old new : Option (List ℕ)) → Gave given old new → IfSome new (λ left. left ≡ []) → IfSome old (λ all. given ≡ all)
@@ -134,53 +173,54 @@ weaker_some None f h = tt
 weaker_some (Some x) f h = f x h
 
 module _ (words : List (List ℕ)) (old new : Outside) where
-  meant : (decided : Status) (d : Decides words old.input new.input old.output new.output decided) → NoneFailed old new → (decided ≡ NoMemory) ⊎ IsMeant words old new decided
-  meant Zero d none = inr (record {
-    wrote = d.wrote;
-    gained = d.gained;
-    means = weaker_some old.input.bytes (λ all same. let P : List ℕ → Type 0 = λ bytes. Means words bytes Zero d.wrote in subst P same d.cause.0) (all_given d.given old.input.bytes new.input.bytes d.gave d.cause.1);
-  })
-  meant Spent d none = inr (record {
-    wrote = d.wrote;
-    gained = d.gained;
-    means = weaker_some old.input.bytes (λ all same. let P : List ℕ → Type 0 = λ bytes. Means words bytes Spent d.wrote in subst P same d.cause.0) (all_given d.given old.input.bytes new.input.bytes d.gave d.cause.1);
-  })
-  meant ReadFault d none = absurd (none.input d.cause.3)
-  meant WriteFault d none = absurd (none.output d.cause.3)
-  meant NoMemory d none = inl refl
-  meant InputTooLarge d none =
-      let overflow = d.cause.0.0 in
+  -- a run means on all of the input what it means on what was given
+  run_meant : (decided : Outcome) (d : Decides words old.input new.input old.output new.output decided) → IsRun words old.input new.input old.output new.output d.given d.wrote decided →
+      IfSome old.input.bytes (λ input. (net : Net) × RunMeans words net input decided d.wrote)
+  run_meant decided d run = go (reads_any run.net) refl
+    where
+      go : (b : Bool) → reads_any run.net ≡ b → IfSome old.input.bytes (λ input. (net : Net) × RunMeans words net input decided d.wrote)
+      go true is = weaker_some old.input.bytes (λ all same. (run.net, subst (λ bytes. RunMeans words run.net bytes decided d.wrote) same run.means)) (all_given d.given old.input.bytes new.input.bytes d.gave (run.used.reads is))
+      go false is = at_some old.input.bytes (λ all. (run.net, means_on words run.net is all decided d.wrote (subst (λ bytes. RunMeans words run.net bytes decided d.wrote) (run.used.leaves is) run.means)))
+
+  meant : (decided : Outcome) (status : Status) (d : Decides words old.input new.input old.output new.output decided) → status ≡ status_of decided → NoneFailed old new → (status ≡ Told.NoMemory) ⊎ IsMeant words old new decided status
+  meant Done status d told none = inr (record { same = told; wrote = d.wrote; gained = d.gained; means = run_meant Done d d.cause })
+  meant (Coded code) status d told none = inr (record { same = told; wrote = d.wrote; gained = d.gained; means = run_meant (Coded code) d d.cause })
+  meant Stalled status d told none = inr (record { same = told; wrote = d.wrote; gained = d.gained; means = run_meant Stalled d d.cause })
+  meant (Spent steps) status d told none = inr (record { same = told; wrote = d.wrote; gained = d.gained; means = run_meant (Spent steps) d d.cause })
+  meant (SpecRefused number argument place) status d told none = inr (record { same = told; wrote = d.wrote; gained = d.gained; means = at_some old.input.bytes (λ all. d.cause.0) })
+  meant ReadFault status d told none = absurd (none.input d.cause.3)
+  meant WriteFault status d told none = absurd (none.output d.cause.failed)
+  meant NoMemory status d told none = inl told
+  meant Usage status d told none = inr (record { same = told; wrote = d.wrote; gained = d.gained; means = at_some old.input.bytes (λ all. d.cause.0) })
+  meant InputTooLarge status d told none =
+      let overflow = d.cause.0 in
       inr (record {
+        same = told;
         wrote = d.wrote;
         gained = d.gained;
-        means = weaker_some old.input.bytes (λ all past. (record { strings = overflow.strings; straight = overflow.straight; past = past }, d.cause.0.1)) (some_given input_limit d.given old.input.bytes new.input.bytes d.gave overflow.past);
+        means = weaker_some old.input.bytes (λ all past. (overflow.0, past, overflow.2)) (some_given input_limit d.given old.input.bytes new.input.bytes d.gave overflow.1);
       })
-  meant NotYet d none = inr (record {
-    wrote = d.wrote;
-    gained = d.gained;
-    means = at_some old.input.bytes (λ all. d.cause.0);
-  })
+  meant NotYet status d told none = inr (record { same = told; wrote = d.wrote; gained = d.gained; means = at_some old.input.bytes (λ all. d.cause.0) })
 
-  module _ (decided status : Status) (d : Decides words old.input new.input old.output new.output decided) (reports : Reports decided status old.diag new.diag)
+  module _ (decided : Outcome) (status : Status) (d : Decides words old.input new.input old.output new.output decided) (reports : Reports decided status old.diag new.diag)
       (files : new.files ≡ old.files) (file_faults : new.file_faults ≡ old.file_faults) where
-    steady : status ≢ ReadFault → status ≢ WriteFault → AllSteady old new
+    steady : status ≢ Told.ReadFault → status ≢ Told.WriteFault → AllSteady old new
     steady no_read no_write =
         ⊎_elim
         (λ told.
-        let both = unfailed words old.input new.input old.output new.output d.given d.wrote decided (λ is. no_read (told.same ∙ is)) (λ is. no_write (told.same ∙ is)) d.cause in
+        let both = unfailed words old.input new.input old.output new.output d.given d.wrote decided (λ is. no_read (told.same ∙ ap status_of is)) (λ is. no_write (told.same ∙ ap status_of is)) d.cause in
         record { input = both.0; output = both.1; diag = told.steady; files = file_faults })
         (λ half. absurd (no_write half.turned))
         reports
 
-    complete : NoneFailed old new → (status ≡ NoMemory) ⊎ IsMeant words old new status
+    complete : NoneFailed old new → (status ≡ Told.NoMemory) ⊎ IsMeant words old new decided status
     complete none =
-        let P : Status → Type 0 = λ s. (s ≡ NoMemory) ⊎ IsMeant words old new s in
         ⊎_elim
-        (λ told. subst P (sym told.same) (meant decided d none))
+        (λ told. meant decided status d told.same none)
         (λ half. absurd (none.diag half.failed))
         reports
 
-    answers : Answers words old new status
+    pub answers : Answers words old new status
     answers = record {
       decided = decided;
       decides = d;
@@ -190,10 +230,3 @@ module _ (words : List (List ℕ)) (old new : Outside) where
       steady = steady;
       complete = complete;
     }
-
--- what was decided, under the name that it has when it is told
-pub answers_as : (words : List (List ℕ)) (old new : Outside) (first decided status : Status) → Decides words old.input new.input old.output new.output first → first ≡ decided
-    → Reports decided status old.diag new.diag → new.files ≡ old.files → new.file_faults ≡ old.file_faults → Answers words old new status
-answers_as words old new first decided status d same reports files file_faults =
-    let P : Status → Type 0 = λ s. Decides words old.input new.input old.output new.output s in
-    answers words old new decided status (subst P same d) reports files file_faults

@@ -1,6 +1,9 @@
 pub mod Answer
+pub mod Command
 pub mod Devices
 pub mod Line
 pub mod Meaning
+pub mod Refusals
+pub mod Runs
 pub mod Status
 pub mod Steps

@@ -1,17 +1,17 @@
 //! The program's one call: it reads the words of the command line, does what they say, and answers a status.
 #![tactic(auto)]
 
-mod line;
+mod called;
+mod command;
+mod input;
 mod main_call;
-mod meaning;
+mod net_run;
 mod read;
-mod run;
 mod status;
+mod words;
 mod write;
 
+pub use command::{Command, WordsFault};
 pub use main_call::pipe_main;
-pub use meaning::one_meaning;
 pub use status::Status;
-
-#[cfg(test)]
-mod tests;
+pub use words::read_words;

@@ -2,7 +2,7 @@ ghost use Rattle.std.specs.Prelude.{◌≡◌, IfOk, MatchResult, vec_len};
 ghost use Rattle.pipe_cli.specs.Devices.{device};
 ghost use Rattle.pipe_cli.specs.Steps.{IsWhole, IsPart};
 
-use crate::status::Status;
+use crate::status::Outcome;
 use outside::{ReadAnswer, Source};
 use pipe_model::NoMemory;
 use std::alloc::Global;
@@ -14,24 +14,24 @@ pub(crate) const INPUT_LIMIT: usize = 67_108_864;
 const ROOM: usize = 65_536;
 
 // Reads the input to its end. An error is a read fault, too much input or want of memory.
-pub(crate) fn read_all<I: Source>(alloc: Global, input: &mut I) -> Result<Vec<u8>, Status>
+pub(crate) fn read_all<I: Source>(alloc: Global, input: &mut I) -> Result<Vec<u8>, Outcome>
     ensures { let old = device (I.left input.old) (I.faults input.old) in let new = device (I.left input.new) (I.faults input.new) in
-        MatchResult result (λ bytes. IsWhole old new bytes.items) (λ status. IsPart old new status) }
+        MatchResult result (λ bytes. IsWhole old new bytes.items) (λ outcome. IsPart old new outcome) }
 {
     let mut bytes = Vec::new(alloc);
     let Ok(mut room) = zeroed(alloc, ROOM) else {
-        return Err(Status::NoMemory);
+        return Err(Outcome::NoMemory);
     };
     loop {
         match input.read(&mut room) {
             ReadAnswer::End => return Ok(bytes),
-            ReadAnswer::Failed => return Err(Status::ReadFault),
+            ReadAnswer::Failed => return Err(Outcome::ReadFault),
             ReadAnswer::Bytes(count) => {
                 if count > INPUT_LIMIT - bytes.len() {
-                    return Err(Status::InputTooLarge);
+                    return Err(Outcome::InputTooLarge);
                 }
                 if bytes.extend_from_slice(&room[..count]).is_err() {
-                    return Err(Status::NoMemory);
+                    return Err(Outcome::NoMemory);
                 }
             }
         }

@@ -1,39 +1,31 @@
-use Rattle.std.proofs.Common.{arith}
-use Rattle.std.proofs.lemmas.Result.{err_from_is_err_and}
-use Rattle.pipe_cli.proofs.CoreRuns.{last_within}
-use Rattle.pipe_cli.proofs.LineJournals.{few_strings}
-use Rattle.pipe_cli.proofs.LineDone.{decides-done}
-use Rattle.pipe_cli.proofs.Replies.{decides-words, decides-reading, decides-running}
+use Rattle.core_machine.specs.Machine.{state_of}
+use Rattle.pipe_model.specs.Reply.{reply, console_from}
+use Rattle.pipe_cli.proofs.Finishes.{run_means, some_outcome}
+use Rattle.pipe_cli.proofs.Replies.{decides_words, decides_reading, decides_running, decides_done, decides_part}
 use Rattle.pipe_cli.proofs.main_call.run.Goals as goal
 
-pub run_line-requires : goal.run_line-requires
-run_line-requires g c = few_strings _ c.in_ok-strings.strings c.in_ok-strings.ensures.found
+pub returns-in-Err : goal.returns-in-Err
+returns-in-Err g c = decides_words _ _ _ c.in-Err.outcome c.in-Err.ensures.unrun c.in-Err.ensures.called
 
-pub overflow_cast-last : goal.overflow_cast-last
-overflow_cast-last g c = let few = few_strings _ c.in_ok-strings.strings c.in_ok-strings.ensures.found in omega (arith, few, c.len.ensures)
+pub returns-in-Err-take_input : goal.returns-in-Err-take_input
+returns-in-Err-take_input g c = decides_reading _ c.in-Ok.call.net c.in-Ok.call.steps _ _ _ c.in-Err-take_input.outcome c.in-Ok.ensures.called c.in-Err-take_input.ensures.taken
 
-pub overflow_add-last : goal.overflow_add-last
-overflow_add-last g c = let few = few_strings _ c.in_ok-strings.strings c.in_ok-strings.ensures.found in omega (arith, few, c.len.ensures)
+pub returns-in-Err-run_net : goal.returns-in-Err-run_net
+returns-in-Err-run_net g c =
+    let taken = c.in-Ok-take_input.ensures.taken in
+    decides_running _ c.in-Ok.call.net c.in-Ok.call.steps c.in-Ok.ensures.called c.in-Ok.ensures.whole taken.0 _ _ taken.1 c.in-Ok-take_input.net taken.2 _ c.in-Err-run_net.outcome c.in-Err-run_net.ensures
 
-pub kept-requires-clause-strand : goal.kept-requires-clause-strand
-kept-requires-clause-strand g c =
-    let within = last_within _ c.in_ok-strings.strings c.in_ok-strings.ensures.found c.in_ok-bytes.bytes.items c.in_ok-core.core c.in_ok-core.ensures in
-    omega (arith, within, c.len.ensures)
+pub returns-in-Ok-write_kept : goal.returns-in-Ok-write_kept
+returns-in-Ok-write_kept g c =
+    let taken = c.in-Ok-take_input.ensures.taken in
+    let core = c.in-Ok-run_net.core in
+    let means = run_means _ c.in-Ok.call.net c.in-Ok.call.steps c.in-Ok.ensures.called taken.0 taken.1.fits taken.1.leaves c.in-Ok.ensures.whole c.in-Ok-take_input.net taken.2 core c.in-Ok-run_net.ensures c.outcome_of.result c.outcome_of.ensures in
+    decides_done _ c.in-Ok.call.net c.in-Ok.call.steps c.in-Ok.ensures.called c.in-Ok.ensures.whole taken.0 _ _ taken.1 _ _ (console_from (state_of core) 0 core.net.strands) c.outcome_of.result means c.in-Ok-write_kept.ensures
 
 pub returns : goal.returns
-returns g c = decides-done _ c.in_ok-strings.strings c.in_ok-bytes.bytes.items _ _ _ _ c.in_ok-core.core c.len.result c.kept.result.now c.write_all.result c.in_ok-strings.ensures.found c.in_ok-bytes.ensures c.in_ok-core.ensures c.len.ensures c.kept.ensures c.write_all.ensures
-
-pub returns-in_err-strings : goal.returns-in_err-strings
-returns-in_err-strings g c =
-    let p = err_from_is_err_and c.from_residual.result c.from_residual.ensures.1 in
-    rw (p.1, p.2) (decides-words _ _ _ _ c.in_err-strings.ensures.none)
-
-pub returns-in_err-bytes : goal.returns-in_err-bytes
-returns-in_err-bytes g c =
-    let p = err_from_is_err_and c.from_residual-in_err-bytes.result c.from_residual-in_err-bytes.ensures.1 in
-    rw (p.1, p.2) (decides-reading _ _ _ _ _ _ c.in_ok-strings.ensures.found c.in_err-bytes.ensures)
-
-pub returns-in_err-core : goal.returns-in_err-core
-returns-in_err-core g c =
-    let p = err_from_is_err_and c.from_residual-in_err-core.result c.from_residual-in_err-core.ensures.1 in
-    rw (p.1, p.2) (decides-running _ _ _ _ _ _ _ c.in_ok-strings.ensures.found c.in_ok-bytes.ensures c.in_err-core.ensures)
+returns g c =
+    let taken = c.in-Ok-take_input.ensures.taken in
+    let core = c.in-Ok-run_net.core in
+    let some = some_outcome (reply core.net (state_of core)) in
+    let means = run_means _ c.in-Ok.call.net c.in-Ok.call.steps c.in-Ok.ensures.called taken.0 taken.1.fits taken.1.leaves c.in-Ok.ensures.whole c.in-Ok-take_input.net taken.2 core c.in-Ok-run_net.ensures some.0 some.1 in
+    decides_part _ c.in-Ok.call.net c.in-Ok.call.steps c.in-Ok.ensures.called c.in-Ok.ensures.whole taken.0 _ _ taken.1 _ _ (console_from (state_of core) 0 core.net.strands) some.0 c.in-Err-write_kept.outcome means c.in-Err-write_kept.ensures

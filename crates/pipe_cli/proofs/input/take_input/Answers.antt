@@ -1,0 +1,18 @@
+use Rattle.std.proofs.Common.{sym, ◌∙◌, subst}
+use Rattle.pipe_model.specs.WellFormed.{IsWellFormed}
+use Rattle.pipe_cli.proofs.Feds.{reader_at, fed_formed, fed_kinds}
+use Rattle.pipe_cli.proofs.input.take_input.Goals as goal
+
+pub feed-requires : goal.feed-requires
+feed-requires g c = record { reads = reader_at c.args.net c.in-Some.strand (sym c.reader.ensures ∙ c.in-Some.is) }
+
+pub returns-clause-whole : goal.returns-clause-whole
+returns-clause-whole g c =
+    let there = reader_at c.args.net c.in-Some.strand (sym c.reader.ensures ∙ c.in-Some.is) in
+    subst (λ z. IsWellFormed z) (sym c.feed.ensures) (fed_formed c.args.net c.in-Some.strand c.from_vec.result there c.requires.whole)
+
+pub returns-clause-kinds : goal.returns-clause-kinds
+returns-clause-kinds g c =
+    let there = reader_at c.args.net c.in-Some.strand (sym c.reader.ensures ∙ c.in-Some.is) in
+    let kinds = fed_kinds c.args.net c.in-Some.strand c.from_vec.result there c.requires.kinds in
+    rw c.feed.ensures kinds

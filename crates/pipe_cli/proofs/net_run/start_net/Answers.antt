@@ -1,0 +1,5 @@
+use Rattle.pipe_cli.proofs.CoreRuns.{no_queue}
+use Rattle.pipe_cli.proofs.net_run.start_net.Goals as goal
+
+pub start-requires-clause-rendezvous : goal.start-requires-clause-rendezvous
+start-requires-clause-rendezvous c = no_queue c.args.net c.requires.whole c.requires.kinds

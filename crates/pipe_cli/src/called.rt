@@ -1,0 +1,93 @@
+ghost use Rattle.std.specs.Prelude.{◌≡◌, ◌⊎◌, ◌≤◌, ℕ, List, [], map, MatchResult, IfOk, IfErr, Some};
+ghost use Rattle.std.specs.String.{string_bytes};
+ghost use Rattle.pipe_model.specs.declared.net.Net.{Net as NetIs};
+ghost use Rattle.pipe_model.specs.declared.net.Strand.{Strand as StrandIs};
+ghost use Rattle.pipe_model.specs.State.{nothing_yet, strand_at};
+ghost use Rattle.pipe_model.specs.WellFormed.{IsWellFormed};
+ghost use Rattle.stage_steps.specs.First.{IsFirstKind};
+ghost use Rattle.pipe_cli.specs.declared.status.Outcome.{Outcome as OutcomeIs};
+ghost use Rattle.pipe_cli.specs.Meaning.{IsNetOf, IsRunOf, RunsNet};
+ghost use Rattle.pipe_cli.specs.Refusals.{IsTextOutcome};
+ghost use Rattle.pipe_cli.specs.Steps.{IsUnrun, StopsWords};
+
+use crate::command::{Command, WordsFault};
+use crate::status::Outcome;
+use crate::words::read_words;
+use net_graph::{NetFault, build};
+use pipe_model::{Net, Rec};
+use spec_scanner::{SpecFault, scan};
+use std::alloc::Global;
+
+/// What a call runs: a net, whose reading CONSOLE has no bytes yet, in so many steps at most.
+#[derive(Drop)]
+pub(crate) struct Call {
+    pub net: Net,
+    pub steps: u64,
+}
+
+// The net that words run. An error is that they aren't run, or want of memory.
+pub(crate) fn called(alloc: Global, words: &[String]) -> Result<Call, Outcome>
+    ensures called { MatchResult result (λ call. RunsNet (map (λ word. string_bytes word) words.now) call.net call.steps) (λ outcome. StopsWords (map (λ word. string_bytes word) words.now) outcome) }
+    ensures unrun { IfErr result IsUnrun }
+    ensures whole { IfOk result (λ call. IsWellFormed call.net) }
+    ensures kinds { IfOk result (λ call. (s : ℕ) (p : StrandIs) → strand_at call.net nothing_yet s ≡ Some p → IsFirstKind p.kind) }
+    ensures few { IfOk result (λ call. call.steps ≤ 50000000) }
+{
+    let (spec, steps) = spec_of(alloc, words)?;
+    let net = net_of(alloc, spec.bytes())?;
+    Ok(Call { net, steps })
+}
+
+// The specification that words run, and the most steps.
+fn spec_of(alloc: Global, words: &[String]) -> Result<(Rec, u64), Outcome>
+    ensures run { MatchResult result (λ run. IsRunOf (map (λ word. string_bytes word) words.now) run.0 run.1) (λ outcome. StopsWords (map (λ word. string_bytes word) words.now) outcome) }
+    ensures unrun { IfErr result IsUnrun }
+    ensures few { IfOk result (λ run. run.1 ≤ 50000000) }
+{
+    match read_words(alloc, words) {
+        Ok(
+            Command::Run {
+                spec,
+                workers: _,
+                steps,
+                trace: None,
+            },
+        ) => Ok((spec, steps)),
+        Ok(_) => Err(Outcome::NotYet),
+        Err(WordsFault::Usage) => Err(Outcome::Usage),
+        Err(WordsFault::NoMemory) => Err(Outcome::NoMemory),
+    }
+}
+
+// The net of a specification's text, or the outcome of its refusal.
+fn net_of(alloc: Global, spec: &[u8]) -> Result<Net, Outcome>
+    ensures made { MatchResult result (λ net. IsNetOf spec.now net) (λ outcome. IsTextOutcome spec.now outcome) }
+    ensures whole { IfOk result IsWellFormed }
+{
+    let scanned = match scan(alloc, spec) {
+        Ok(scanned) => scanned,
+        Err(SpecFault::NoMemory) => return Err(Outcome::NoMemory),
+        Err(SpecFault::Refused { number, place }) => {
+            return Err(Outcome::SpecRefused {
+                number,
+                argument: 0,
+                place,
+            });
+        }
+    };
+    match build(alloc, scanned) {
+        Ok(net) => Ok(net),
+        Err(NetFault::NoMemory) => Err(Outcome::NoMemory),
+        Err(
+            NetFault::Refused {
+                number,
+                argument,
+                place,
+            },
+        ) => Err(Outcome::SpecRefused {
+            number,
+            argument,
+            place,
+        }),
+    }
+}

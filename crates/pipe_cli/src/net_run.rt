@@ -1,0 +1,105 @@
+ghost use Rattle.std.specs.Prelude.{◌≡◌, ◌≤◌, ◌<◌, ◌⊎◌, ℕ, List, Bool, [], length, slice_get, IfOk, MatchResult, Some, Box as Boxed};
+ghost use Rattle.std.specs.declared.alloc.Global.{Global};
+ghost use Rattle.pipe_model.specs.declared.net.Strand.{Strand as StrandIs};
+ghost use Rattle.pipe_model.specs.Reply.{reply, console_from};
+ghost use Rattle.pipe_model.specs.State.{nothing_yet, strand_at};
+ghost use Rattle.pipe_model.specs.WellFormed.{IsWellFormed};
+ghost use Rattle.core_machine.specs.Machine.{started, state_of};
+ghost use Rattle.stage_steps.specs.declared.first.FirstStage.{FirstStage as StageIs};
+ghost use Rattle.stage_steps.specs.First.{IsFirstKind, FirstStands};
+ghost use Rattle.pipe_cli.specs.Devices.{device};
+ghost use Rattle.pipe_cli.specs.Runs.{IsOutcomeOf};
+ghost use Rattle.pipe_cli.specs.Steps.{HasCompleted, StopsRunning, IsWritten, IsPartWritten};
+
+use crate::status::Outcome;
+use crate::write::write_all;
+use core_machine::{Core, RunEnd};
+use outside::{Gate, Sink};
+use pipe_model::{Kind, Net, NoMemory, worst};
+use stage_steps::FirstStage;
+use std::alloc::Global;
+
+// The core of a net, after it ran to its end. An error is that its journal was full before, or want of memory.
+pub(crate) fn run_net<G: Gate>(
+    alloc: Global,
+    net: Net,
+    steps: u64,
+    gate: &G,
+) -> Result<Core<Box<FirstStage>>, Outcome>
+    requires whole { IsWellFormed net }
+    requires kinds { (s : ℕ) (p : StrandIs) → strand_at net nothing_yet s ≡ Some p → IsFirstKind p.kind }
+    requires few { steps ≤ 50000000 }
+    ensures { MatchResult result (λ core. HasCompleted net steps core) (λ outcome. StopsRunning net steps outcome) }
+{
+    let Ok(mut core) = start_net(alloc, net, steps) else {
+        return Err(Outcome::NoMemory);
+    };
+    match core.run_one_thread(alloc, gate) {
+        Ok(RunEnd::Complete) => Ok(core),
+        Ok(RunEnd::Spent) => Err(Outcome::Spent(steps)),
+        Err(NoMemory) => Err(Outcome::NoMemory),
+    }
+}
+
+// Its core before the first step.
+fn start_net(alloc: Global, net: Net, steps: u64) -> Result<Core<Box<FirstStage>>, NoMemory>
+    requires whole { IsWellFormed net }
+    requires kinds { (s : ℕ) (p : StrandIs) → strand_at net nothing_yet s ≡ Some p → IsFirstKind p.kind }
+    requires few { steps ≤ 50000000 }
+    ensures { IfOk result (λ core. (looking : List Bool) × (core ≡ started net steps looking)) }
+{
+    let stages = stages_of(alloc, &net)?;
+    Core::start(alloc, net, stages, steps)
+}
+
+// A stage for each strand of a net, before its first event. They are boxed, since a core moves them with each job.
+fn stages_of(alloc: Global, net: &Net) -> Result<Vec<Box<FirstStage>>, NoMemory>
+    requires { (s : ℕ) (p : StrandIs) → strand_at net.now nothing_yet s ≡ Some p → IsFirstKind p.kind }
+    ensures count { IfOk result (λ stages. length stages.items ≡ length net.now.strands) }
+    ensures each { IfOk result (λ stages. (s : ℕ) (p : StrandIs) (stage : Boxed StageIs Global) → slice_get net.now.strands s ≡ Some p → slice_get stages.items s ≡ Some stage → FirstStands stage.value p []) }
+{
+    let strands = net.strands.as_slice();
+    let mut stages = Vec::new(alloc);
+    for k in 0..strands.len() {
+        stages.push(Box::new(alloc, FirstStage::new(alloc, &strands[k])?)?)?;
+    }
+    Ok(stages)
+}
+
+// How a run that is complete ended.
+pub(crate) fn outcome_of(core: &Core<Box<FirstStage>>) -> Outcome
+    ensures { IsOutcomeOf (reply core.now.net (state_of core.now)) result }
+{
+    let mut code = 0;
+    let mut strand = core.net().strands.as_slice().len() as u32;
+    while strand > 0 {
+        strand -= 1;
+        let Some(end) = core.end_of(strand) else {
+            return Outcome::Stalled;
+        };
+        code = worst(end, code);
+    }
+    if code == 0 {
+        Outcome::Done
+    } else {
+        Outcome::Coded(code)
+    }
+}
+
+// Writes what the writing CONSOLE kept. The only error is a write fault.
+pub(crate) fn write_kept<O: Sink>(
+    output: &mut O,
+    core: &Core<Box<FirstStage>>,
+) -> Result<(), Outcome>
+    requires home { core.now.out ≡ [] }
+    ensures { let old = device (O.written output.old) (O.faults output.old) in let new = device (O.written output.new) (O.faults output.new) in
+        MatchResult result (λ _. IsWritten (console_from (state_of core.now) 0 core.now.net.strands) old new) (λ outcome. IsPartWritten (console_from (state_of core.now) 0 core.now.net.strands) old new outcome) }
+{
+    let strands = core.net().strands.as_slice();
+    for k in 0..strands.len() {
+        if let Kind::ConsoleOut = strands[k].kind {
+            write_all(output, core.kept(k as u32))?;
+        }
+    }
+    Ok(())
+}
