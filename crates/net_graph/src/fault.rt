@@ -15,7 +15,11 @@ use pipe_model::NoMemory;
 /// | 17 | a connector in the main specification | of the connector |
 #[derive(Clone, Copy, Debug, PartialEq, Eq)]
 pub enum NetFault {
-    Refused { number: u8, argument: u8, place: u32 },
+    Refused {
+        number: u8,
+        argument: u8,
+        place: u32,
+    },
     NoMemory,
 }
 
