@@ -1,5 +1,5 @@
 -- Specifications whose nets and faults are as they should be, by computation.
-use Rattle.std.proofs.Common.{◌≡◌, ℕ, true, false, List, [], ◌∷◌, map, slice_get, option_map, codes, refl, Some, None, Option, Ok, Err, inl, inr}
+use Rattle.std.proofs.Common.{◌≡◌, ℕ, true, false, List, [], ◌∷◌, map, slice_get, option_map, codes, refl, Some, None, Ok, Err, inl, inr}
 use Rattle.pipe_model.specs.declared.kind.Kind.{Kind}
 use Rattle.pipe_model.specs.declared.kind.Kind.TheVariants.{ConsoleIn, ConsoleOut, Locate}
 use Rattle.pipe_model.specs.declared.kind.Span.TheVariants.{Columns}

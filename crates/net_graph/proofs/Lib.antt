@@ -1,1 +1,3 @@
 pub mod Cases
+pub mod Searched
+pub mod Walks

@@ -2,5 +2,8 @@
 #![tactic(auto)]
 
 mod fault;
+mod pieces;
+mod places;
+mod search;
 
 pub use fault::NetFault;
