@@ -51,11 +51,13 @@ prefix_all (s ∷ stages) = let e = prefix_all stages in omega arith
 no_label : (stages : List Stand) → position (λ (s : Stand). is_label None s.piece.label) stages ≡ None
 no_label stages = let e = prefix_all stages in grind (arith, nat_tests)
 
-module _ (stands : List Stand) (table : List ℕ) (outcomes : List (Result Kind KindFault)) (labelled : (label : ℕ) → slice_get table label ≡ stage_of stands (Some label)) where
-  table_is : (label : Option ℕ) → option_and_then (slice_get table) label ≡ stage_of stands label
-  table_is None = sym (no_label (stages_of stands))
-  table_is (Some label) = labelled label
+-- a table of the stages that the labels define
+pub table_is : (stands : List Stand) (table : List ℕ) → ((label : ℕ) → slice_get table label ≡ stage_of stands (Some label)) →
+    (label : Option ℕ) → option_and_then (slice_get table) label ≡ stage_of stands label
+table_is stands table labelled None = sym (no_label (stages_of stands))
+table_is stands table labelled (Some label) = labelled label
 
+module _ (stands : List Stand) (table : List ℕ) (outcomes : List (Result Kind KindFault)) (labelled : (label : ℕ) → slice_get table label ≡ stage_of stands (Some label)) where
   module _ (search : Search) (earlier : List Stand) (keeps : Keeps search earlier) (s : Stand) where
     consoles_are : (if s.first then search.reads else search.writes) ≡ list_any (is_console_of s.first) earlier
     consoles_are = by s.first where
@@ -71,7 +73,7 @@ module _ (stands : List Stand) (table : List ℕ) (outcomes : List (Result Kind 
         let a = stage_faults (length earlier) s in
         let b = kind_faults s (slice_get outcomes (length earlier)) in
         rw (keeps.stages, second_is) (sym (noted_both search.found a (b ++ console_faults earlier s) ∙ noted_both (noted search.found a) b (console_faults earlier s)))
-    found_is Reference = ap (λ stage. noted search.found (stream_faults s (option_and_then (kind_at outcomes) stage))) (table_is s.piece.label)
+    found_is Reference = ap (λ stage. noted search.found (stream_faults s (option_and_then (kind_at outcomes) stage))) (table_is stands table labelled s.piece.label)
     found_is Connector = refl
 
     keeps_is : (kind : PieceKind) → Keeps (after table outcomes search s kind) (if is_of_stage kind then earlier ++ s ∷ [] else earlier)

@@ -2,6 +2,7 @@
 #![tactic(auto)]
 
 mod fault;
+mod joins;
 mod pieces;
 mod places;
 mod search;
