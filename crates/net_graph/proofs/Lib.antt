@@ -1,4 +1,6 @@
 pub mod Cases
 pub mod Joined
 pub mod Searched
+pub mod Stages
+pub mod Usages
 pub mod Walks

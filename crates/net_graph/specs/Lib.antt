@@ -1,7 +1,10 @@
 pub mod Faults
 pub mod Fed
+pub mod Flags
 pub mod Joins
 pub mod Nets
 pub mod Numbered
 pub mod Searches
 pub mod Stands
+pub mod Strands
+pub mod Uses

@@ -2,9 +2,12 @@
 #![tactic(auto)]
 
 mod fault;
+mod flags;
 mod joins;
 mod pieces;
 mod places;
 mod search;
+mod strands;
+mod uses;
 
 pub use fault::NetFault;
