@@ -1,0 +1,4 @@
+pub mod FormedKinds
+pub mod FormedLabels
+pub mod FormedLists
+pub mod FormedPositions
