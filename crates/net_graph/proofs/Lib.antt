@@ -1,4 +1,10 @@
 pub mod Cases
+pub mod FormedFaults
+pub mod FormedKinds
+pub mod FormedLabels
+pub mod FormedLists
+pub mod FormedPositions
+pub mod FormedSpots
 pub mod Joined
 pub mod Searched
 pub mod Stages
