@@ -131,7 +131,7 @@ module _ (done : List Stand) (uses : List ℕ) (told : Told done uses) (stand : 
     old l d is (inr apart) = told.defined l d (sym (get_set_other uses m l (suc c) apart) ∙ is)
 
   -- with one stand more that is numbered
-  told_more : (kind : PieceKind) → stand.piece.kind ≡ kind → IsNumbered uses stand.piece kind → Told (done ++ stand ∷ []) (uses_after uses kind stand.piece.label)
+  pub told_more : (kind : PieceKind) → stand.piece.kind ≡ kind → IsNumbered uses stand.piece kind → Told (done ++ stand ∷ []) (uses_after uses kind stand.piece.label)
   told_more Stage kind (inl none, uses_is) = subst (λ x. Told (done ++ stand ∷ []) (uses_after uses Stage x)) (sym none) (told_unlabelled (ap is_of_reference kind) none)
   told_more Stage kind (inr next, uses_is) = subst (λ x. Told (done ++ stand ∷ []) (uses_after uses Stage x)) (sym next) (told_defined kind next)
   told_more Reference kind numbered =
@@ -147,7 +147,7 @@ pieces_in first [] = refl
 pieces_in first (piece ∷ []) = refl
 pieces_in first (piece ∷ (next ∷ pieces)) = ap (λ ps. piece ∷ ps) (pieces_in false (next ∷ pieces))
 
-pieces_are : (pipelines : List (List Piece)) → map (λ (s : Stand). s.piece) (stands_of pipelines) ≡ pieces_of pipelines
+pub pieces_are : (pipelines : List (List Piece)) → map (λ (s : Stand). s.piece) (stands_of pipelines) ≡ pieces_of pipelines
 pieces_are [] = refl
 pieces_are (pipeline ∷ pipelines) =
     map-append (λ (s : Stand). s.piece) (stands_in true pipeline) (stands_of pipelines)

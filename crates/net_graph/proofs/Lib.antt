@@ -10,3 +10,4 @@ pub mod Searched
 pub mod Stages
 pub mod Usages
 pub mod Walks
+pub mod Assembled

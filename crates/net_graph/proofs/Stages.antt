@@ -1,6 +1,6 @@
 -- The strands of stages one by one.
-use Rattle.std.proofs.Common.{◌≡◌, ℕ, suc, ◌+◌, ◌<◌, Bool, List, [], ◌∷◌, ◌++◌, ◌∙◌, length, length-append, get_or, drop, refl, ap, sym, arith, append_assoc, add-one}
-use Rattle.std.proofs.lemmas.List.{append-nil, drop_more}
+use Rattle.std.proofs.Common.{◌≡◌, ℕ, suc, ◌+◌, ◌<◌, Bool, List, [], ◌∷◌, ◌++◌, ◌∙◌, length, length-append, get_or, drop, refl, ap, append_assoc, add-one}
+use Rattle.std.proofs.lemmas.List.{drop_more}
 use Rattle.pipe_model.specs.declared.kind.Kind.{Kind}
 use Rattle.pipe_model.specs.declared.net.Strand.{Strand}
 use Rattle.net_graph.specs.Strands.{strand_by, strands_by}

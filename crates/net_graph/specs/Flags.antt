@@ -1,6 +1,5 @@
 -- The flags of all stages one after another, 64 for each: whether a place has a link.
 use Rattle.std.specs.Prelude.{◌≡◌, ℕ, ◌+◌, ◌*◌, ◌<◌, Bool, false, List, length, get_or}
-use Rattle.pipe_model.specs.declared.net.Link.{Link}
 
 -- the flags tell which places of so many stages are linked
 pub record AreFlags (flags : List Bool) (stages : ℕ) (is_linked : ℕ → ℕ → Bool) : Type 0 where

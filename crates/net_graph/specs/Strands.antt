@@ -1,7 +1,6 @@
 -- The strands of kinds, where the flags of the linked places and the numbers of later uses stand in lists.
 use Rattle.std.specs.Prelude.{ℕ, suc, ◌*◌, min, Bool, List, [], ◌∷◌, take, drop}
 use Rattle.pipe_model.specs.declared.kind.Kind.{Kind}
-use Rattle.pipe_model.specs.declared.net.Ports.{Ports}
 use Rattle.pipe_model.specs.declared.net.Strand.{Strand}
 use Rattle.net_graph.specs.Nets.{inputs_of, outputs_of}
 

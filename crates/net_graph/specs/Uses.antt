@@ -1,11 +1,12 @@
 -- How many later uses the labels and the stages have.
-use Rattle.std.specs.Prelude.{ℕ, List, [], ◌∷◌, ◌++◌, get_or}
+use Rattle.std.specs.Prelude.{ℕ, List, [], ◌∷◌, ◌++◌, count_by, get_or}
 use Rattle.std.specs.declared.option.Option.{Option}
 use Rattle.std.specs.declared.option.Option.TheVariants.{Some, None}
 use Rattle.spec_scanner.specs.declared.piece.Piece.{Piece}
 use Rattle.spec_scanner.specs.declared.piece.PieceKind.{PieceKind}
 use Rattle.spec_scanner.specs.declared.piece.PieceKind.TheVariants.{Stage, Reference, Connector}
 use Rattle.net_graph.specs.Numbered.{uses_after}
+use Rattle.net_graph.specs.Stands.{Stand, refers_to}
 
 -- the later uses of each label after pieces
 abbrev pub uses_past : List ℕ → List Piece → List ℕ
@@ -23,3 +24,7 @@ later_of uses Connector label = []
 abbrev pub later_by : List ℕ → List Piece → List ℕ
 later_by uses [] = []
 later_by uses (piece ∷ pieces) = later_of uses piece.kind piece.label ++ later_by uses pieces
+
+-- the streams of a stage but for the first
+abbrev pub more_streams : List Stand → Stand → ℕ
+more_streams stands stand = count_by (refers_to stand.piece.label) stands

@@ -1,6 +1,7 @@
 //! The net of a specification: its stages as strands, and the links between them.
 #![tactic(auto)]
 
+mod assembly;
 mod fault;
 mod flags;
 mod joins;

@@ -1,6 +1,7 @@
-ghost use Rattle.std.specs.Prelude.{◌≡◌, [], ◌++◌, IfOk, OnOk};
-ghost use Rattle.net_graph.specs.Numbered.{AreNumbered, IsNumbered, pieces_of, uses_after};
-ghost use Rattle.net_graph.specs.Uses.{later_by, later_of, uses_past};
+ghost use Rattle.std.specs.Prelude.{◌≡◌, [], ◌++◌, map, IfOk, OnOk};
+ghost use Rattle.net_graph.specs.Numbered.{AreNumbered, AreScanned, IsNumbered, pieces_of, uses_after};
+ghost use Rattle.net_graph.specs.Uses.{later_by, later_of, more_streams, uses_past};
+ghost use Rattle.net_graph.specs.Stands.{stages_of, stands_of};
 
 use crate::pieces::Pieces;
 use pipe_model::NoMemory;
@@ -35,8 +36,8 @@ fn use_pieces(uses: &mut Vec<u16>, pieces: &[Piece]) -> Result<(), NoMemory>
     Ok(())
 }
 
-/// How many later uses each label has.
-pub(crate) fn uses_of(alloc: Global, pipelines: &[Pieces]) -> Result<Vec<u16>, NoMemory>
+// How many later uses each label has.
+fn uses_of(alloc: Global, pipelines: &[Pieces]) -> Result<Vec<u16>, NoMemory>
     requires { AreNumbered [] (pieces_of pipelines.now) }
     ensures { IfOk result (λ uses. uses.items ≡ uses_past [] (pieces_of pipelines.now)) }
 {
@@ -62,12 +63,8 @@ fn count_later(later: &mut Vec<u16>, uses: &[u16], pieces: &[Piece]) -> Result<(
     Ok(())
 }
 
-/// How many later uses the label of each stage has.
-pub(crate) fn later_of(
-    alloc: Global,
-    uses: &[u16],
-    pipelines: &[Pieces],
-) -> Result<Vec<u16>, NoMemory>
+// How many later uses the label of each stage has, by those of the labels.
+fn later_of(alloc: Global, uses: &[u16], pipelines: &[Pieces]) -> Result<Vec<u16>, NoMemory>
     ensures { IfOk result (λ later. later.items ≡ later_by uses.now (pieces_of pipelines.now)) }
 {
     let mut later = Vec::new(alloc);
@@ -75,4 +72,13 @@ pub(crate) fn later_of(
         count_later(&mut later, uses, pieces.as_slice())?;
     }
     Ok(later)
+}
+
+/// How many later uses the label of each stage has.
+pub(crate) fn later_uses(alloc: Global, pipelines: &[Pieces]) -> Result<Vec<u16>, NoMemory>
+    requires { AreScanned pipelines.now }
+    ensures { IfOk result (λ later. later.items ≡ map (more_streams (stands_of pipelines.now)) (stages_of (stands_of pipelines.now))) }
+{
+    let uses = uses_of(alloc, pipelines)?;
+    later_of(alloc, &uses, pipelines)
 }

@@ -1,7 +1,5 @@
-use Rattle.std.proofs.Common.{◌≡◌, ◌<◌, ◌∙◌, List, length, drop, refl, ap, sym, arith}
-use Rattle.std.proofs.lemmas.List.{append-nil, drop_all}
+use Rattle.std.proofs.Common.{drop, arith}
 use Rattle.net_graph.proofs.Joined.{count_least}
-use Rattle.net_graph.specs.Nets.{counted, counted_all}
 use Rattle.net_graph.proofs.joins.join_pipeline.Goals as goal
 
 pub spot_of-next-requires-clause-few : goal.spot_of-next-requires-clause-few

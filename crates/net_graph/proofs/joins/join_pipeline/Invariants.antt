@@ -1,4 +1,4 @@
-use Rattle.std.proofs.Common.{◌≡◌, ◌<◌, ◌++◌, None, drop}
+use Rattle.std.proofs.Common.{◌≡◌, ◌++◌, None, drop}
 use Rattle.net_graph.specs.Joins.{links_by}
 use Rattle.net_graph.specs.Nets.{counted_all}
 use Rattle.net_graph.proofs.joins.join_pipeline.Given as goal

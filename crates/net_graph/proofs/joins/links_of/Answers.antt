@@ -1,4 +1,4 @@
-use Rattle.std.proofs.Common.{◌≡◌, ◌<◌, ◌+◌, drop, ap, arith}
+use Rattle.std.proofs.Common.{◌+◌, drop, ap, arith}
 use Rattle.net_graph.proofs.Joined.{left_at, past_least}
 use Rattle.net_graph.specs.Joins.{counted_past}
 use Rattle.net_graph.specs.Nets.{counted_all}

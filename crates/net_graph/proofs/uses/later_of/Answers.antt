@@ -1,5 +1,4 @@
-use Rattle.std.proofs.Common.{◌≡◌, ◌+◌, ◌++◌, ◌∙◌, drop}
-use Rattle.net_graph.specs.Numbered.{pieces_of}
+use Rattle.std.proofs.Common.{◌∙◌}
 use Rattle.net_graph.proofs.Usages.{later_past, pieces_past}
 use Rattle.net_graph.proofs.uses.later_of.Goals as goal
 

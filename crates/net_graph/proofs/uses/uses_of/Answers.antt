@@ -1,5 +1,4 @@
-use Rattle.std.proofs.Common.{◌≡◌, ◌+◌, ◌++◌, ◌∙◌, List, ℕ, drop, ap, sym, subst, []}
-use Rattle.spec_scanner.specs.declared.piece.Piece.{Piece}
+use Rattle.std.proofs.Common.{◌+◌, ◌∙◌, drop, ap, sym, subst}
 use Rattle.net_graph.specs.Numbered.{AreNumbered, pieces_of}
 use Rattle.net_graph.specs.Uses.{uses_past}
 use Rattle.net_graph.proofs.Usages.{numbered_left, numbered_right, pieces_past, uses_both}
