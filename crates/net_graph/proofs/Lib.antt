@@ -1,4 +1,5 @@
 pub mod FormedFaults
+pub mod FormedFits
 pub mod FormedKinds
 pub mod FormedLabels
 pub mod FormedLinks
@@ -6,3 +7,4 @@ pub mod FormedLists
 pub mod FormedLone
 pub mod FormedPositions
 pub mod FormedSpots
+pub mod FormedStrands
