@@ -1,6 +1,6 @@
 -- What it means for each stand that a specification has no fault.
-use Rattle.std.proofs.Common.{◌≡◌, ℕ, zero, suc, ◌≤◌, ◌<◌, Bool, true, false, cond, ◌&&◌, ◌||◌, not, nat_lt, List, [], ◌∷◌, ◌++◌, refl, sym, ◌∙◌, ap, subst, arith, Option, Some, None, slice_get, length, map, append-nil, append_assoc}
-use Rattle.std.specs.Prelude.{filter, if◌then◌else◌, Ok, Err}
+use Rattle.std.proofs.Common.{◌≡◌, ℕ, zero, suc, ◌≤◌, ◌<◌, Bool, true, false, cond, ◌&&◌, ◌||◌, not, nat_lt, List, [], ◌∷◌, ◌++◌, refl, sym, ◌∙◌, ap, subst, arith, Some, slice_get, length, map, append-nil, append_assoc}
+use Rattle.std.specs.Prelude.{if◌then◌else◌, Ok}
 use Rattle.std.specs.List.{count_by}
 use Rattle.std.specs.Option.{option_and_then, option_map}
 use Rattle.std.specs.declared.result.Result.{Result}
@@ -18,7 +18,6 @@ use Rattle.net_graph.specs.Stands.{Stand, is_of_stage, is_stage, stage_of, stage
 use Rattle.net_graph.specs.Nets.{inputs_of, outputs_of}
 use Rattle.net_graph.specs.Faults.{faults_from, faults_of, faults_of_kind, is_past, kind_at, most_stages, most_streams, stage_faults, stream_faults}
 use Rattle.net_graph.proofs.FormedLists.{below_unless_not, last_counted, neither, nothing_joined}
-use Rattle.net_graph.proofs.FormedLabels.{stages_with, stages_without}
 
 -- each stand has no fault, after the stages before it
 good_from : (whole : List Stand) (outcomes : List (Result Kind KindFault)) (earlier between rest : List Stand) (stand : Stand)

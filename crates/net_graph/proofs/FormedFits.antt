@@ -1,5 +1,5 @@
 -- The stream that a stand is for is one that its stage has.
-use Rattle.std.proofs.Common.{◌≡◌, ◌⊎◌, inl, inr, ℕ, zero, suc, ◌+◌, ◌≤◌, ◌<◌, Bool, true, false, cond, ◌&&◌, List, [], ◌∷◌, ◌++◌, refl, sym, ◌∙◌, ap, subst, arith, Option, Some, None, slice_get, length, map}
+use Rattle.std.proofs.Common.{◌≡◌, ◌⊎◌, inl, inr, ℕ, zero, suc, ◌≤◌, ◌<◌, true, false, List, [], ◌∷◌, ◌++◌, refl, sym, ◌∙◌, ap, subst, arith, Option, Some, None, slice_get, length, map}
 use Rattle.std.specs.Prelude.{Ok}
 use Rattle.std.specs.List.{count_by}
 use Rattle.pipe_model.specs.declared.kind.Kind.{Kind}
@@ -11,9 +11,9 @@ use Rattle.net_graph.specs.Nets.{AreOutcomes, inputs_of, outputs_of}
 use Rattle.net_graph.specs.Numbered.{AreScanned, IsNumbered}
 use Rattle.net_graph.specs.Faults.{faults_of}
 use Rattle.net_graph.proofs.FormedFaults.{few_streams, input_there, output_there}
-use Rattle.net_graph.proofs.FormedKinds.{IsPlain, kind_here, plain_kind}
-use Rattle.net_graph.proofs.FormedLabels.{Told, counted_with, counted_without, numbered_at, reference_is, stage_is, stages_with}
-use Rattle.net_graph.proofs.FormedLists.{both, count_more, get_seam, last_counted, not_second, same_number}
+use Rattle.net_graph.proofs.FormedKinds.{kind_here, plain_kind}
+use Rattle.net_graph.proofs.FormedLabels.{counted_with, counted_without, numbered_at, reference_is, stage_is, stages_with}
+use Rattle.net_graph.proofs.FormedLists.{both, get_seam, last_counted, not_second, same_number}
 use Rattle.net_graph.proofs.FormedPositions.{position_finds}
 use Rattle.net_graph.proofs.FormedSpots.{Defines, Refers, StandsFor, found_whole, told_of}
 

@@ -1,7 +1,6 @@
 -- What the labels' numbers tell of the stands so far.
-use Rattle.std.proofs.Common.{◌≡◌, ◌≢◌, ◌⊎◌, inl, inr, ℕ, zero, suc, ◌+◌, ◌≤◌, ◌<◌, Bool, true, false, cond, ◌&&◌, ◌==◌, List, [], ◌∷◌, ◌++◌, refl, sym, ◌∙◌, ap, subst, arith, Option, Some, None, slice_get, slice_set, length, length-append, length-set, map, append-nil, append_assoc}
-use Rattle.std.specs.Prelude.{filter}
-use Rattle.std.specs.List.{count_by, flat_map, position}
+use Rattle.std.proofs.Common.{◌≡◌, ◌≢◌, ◌⊎◌, inl, inr, ℕ, suc, ◌+◌, ◌≤◌, Bool, true, false, cond, ◌&&◌, List, [], ◌∷◌, ◌++◌, refl, sym, ◌∙◌, ap, subst, arith, Some, None, slice_get, slice_set, length, length-append, length-set, map, append-nil, append_assoc}
+use Rattle.std.specs.List.{count_by, position}
 use Rattle.std.specs.Option.{option_map_or}
 use Rattle.std.proofs.lemmas.List.Elements.{filter-append}
 use Rattle.std.proofs.lemmas.List.{map-append}
@@ -10,8 +9,8 @@ use Rattle.spec_scanner.specs.declared.piece.Piece.{Piece}
 use Rattle.spec_scanner.specs.declared.piece.PieceKind.{PieceKind}
 use Rattle.spec_scanner.specs.declared.piece.PieceKind.TheVariants.{Stage, Reference, Connector}
 use Rattle.net_graph.specs.Stands.{Stand, is_label, is_of_reference, is_of_stage, is_stage, refers_to, stage_of, stages_of, stands_in, stands_of}
-use Rattle.net_graph.specs.Numbered.{AreNumbered, AreScanned, IsNextUse, IsNumbered, pieces_of, used_again, uses_after}
-use Rattle.net_graph.proofs.FormedLists.{count_more, equal_or_not, get_below, get_more, get_set_other, get_set_same, not_second, same_number, test_apart, test_same}
+use Rattle.net_graph.specs.Numbered.{AreNumbered, AreScanned, IsNumbered, pieces_of, uses_after}
+use Rattle.net_graph.proofs.FormedLists.{count_more, equal_or_not, get_below, get_more, get_set_other, get_set_same, not_second, test_apart, test_same}
 use Rattle.net_graph.proofs.FormedPositions.{position_new, position_stays, position_still}
 
 -- One stand more

@@ -1,13 +1,12 @@
 -- Each link leads from one stand to the next, and the links of a net come in the order of the stands.
-use Rattle.std.proofs.Common.{◌≡◌, ℕ, zero, suc, ◌+◌, ◌≤◌, ◌<◌, Bool, true, false, cond, List, [], ◌∷◌, ◌++◌, refl, sym, ◌∙◌, ap, subst, arith, Option, Some, None, slice_get, length, length-append, append-nil, append_assoc}
+use Rattle.std.proofs.Common.{◌≡◌, ℕ, zero, suc, ◌+◌, ◌≤◌, Bool, true, false, cond, List, [], ◌∷◌, ◌++◌, refl, sym, ◌∙◌, ap, subst, arith, Option, Some, None, slice_get, length, length-append, append-nil, append_assoc}
 use Rattle.std.specs.Prelude.{if◌then◌else◌, ⊤}
 use Rattle.pipe_model.specs.declared.net.Link.{Link}
 use Rattle.spec_scanner.specs.declared.piece.Piece.{Piece}
 use Rattle.net_graph.specs.Stands.{Spot, Stand, is_stage, spot_of, stages_of, stands_in, stands_of}
 use Rattle.net_graph.specs.Nets.{counted, counted_all, link_from, links_from, links_in, links_of}
-use Rattle.net_graph.specs.Numbered.{AreScanned}
 use Rattle.net_graph.proofs.FormedLabels.{stages_with, stages_without}
-use Rattle.net_graph.proofs.FormedSpots.{StandsFor, one_stand}
+use Rattle.net_graph.proofs.FormedSpots.{StandsFor}
 
 -- the link leads from the stream of one stand, at this place or after it, to that of the next
 pub record IsLead (whole : List Stand) (from : ℕ) (link : Link) : Type 0 where

@@ -1,5 +1,5 @@
 -- The streams that stands are for: no two stand for one stream.
-use Rattle.std.proofs.Common.{◌≡◌, ◌⊎◌, inl, inr, ℕ, zero, suc, ◌+◌, ◌≤◌, ◌<◌, Bool, true, false, List, [], ◌∷◌, ◌++◌, refl, sym, ◌∙◌, ap, subst, arith, Option, Some, None, slice_get, length, length-append}
+use Rattle.std.proofs.Common.{◌≡◌, ◌⊎◌, inl, inr, ℕ, suc, ◌<◌, true, List, ◌∷◌, ◌++◌, refl, sym, ◌∙◌, ap, subst, arith, Option, Some, None, length, length-append}
 use Rattle.std.specs.List.{count_by, position}
 use Rattle.std.specs.Option.{option_map}
 use Rattle.std.proofs.lemmas.List.Elements.{filter-append}
@@ -7,7 +7,7 @@ use Rattle.spec_scanner.specs.declared.piece.Piece.{Piece}
 use Rattle.spec_scanner.specs.declared.piece.PieceKind.{PieceKind}
 use Rattle.spec_scanner.specs.declared.piece.PieceKind.TheVariants.{Stage, Reference, Connector}
 use Rattle.net_graph.specs.Stands.{Spot, Stand, is_label, is_stage, refers_to, spot_of, stage_of, stages_of, stands_of}
-use Rattle.net_graph.specs.Numbered.{AreScanned, IsNextUse, IsNumbered}
+use Rattle.net_graph.specs.Numbered.{AreScanned, IsNumbered}
 use Rattle.net_graph.proofs.FormedLists.{further_right, same_number}
 use Rattle.net_graph.proofs.FormedPositions.{position_finds, position_stays}
 use Rattle.net_graph.proofs.FormedLabels.{Told, counted_with, numbered_at, reference_is, stage_is, stages_with}

@@ -1,3 +1,4 @@
+pub mod Formed
 pub mod FormedFaults
 pub mod FormedFits
 pub mod FormedKinds
