@@ -9,3 +9,4 @@ pub mod FormedLone
 pub mod FormedPositions
 pub mod FormedSpots
 pub mod FormedStrands
+pub mod Numberings
