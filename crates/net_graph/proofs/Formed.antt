@@ -109,9 +109,9 @@ module _ (pipelines : List (List Piece)) (kinds : List Kind) (scanned : AreScann
     inputs = length-map-range_with_len (is_linked_in links s) 0 (min (streams_of whole stage.piece.label) (inputs_of kind));
     outputs = length-map-range_with_len (is_linked_out links s) 0 (min (streams_of whole stage.piece.label) (outputs_of kind));
     has_input = λ i. flag_is (is_linked_in links s) (min (streams_of whole stage.piece.label) (inputs_of kind)) i (past_in s i (strand_of whole links s stage kind) is)
-      ∙ found_or_not (λ (link : Link). (link.to == s) && (link.input == i)) links;
+        ∙ found_or_not (λ (link : Link). (link.to == s) && (link.input == i)) links;
     has_output = λ o. flag_is (is_linked_out links s) (min (streams_of whole stage.piece.label) (outputs_of kind)) o (past_out s o (strand_of whole links s stage kind) is)
-      ∙ found_or_not (λ (link : Link). (link.from == s) && (link.output == o)) links;
+        ∙ found_or_not (λ (link : Link). (link.from == s) && (link.output == o)) links;
   }
 
   told : (s : Who) (p : Strand) → strand_at net nothing_yet s ≡ Some p → TellsPorts net s p
@@ -155,9 +155,10 @@ module _ (pipelines : List (List Piece)) (kinds : List Kind) (scanned : AreScann
 
   staged : (s : Who) (p : Strand) → strand_at net nothing_yet s ≡ Some p → (m : ℕ) × IsOfStage net s p m
   staged s p is =
-      let it = of_stage s p is in
-      (streams_of whole it.stage.piece.label,
-        subst (λ q. IsOfStage net s q (streams_of whole it.stage.piece.label)) (sym it.strand) (alone_at s it.stage it.kind it.plain (is ∙ ap Some it.strand)))
+      let it = of_stage s p is in (
+        streams_of whole it.stage.piece.label,
+        subst (λ q. IsOfStage net s q (streams_of whole it.stage.piece.label)) (sym it.strand) (alone_at s it.stage it.kind it.plain (is ∙ ap Some it.strand)),
+      )
 
   -- no stage has a queue
   not_queued : (s : Who) (p : Strand) → strand_at net nothing_yet s ≡ Some p → (form p).parting ≡ Queued → ⊥
@@ -171,7 +172,7 @@ module _ (pipelines : List (List Piece)) (kinds : List Kind) (scanned : AreScann
       let no_queue = (lead j link is).no_queue in
       (λ queue. cc, λ (queue : IsQueue net link). absurd (not_queued link.from queue.producer queue.from_strand queue.queued))
 
-  pub formed_net : IsWellFormed net
+  formed_net : IsWellFormed net
   formed_net = record {
     few = omega (arith, few_stages pipelines kinds good, few_strands whole links 0 (stages_of whole) kinds);
     joined = joined;

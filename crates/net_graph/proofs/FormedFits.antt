@@ -55,9 +55,9 @@ module _ (pipelines : List (List Piece)) (kinds : List Kind) (scanned : AreScann
     fits_defined : Defines stands.done stand spot → Fits whole kinds stand spot
     fits_defined here =
         let there : slice_get (stages_of whole) spot.stage ≡ Some stand =
-          ap (slice_get (stages_of whole)) here.stage
-          ∙ ap (λ stages. slice_get stages (length (stages_of stands.done))) (ap stages_of stands.cut ∙ stages_with stands.done stands.rest stand (stage_is stand here.kind))
-          ∙ get_seam (stages_of stands.done) stand (stages_of stands.rest) in
+        ap (slice_get (stages_of whole)) here.stage
+        ∙ ap (λ stages. slice_get stages (length (stages_of stands.done))) (ap stages_of stands.cut ∙ stages_with stands.done stands.rest stand (stage_is stand here.kind))
+        ∙ get_seam (stages_of stands.done) stand (stages_of stands.rest) in
         let kind = kind_here (stages_of whole) kinds spot.stage stand read there in
         let plain = plain_kind stand.piece.name stand.piece.arg stand.first kind.0 kind.2 in
         record {
@@ -81,8 +81,13 @@ module _ (pipelines : List (List Piece)) (kinds : List Kind) (scanned : AreScann
           kind = kind.0;
           stage_there = found.1;
           kind_there = kind.1;
-          stream = omega (arith, here.stream, ap (streams_of whole) label, ap (count_by (refers_to (Some here.label))) stands.cut,
-            counted_with (refers_to (Some here.label)) stands.done stands.rest stand (reference_is stand here.label here.kind here.label_is));
+          stream = omega (
+            arith,
+            here.stream,
+            ap (streams_of whole) label,
+            ap (count_by (refers_to (Some here.label))) stands.cut,
+            counted_with (refers_to (Some here.label)) stands.done stands.rest stand (reference_is stand here.label here.kind here.label_is),
+          );
           output = λ goes_on. omega (arith, here.uses, output_there pipelines kinds good stands.done stands.rest stand stands.cut here.kind spot.stage kind.0 stage kind.1 goes_on);
           input = λ comes. omega (arith, here.uses, input_there pipelines kinds good stands.done stands.rest stand stands.cut here.kind spot.stage kind.0 stage kind.1 comes);
         }

@@ -57,6 +57,7 @@ plain_kind name arg first kind is = go (two_rows (bytes_eq (str_to_ascii_lowerca
   where
     all : (all : List Value) × (is.row.kind all ≡ Some kind)
     all = made is.makes
+
     go : (is.row ≡ console_row first) ⊎ (is.row ≡ locate_row) → IsPlain first kind
     go (inl console) =
         let same : Some (console_kind first) ≡ Some kind = ap (λ (row : Row). row.kind all.0) (sym console) ∙ all.1 in

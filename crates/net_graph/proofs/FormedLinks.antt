@@ -56,7 +56,6 @@ lead_at whole from (l ∷ links) (suc j) link leads is =
 
 -- The links of a pipeline
 
-
 front_stand : (first : Bool) (piece : Piece) (pieces : List Piece) → (last : Bool) × (stands_in first (piece ∷ pieces) ≡ record { piece = piece; first = first; last = last } ∷ stands_in false pieces)
 front_stand first piece [] = (true, refl)
 front_stand first piece (next ∷ pieces) = (false, refl)
@@ -89,17 +88,20 @@ module _ (whole done rest : List Stand) (source target : Stand) (cut : whole ≡
 
   one_lead : (a b : Option Spot) → spot_of whole (length (stages_of done)) source.piece ≡ a → spot_of whole (length (stages_of (done ++ source ∷ []))) target.piece ≡ b
       → (links : List Link) → AreLeads whole (suc (length done)) links → AreLeads whole (length done) (link_from a b ++ links)
-  one_lead (Some a) (Some b) source_is target_is links leads = (record {
-    at = length done;
-    after = omega arith;
-    source = source;
-    source_for = record { done = done; rest = target ∷ rest; cut = cut; at_is = refl; spot_is = source_is };
-    source_goes_on = goes_on;
-    target = target;
-    target_for = record { done = done ++ source ∷ []; rest = rest; cut = next_cut; at_is = omega (arith, length-append done (source ∷ [])); spot_is = target_is };
-    target_goes_on = comes;
-    no_queue = refl;
-  }, leads)
+  one_lead (Some a) (Some b) source_is target_is links leads = (
+    record {
+      at = length done;
+      after = omega arith;
+      source = source;
+      source_for = record { done = done; rest = target ∷ rest; cut = cut; at_is = refl; spot_is = source_is };
+      source_goes_on = goes_on;
+      target = target;
+      target_for = record { done = done ++ source ∷ []; rest = rest; cut = next_cut; at_is = omega (arith, length-append done (source ∷ [])); spot_is = target_is };
+      target_goes_on = comes;
+      no_queue = refl;
+    },
+    leads,
+  )
   one_lead (Some a) None source_is target_is links leads = leads_before whole (suc (length done)) (length done) links (omega arith) leads
   one_lead None b source_is target_is links leads = leads_before whole (suc (length done)) (length done) links (omega arith) leads
 
@@ -116,21 +118,21 @@ leads_in whole done rest first (piece ∷ (next ∷ pieces)) end links cut end_i
     let rest_cut : whole ≡ (done ++ source ∷ []) ++ (stands_in false (next ∷ pieces) ++ rest) = cut ∙ sym (append_assoc done (source ∷ []) (stands_in false (next ∷ pieces) ++ rest)) in
     let more = leads_in whole (done ++ source ∷ []) rest false (next ∷ pieces) end links rest_cut (omega (arith, end_is, length-append done (source ∷ []))) leads in
     let here : AreLeads whole (suc (length done)) (links_in whole (length (stages_of (done ++ source ∷ []))) (next ∷ pieces) ++ links) =
-      subst (λ n. AreLeads whole n (links_in whole (length (stages_of (done ++ source ∷ []))) (next ∷ pieces) ++ links)) (omega (arith, length-append done (source ∷ []))) more in
+    subst (λ n. AreLeads whole n (links_in whole (length (stages_of (done ++ source ∷ []))) (next ∷ pieces) ++ links)) (omega (arith, length-append done (source ∷ []))) more in
     let both = one_lead whole done (stands_in false pieces ++ rest) source target (cut ∙ ap (λ stands. done ++ source ∷ (stands ++ rest)) front.1) refl refl
-      (spot_of whole (length (stages_of done)) piece) (spot_of whole (length (stages_of (done ++ source ∷ []))) next) refl refl
-      (links_in whole (length (stages_of (done ++ source ∷ []))) (next ∷ pieces) ++ links) here in
+    (spot_of whole (length (stages_of done)) piece) (spot_of whole (length (stages_of (done ++ source ∷ []))) next) refl refl
+    (links_in whole (length (stages_of (done ++ source ∷ []))) (next ∷ pieces) ++ links) here in
     subst (λ n. AreLeads whole (length done) ((link_from (spot_of whole (length (stages_of done)) piece) (spot_of whole n next) ++ links_in whole n (next ∷ pieces)) ++ links)) (sym before)
     (subst (AreLeads whole (length done)) (sym (append_assoc (link_from (spot_of whole (length (stages_of done)) piece) (spot_of whole (length (stages_of (done ++ source ∷ []))) next))
-      (links_in whole (length (stages_of (done ++ source ∷ []))) (next ∷ pieces)) links)) both)
+    (links_in whole (length (stages_of (done ++ source ∷ []))) (next ∷ pieces)) links)) both)
 
 leads_from : (whole done : List Stand) (pipelines : List (List Piece)) → whole ≡ done ++ stands_of pipelines → AreLeads whole (length done) (links_from whole (length (stages_of done)) pipelines)
 leads_from whole done [] cut = tt
 leads_from whole done (pipeline ∷ pipelines) cut =
     let more = leads_from whole (done ++ stands_in true pipeline) pipelines (cut ∙ sym (append_assoc done (stands_in true pipeline) (stands_of pipelines))) in
     leads_in whole done (stands_of pipelines) true pipeline (length (done ++ stands_in true pipeline)) (links_from whole (counted_all (length (stages_of done)) pipeline) pipelines)
-      cut (omega (arith, length-append done (stands_in true pipeline), length-stands true pipeline))
-      (subst (λ n. AreLeads whole (length (done ++ stands_in true pipeline)) (links_from whole n pipelines)) (sym (counted_more done true pipeline)) more)
+    cut (omega (arith, length-append done (stands_in true pipeline), length-stands true pipeline))
+    (subst (λ n. AreLeads whole (length (done ++ stands_in true pipeline)) (links_from whole n pipelines)) (sym (counted_more done true pipeline)) more)
 
 pub leads_of : (pipelines : List (List Piece)) → AreLeads (stands_of pipelines) 0 (links_of pipelines)
 leads_of pipelines = leads_from (stands_of pipelines) [] pipelines refl

@@ -11,12 +11,12 @@ module _ (pipelines : List (List Piece)) (scanned : AreScanned pipelines) where
   same_source : (m n : ℕ) (a b : Link) (first : IsLead (stands_of pipelines) m a) (second : IsLead (stands_of pipelines) n b) → a.from ≡ b.from → a.output ≡ b.output → first.at ≡ second.at
   same_source m n a b first second from output =
       one_stand pipelines scanned first.at second.at first.source second.source (record { stage = a.from; stream = a.output }) (record { stage = b.from; stream = b.output })
-        first.source_for second.source_for from output
+      first.source_for second.source_for from output
 
   same_target : (m n : ℕ) (a b : Link) (first : IsLead (stands_of pipelines) m a) (second : IsLead (stands_of pipelines) n b) → a.to ≡ b.to → a.input ≡ b.input → suc first.at ≡ suc second.at
   same_target m n a b first second to input =
       one_stand pipelines scanned (suc first.at) (suc second.at) first.target second.target (record { stage = a.to; stream = a.input }) (record { stage = b.to; stream = b.input })
-        first.target_for second.target_for to input
+      first.target_for second.target_for to input
 
   -- a link further right starts further right
   module _ (l : Link) (n : ℕ) (first : IsLead (stands_of pipelines) n l) (links : List Link) (leads : AreLeads (stands_of pipelines) (suc first.at) links) (k : ℕ) (b : Link) (there : slice_get links k ≡ Some b) where

@@ -66,8 +66,8 @@ module _ (pipelines : List (List Piece)) (scanned : AreScanned pipelines) where
             let found = found_whole stands.done (stand ∷ stands.rest) numbered.label defined.0 stands.cut defined.1 in
             let here : stage_of whole stand.piece.label ≡ Some defined.0 = ap (stage_of whole) numbered.label_is ∙ found in
             let same : Some (record { stage = defined.0; stream = stand.piece.uses }) ≡ Some spot =
-              ap (option_map (λ stage. record { stage = stage; stream = stand.piece.uses })) (sym here)
-              ∙ sym (spot_at whole (length (stages_of stands.done)) stand.piece Reference kind) ∙ stands.spot_is in
+            ap (option_map (λ stage. record { stage = stage; stream = stand.piece.uses })) (sym here)
+            ∙ sym (spot_at whole (length (stages_of stands.done)) stand.piece Reference kind) ∙ stands.spot_is in
             let spot_is : record { stage = defined.0; stream = stand.piece.uses } ≡ spot = cc in
             let stream : spot.stream ≡ stand.piece.uses = ap (λ (s : Spot). s.stream) (sym spot_is) in
             inr (record {
@@ -98,7 +98,7 @@ module _ (pipelines : List (List Piece)) (scanned : AreScanned pipelines) where
   apart : (at later : ℕ) (p q : Stand) (a b : Spot) → StandsFor whole at p a → StandsFor whole later q b → at < later → a.stage ≡ b.stage → a.stream ≡ b.stream → ⊥
   apart at later p q a b first second further stage stream =
       go (further_right first.done first.rest second.done second.rest p q (sym first.cut ∙ second.cut) (omega (arith, first.at_is, second.at_is, further)))
-         (told_of at p a first) (told_of later q b second)
+      (told_of at p a first) (told_of later q b second)
     where
       go : ((between : List Stand) × (second.done ≡ first.done ++ p ∷ between)) → Defines first.done p a ⊎ Refers whole first.done p a → Defines second.done q b ⊎ Refers whole second.done q b → ⊥
       go between (inl here) (inl there) =
@@ -116,6 +116,7 @@ module _ (pipelines : List (List Piece)) (scanned : AreScanned pipelines) where
     where
       order : (m n : ℕ) → (m ≡ n) ⊎ ((m < n) ⊎ (n < m))
       order m n = grind arith
+
       go : (at ≡ later) ⊎ ((at < later) ⊎ (later < at)) → at ≡ later
       go (inl same) = same
       go (inr (inl further)) = absurd (apart at later p q a b first second further stage stream)

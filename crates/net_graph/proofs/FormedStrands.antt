@@ -66,6 +66,7 @@ flag_is f n i past = go (order i n)
   where
     order : (a b : ℕ) → (a < b) ⊎ (b ≤ a)
     order a b = grind arith
+
     go : (i < n) ⊎ (n ≤ i) → flag_at (map f (range_with_len 0 n)) i ≡ f i
     go (inl below) = ap (λ o. unwrap_or o false) (numbered_flag f 0 n i i below (omega arith))
     go (inr above) = ap (λ o. unwrap_or o false) (slice_get_past (map f (range_with_len 0 n)) i (omega (arith, above, length-map-range_with_len f 0 n))) ∙ sym (past above)
