@@ -1,6 +1,6 @@
 -- What it means for each stand that a specification has no fault.
-use Rattle.std.proofs.Common.{◌≡◌, ℕ, zero, suc, ◌≤◌, ◌<◌, Bool, true, false, cond, ◌&&◌, ◌||◌, not, nat_lt, List, [], ◌∷◌, ◌++◌, refl, sym, ◌∙◌, ap, subst, arith, Option, Some, None, slice_get, length, map, append-nil, append_assoc}
-use Rattle.std.specs.Prelude.{filter, if◌then◌else◌, Ok, Err}
+use Rattle.std.proofs.Common.{◌≡◌, ℕ, zero, suc, ◌≤◌, ◌<◌, Bool, true, false, cond, ◌&&◌, ◌||◌, not, nat_lt, List, [], ◌∷◌, ◌++◌, refl, sym, ◌∙◌, ap, subst, arith, Some, slice_get, length, map, append-nil, append_assoc}
+use Rattle.std.specs.Prelude.{if◌then◌else◌, Ok}
 use Rattle.std.specs.List.{count_by}
 use Rattle.std.specs.Option.{option_and_then, option_map}
 use Rattle.std.specs.declared.result.Result.{Result}
@@ -18,7 +18,6 @@ use Rattle.net_graph.specs.Stands.{Stand, is_of_stage, is_stage, stage_of, stage
 use Rattle.net_graph.specs.Nets.{inputs_of, outputs_of}
 use Rattle.net_graph.specs.Faults.{faults_from, faults_of, faults_of_kind, is_past, kind_at, most_stages, most_streams, stage_faults, stream_faults}
 use Rattle.net_graph.proofs.FormedLists.{below_unless_not, last_counted, neither, nothing_joined}
-use Rattle.net_graph.proofs.FormedLabels.{stages_with, stages_without}
 
 -- each stand has no fault, after the stages before it
 good_from : (whole : List Stand) (outcomes : List (Result Kind KindFault)) (earlier between rest : List Stand) (stand : Stand)
@@ -30,7 +29,7 @@ good_from whole outcomes earlier [] rest stand good =
 good_from whole outcomes earlier (s ∷ between) rest stand good =
     ap (λ stages. faults_of_kind whole outcomes stages stand stand.piece.kind) (grown (is_stage s))
     ∙ good_from whole outcomes (if is_stage s then earlier ++ s ∷ [] else earlier) between rest stand
-        (nothing_joined (faults_of_kind whole outcomes earlier s s.piece.kind) _ good).1
+    (nothing_joined (faults_of_kind whole outcomes earlier s s.piece.kind) _ good).1
   where
     grown : (b : Bool) → earlier ++ cond b (s ∷ stages_of between) (stages_of between) ≡ (if b then earlier ++ s ∷ [] else earlier) ++ stages_of between
     grown true = sym (append_assoc earlier (s ∷ []) (stages_of between))
@@ -65,12 +64,8 @@ module _ (pipelines : List (List Piece)) (kinds : List Kind) (good : faults_of p
         ap (faults_of_kind whole outcomes (stages_of done) stand) (sym is)
         ∙ good_from whole outcomes [] done rest stand (ap (faults_from whole outcomes []) (sym cut) ∙ good)
 
-    -- there are no connectors
-    pub no_connector : stand.piece.kind ≡ Connector → ⊥
-    no_connector is = let none = good_at Connector is in cc
-
     -- there are at most so many stages
-    pub few_before : stand.piece.kind ≡ Stage → length (stages_of done) < 1024
+    few_before : stand.piece.kind ≡ Stage → length (stages_of done) < 1024
     few_before is =
         let none = (nothing_joined (stage_faults (length (stages_of done)) stand) _ (good_at Stage is)).0 in
         below (some_fault (nat_lt (length (stages_of done)) most_stages) (fault 16 stand.piece.place) none)
@@ -110,6 +105,7 @@ module _ (pipelines : List (List Piece)) (kinds : List Kind) (good : faults_of p
       stage_kind Stage is = refl
       stage_kind Reference is = cc
       stage_kind Connector is = cc
+
       go : (n : ℕ) → count_by is_stage whole ≡ n → length (stages_of whole) ≤ 1024
       go zero none = omega (arith, length-filter is_stage whole, none)
       go (suc n) some =

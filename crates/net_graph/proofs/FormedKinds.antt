@@ -1,10 +1,9 @@
 -- What a kind of stage that has been read may have: one strand, an output, and an input where it isn't first.
-use Rattle.std.proofs.Common.{◌≡◌, ◌⊎◌, inl, inr, ℕ, zero, suc, ◌≤◌, ◌<◌, Bool, true, false, cond, List, [], ◌∷◌, refl, sym, ◌∙◌, ap, subst, arith, Option, Some, None, slice_get, map}
-use Rattle.std.specs.Prelude.{codes, if◌then◌else◌, Ok, Err}
+use Rattle.std.proofs.Common.{◌≡◌, ◌⊎◌, inl, inr, ℕ, zero, suc, ◌<◌, Bool, true, false, List, [], ◌∷◌, refl, sym, ◌∙◌, ap, subst, arith, Option, Some, None, slice_get, map}
+use Rattle.std.specs.Prelude.{codes, if◌then◌else◌, Ok}
 use Rattle.std.specs.Str.{bytes_eq, str_to_ascii_lowercase}
-use Rattle.std.specs.declared.result.Result.{Result}
 use Rattle.pipe_model.specs.declared.kind.Kind.{Kind}
-use Rattle.pipe_model.specs.declared.kind.Kind.TheVariants.{ConsoleIn, ConsoleOut, Locate}
+use Rattle.pipe_model.specs.declared.kind.Kind.TheVariants.{Locate}
 use Rattle.pipe_model.specs.declared.kind.Range.{Range}
 use Rattle.pipe_model.specs.declared.net.Strand.{Strand}
 use Rattle.pipe_model.specs.Straight.{all_columns}
@@ -14,9 +13,8 @@ use Rattle.stage_syntax.specs.Arg.{ArgText}
 use Rattle.stage_syntax.specs.declared.part.Value.{Value}
 use Rattle.stage_syntax.specs.declared.part.Value.TheVariants as Read
 use Rattle.stage_syntax.specs.Kinds.{IsKind}
-use Rattle.stage_syntax.specs.Rows.{Row, Makes, console_kind, console_row, locate_kind, locate_row, row_of}
+use Rattle.stage_syntax.specs.Rows.{Row, Makes, console_kind, console_row, locate_kind, locate_row}
 use Rattle.stage_syntax.specs.Rows.Makes.{Ended, GoesOn}
-use Rattle.stage_syntax.specs.declared.fault.KindFault.{KindFault}
 use Rattle.net_graph.specs.Stands.{Stand}
 use Rattle.net_graph.specs.Nets.{AreOutcomes, inputs_of, outputs_of}
 
@@ -59,6 +57,7 @@ plain_kind name arg first kind is = go (two_rows (bytes_eq (str_to_ascii_lowerca
   where
     all : (all : List Value) × (is.row.kind all ≡ Some kind)
     all = made is.makes
+
     go : (is.row ≡ console_row first) ⊎ (is.row ≡ locate_row) → IsPlain first kind
     go (inl console) =
         let same : Some (console_kind first) ≡ Some kind = ap (λ (row : Row). row.kind all.0) (sym console) ∙ all.1 in

@@ -1,7 +1,6 @@
 -- What the labels' numbers tell of the stands so far.
-use Rattle.std.proofs.Common.{◌≡◌, ◌≢◌, ◌⊎◌, inl, inr, ℕ, zero, suc, ◌+◌, ◌≤◌, ◌<◌, Bool, true, false, cond, ◌&&◌, ◌==◌, List, [], ◌∷◌, ◌++◌, refl, sym, ◌∙◌, ap, subst, arith, Option, Some, None, slice_get, slice_set, length, length-append, length-set, map, append-nil, append_assoc}
-use Rattle.std.specs.Prelude.{filter}
-use Rattle.std.specs.List.{count_by, flat_map, position}
+use Rattle.std.proofs.Common.{◌≡◌, ◌≢◌, ◌⊎◌, inl, inr, ℕ, suc, ◌+◌, ◌≤◌, Bool, true, false, cond, ◌&&◌, List, [], ◌∷◌, ◌++◌, refl, sym, ◌∙◌, ap, subst, arith, Some, None, slice_get, slice_set, length, length-append, length-set, map, append-nil, append_assoc}
+use Rattle.std.specs.List.{count_by, position}
 use Rattle.std.specs.Option.{option_map_or}
 use Rattle.std.proofs.lemmas.List.Elements.{filter-append}
 use Rattle.std.proofs.lemmas.List.{map-append}
@@ -10,8 +9,8 @@ use Rattle.spec_scanner.specs.declared.piece.Piece.{Piece}
 use Rattle.spec_scanner.specs.declared.piece.PieceKind.{PieceKind}
 use Rattle.spec_scanner.specs.declared.piece.PieceKind.TheVariants.{Stage, Reference, Connector}
 use Rattle.net_graph.specs.Stands.{Stand, is_label, is_of_reference, is_of_stage, is_stage, refers_to, stage_of, stages_of, stands_in, stands_of}
-use Rattle.net_graph.specs.Numbered.{AreNumbered, AreScanned, IsNextUse, IsNumbered, pieces_of, used_again, uses_after}
-use Rattle.net_graph.proofs.FormedLists.{count_more, equal_or_not, get_below, get_more, get_set_other, get_set_same, not_second, same_number, test_apart, test_same}
+use Rattle.net_graph.specs.Numbered.{AreNumbered, AreScanned, IsNumbered, pieces_of, uses_after}
+use Rattle.net_graph.proofs.FormedLists.{count_more, equal_or_not, get_below, get_more, get_set_other, get_set_same, not_second, test_apart, test_same}
 use Rattle.net_graph.proofs.FormedPositions.{position_new, position_stays, position_still}
 
 -- One stand more
@@ -51,7 +50,7 @@ pub record Told (done : List Stand) (uses : List ℕ) : Type 0 where
   pub fresh : (l : ℕ) → length uses ≤ l → stage_of done (Some l) ≡ None
   pub unused : (l : ℕ) → length uses ≤ l → count_by (refers_to (Some l)) done ≡ 0
 
-pub told_nothing : Told [] []
+told_nothing : Told [] []
 told_nothing = record {
   counted = λ l c is. cc;
   defined = λ l c is. cc;
@@ -72,6 +71,7 @@ module _ (done : List Stand) (uses : List ℕ) (told : Told done uses) (stand : 
     where
       test : Stand → Bool
       test s = is_label (Some l) s.piece.label
+
       go : (b : Bool) → is_stage stand ≡ b → stage_of (done ++ stand ∷ []) (Some l) ≡ None
       go true is = ap (position (λ (s : Stand). is_label (Some l) s.piece.label)) (stages_with done [] stand is) ∙ position_still (λ (s : Stand). is_label (Some l) s.piece.label) (stages_of done) stand none other
       go false is = ap (position (λ (s : Stand). is_label (Some l) s.piece.label)) (stages_without done [] stand is ∙ append-nil (stages_of done)) ∙ none
@@ -106,7 +106,7 @@ module _ (done : List Stand) (uses : List ℕ) (told : Told done uses) (stand : 
     found l new =
         ap (position (λ (s : Stand). is_label (Some l) s.piece.label)) (stages_with done [] stand (stage_is stand kind))
         ∙ position_new (λ (s : Stand). is_label (Some l) s.piece.label) (stages_of done) stand [] (told.fresh l (omega (arith, new)))
-            (ap (is_label (Some l)) (label ∙ ap Some (sym new)) ∙ test_same l)
+        (ap (is_label (Some l)) (label ∙ ap Some (sym new)) ∙ test_same l)
 
   -- a later use is one more of its label
   told_used : stand.piece.kind ≡ Reference → (m c : ℕ) → stand.piece.label ≡ Some m → slice_get uses m ≡ Some c → Told (done ++ stand ∷ []) (slice_set uses m (suc c))
@@ -118,14 +118,17 @@ module _ (done : List Stand) (uses : List ℕ) (told : Told done uses) (stand : 
   } where
     unlike : (l : ℕ) → l ≢ m → refers_to (Some l) stand ≡ false
     unlike l apart = not_second (is_of_reference stand.piece.kind) (is_label (Some l) stand.piece.label) (other_label stand l m label apart)
+
     past : (l : ℕ) → length (slice_set uses m (suc c)) ≤ l → l ≢ m
     past l above e = absurd (omega (arith, above, e, length-set uses m (suc c), get_below uses m c here))
+
     each : (l d : ℕ) → slice_get (slice_set uses m (suc c)) l ≡ Some d → (l ≡ m) ⊎ (l ≢ m) → count_by (refers_to (Some l)) (done ++ stand ∷ []) ≡ d
     each l d is (inl same) =
         let new : Some (suc c) ≡ Some d = sym (get_set_same uses m (suc c) c here) ∙ ap (slice_get (slice_set uses m (suc c))) (sym same) ∙ is in
         let d_is : suc c ≡ d = cc in
         omega (arith, d_is, counted_with (refers_to (Some l)) done [] stand (reference_is stand l kind (label ∙ ap Some (sym same))), told.counted l c (ap (slice_get uses) same ∙ here))
     each l d is (inr apart) = not_counted l d (unlike l apart) (told.counted l d (sym (get_set_other uses m l (suc c) apart) ∙ is))
+
     old : (l d : ℕ) → slice_get (slice_set uses m (suc c)) l ≡ Some d → (l ≡ m) ⊎ (l ≢ m) → (k : ℕ) × (stage_of done (Some l) ≡ Some k)
     old l d is (inl same) = told.defined l c (ap (slice_get uses) same ∙ here)
     old l d is (inr apart) = told.defined l d (sym (get_set_other uses m l (suc c) apart) ∙ is)

@@ -1,8 +1,6 @@
 -- Plain facts of tests and lists, from which the net of a specification is proved to be well-formed.
-use Rattle.std.proofs.Common.{◌≡◌, ◌≢◌, ◌⊎◌, inl, inr, ℕ, zero, suc, ◌+◌, ◌≤◌, ◌<◌, Bool, true, false, cond, ◌&&◌, ◌||◌, not, nat_lt, ◌==◌, List, [], ◌∷◌, ◌++◌, refl, sym, ◌∙◌, ap, subst, arith, Option, Some, None, slice_get, slice_set, length}
-use Rattle.std.specs.Prelude.{filter}
-use Rattle.std.specs.List.{count_by, position, position_or_len}
-use Rattle.std.specs.Option.{option_map}
+use Rattle.std.proofs.Common.{◌≡◌, ◌≢◌, ◌⊎◌, inl, inr, ℕ, zero, suc, ◌+◌, ◌<◌, Bool, true, false, cond, ◌&&◌, ◌||◌, not, nat_lt, ◌==◌, List, [], ◌∷◌, ◌++◌, refl, sym, ◌∙◌, ap, arith, Some, slice_get, slice_set, length}
+use Rattle.std.specs.List.{count_by}
 use Rattle.std.proofs.lemmas.Bool.Decides.{nat_tests}
 use Rattle.std.proofs.lemmas.List.Sums.{sum_by-cons}
 
@@ -49,12 +47,7 @@ pub nothing_joined : {X : Type 0} (xs ys : List X) → xs ++ ys ≡ [] → (xs �
 nothing_joined [] ys p = (refl, p)
 nothing_joined (x ∷ xs) ys p = cc
 
--- what stands at a place, with more behind it
-pub get_front : {X : Type 0} (xs ys : List X) (k : ℕ) (x : X) → slice_get xs k ≡ Some x → slice_get (xs ++ ys) k ≡ Some x
-get_front [] ys k x is = cc
-get_front (z ∷ xs) ys zero x is = is
-get_front (z ∷ xs) ys (suc k) x is = get_front xs ys k x is
-
+-- what stands just after a list
 pub get_seam : {X : Type 0} (xs : List X) (y : X) (ys : List X) → slice_get (xs ++ y ∷ ys) (length xs) ≡ Some y
 get_seam [] y ys = refl
 get_seam (x ∷ xs) y ys = get_seam xs y ys
@@ -114,6 +107,7 @@ last_counted {X} p (x ∷ xs) c is = go (count_by p xs) refl (λ n some. last_co
         passes : (b : Bool) → p x ≡ b → b ≡ true
         passes true at = refl
         passes false at = absurd (omega (arith, sym is ∙ count_more p x xs, none, ap {B = ℕ} (λ b. cond b 1 0) at))
+
         nothing : (b : Bool) → p x ≡ b → 0 ≡ c
         nothing true at = omega (arith, sym is ∙ count_more p x xs, none, ap {B = ℕ} (λ b. cond b 1 0) at)
         nothing false at = absurd (omega (arith, sym is ∙ count_more p x xs, none, ap {B = ℕ} (λ b. cond b 1 0) at))

@@ -1,5 +1,5 @@
 -- The first place at which a test passes, in a list and in one that goes on.
-use Rattle.std.proofs.Common.{◌≡◌, ℕ, zero, suc, ◌+◌, ◌≤◌, ◌<◌, Bool, true, false, cond, not, nat_lt, List, [], ◌∷◌, ◌++◌, refl, sym, ◌∙◌, ap, subst, arith, Option, Some, None, slice_get, length}
+use Rattle.std.proofs.Common.{◌≡◌, ℕ, suc, ◌+◌, Bool, true, false, cond, not, nat_lt, List, [], ◌∷◌, ◌++◌, refl, sym, ◌∙◌, ap, subst, arith, Option, Some, None, slice_get, length}
 use Rattle.std.specs.List.{position, position_or_len}
 use Rattle.std.specs.Option.{option_map}
 use Rattle.std.proofs.lemmas.Bool.Decides.{nat_tests}
@@ -11,7 +11,7 @@ next_place : (b : Bool) (k : ℕ) → cond b (Some (1 + k)) None ≡ option_map 
 next_place true k = ap Some (omega arith)
 next_place false k = refl
 
-pub position_more : {X : Type 0} (p : X → Bool) (x : X) (xs : List X) → position p (x ∷ xs) ≡ cond (p x) (Some 0) (option_map suc (position p xs))
+position_more : {X : Type 0} (p : X → Bool) (x : X) (xs : List X) → position p (x ∷ xs) ≡ cond (p x) (Some 0) (option_map suc (position p xs))
 position_more p x xs = go (p x) refl
   where
     go : (b : Bool) → p x ≡ b → cond (nat_lt (cond (not (p x)) (1 + position_or_len p xs) 0) (suc (length xs))) (Some (cond (not (p x)) (1 + position_or_len p xs) 0)) None ≡ cond (p x) (Some 0) (option_map suc (position p xs))
@@ -22,7 +22,7 @@ position_more p x xs = go (p x) refl
     go false is = rw is (ap (λ b. cond b (Some (1 + position_or_len p xs)) None) (next_below (position_or_len p xs) (length xs)) ∙ next_place (nat_lt (position_or_len p xs) (length xs)) (position_or_len p xs))
 
 -- the number of what is found one place further on
-pub one_less : (b : Bool) (o : Option ℕ) (k : ℕ) → b ≡ false → cond b (Some 0) (option_map suc o) ≡ Some k → (j : ℕ) × (o ≡ Some j) × (k ≡ suc j)
+one_less : (b : Bool) (o : Option ℕ) (k : ℕ) → b ≡ false → cond b (Some 0) (option_map suc o) ≡ Some k → (j : ℕ) × (o ≡ Some j) × (k ≡ suc j)
 one_less true o k is found = cc
 one_less false None k is found = cc
 one_less false (Some j) k is found = (j, refl, cc)

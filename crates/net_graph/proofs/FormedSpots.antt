@@ -1,5 +1,5 @@
 -- The streams that stands are for: no two stand for one stream.
-use Rattle.std.proofs.Common.{◌≡◌, ◌⊎◌, inl, inr, ℕ, zero, suc, ◌+◌, ◌≤◌, ◌<◌, Bool, true, false, List, [], ◌∷◌, ◌++◌, refl, sym, ◌∙◌, ap, subst, arith, Option, Some, None, slice_get, length, length-append}
+use Rattle.std.proofs.Common.{◌≡◌, ◌⊎◌, inl, inr, ℕ, suc, ◌<◌, true, List, ◌∷◌, ◌++◌, refl, sym, ◌∙◌, ap, subst, arith, Option, Some, None, length, length-append}
 use Rattle.std.specs.List.{count_by, position}
 use Rattle.std.specs.Option.{option_map}
 use Rattle.std.proofs.lemmas.List.Elements.{filter-append}
@@ -7,7 +7,7 @@ use Rattle.spec_scanner.specs.declared.piece.Piece.{Piece}
 use Rattle.spec_scanner.specs.declared.piece.PieceKind.{PieceKind}
 use Rattle.spec_scanner.specs.declared.piece.PieceKind.TheVariants.{Stage, Reference, Connector}
 use Rattle.net_graph.specs.Stands.{Spot, Stand, is_label, is_stage, refers_to, spot_of, stage_of, stages_of, stands_of}
-use Rattle.net_graph.specs.Numbered.{AreScanned, IsNextUse, IsNumbered}
+use Rattle.net_graph.specs.Numbered.{AreScanned, IsNumbered}
 use Rattle.net_graph.proofs.FormedLists.{further_right, same_number}
 use Rattle.net_graph.proofs.FormedPositions.{position_finds, position_stays}
 use Rattle.net_graph.proofs.FormedLabels.{Told, counted_with, numbered_at, reference_is, stage_is, stages_with}
@@ -66,8 +66,8 @@ module _ (pipelines : List (List Piece)) (scanned : AreScanned pipelines) where
             let found = found_whole stands.done (stand ∷ stands.rest) numbered.label defined.0 stands.cut defined.1 in
             let here : stage_of whole stand.piece.label ≡ Some defined.0 = ap (stage_of whole) numbered.label_is ∙ found in
             let same : Some (record { stage = defined.0; stream = stand.piece.uses }) ≡ Some spot =
-              ap (option_map (λ stage. record { stage = stage; stream = stand.piece.uses })) (sym here)
-              ∙ sym (spot_at whole (length (stages_of stands.done)) stand.piece Reference kind) ∙ stands.spot_is in
+            ap (option_map (λ stage. record { stage = stage; stream = stand.piece.uses })) (sym here)
+            ∙ sym (spot_at whole (length (stages_of stands.done)) stand.piece Reference kind) ∙ stands.spot_is in
             let spot_is : record { stage = defined.0; stream = stand.piece.uses } ≡ spot = cc in
             let stream : spot.stream ≡ stand.piece.uses = ap (λ (s : Spot). s.stream) (sym spot_is) in
             inr (record {
@@ -98,7 +98,7 @@ module _ (pipelines : List (List Piece)) (scanned : AreScanned pipelines) where
   apart : (at later : ℕ) (p q : Stand) (a b : Spot) → StandsFor whole at p a → StandsFor whole later q b → at < later → a.stage ≡ b.stage → a.stream ≡ b.stream → ⊥
   apart at later p q a b first second further stage stream =
       go (further_right first.done first.rest second.done second.rest p q (sym first.cut ∙ second.cut) (omega (arith, first.at_is, second.at_is, further)))
-         (told_of at p a first) (told_of later q b second)
+      (told_of at p a first) (told_of later q b second)
     where
       go : ((between : List Stand) × (second.done ≡ first.done ++ p ∷ between)) → Defines first.done p a ⊎ Refers whole first.done p a → Defines second.done q b ⊎ Refers whole second.done q b → ⊥
       go between (inl here) (inl there) =
@@ -116,6 +116,7 @@ module _ (pipelines : List (List Piece)) (scanned : AreScanned pipelines) where
     where
       order : (m n : ℕ) → (m ≡ n) ⊎ ((m < n) ⊎ (n < m))
       order m n = grind arith
+
       go : (at ≡ later) ⊎ ((at < later) ⊎ (later < at)) → at ≡ later
       go (inl same) = same
       go (inr (inl further)) = absurd (apart at later p q a b first second further stage stream)
