@@ -50,7 +50,7 @@ pub record Told (done : List Stand) (uses : List ℕ) : Type 0 where
   pub fresh : (l : ℕ) → length uses ≤ l → stage_of done (Some l) ≡ None
   pub unused : (l : ℕ) → length uses ≤ l → count_by (refers_to (Some l)) done ≡ 0
 
-told_nothing : Told [] []
+pub told_nothing : Told [] []
 told_nothing = record {
   counted = λ l c is. cc;
   defined = λ l c is. cc;

@@ -17,3 +17,5 @@ pub mod Searched
 pub mod Stages
 pub mod Usages
 pub mod Walks
+pub mod Tables
+pub mod Adding

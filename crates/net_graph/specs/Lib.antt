@@ -4,6 +4,7 @@ pub mod Flags
 pub mod Joins
 pub mod Nets
 pub mod Numbered
+pub mod Outcomes
 pub mod Searches
 pub mod Stands
 pub mod Strands

@@ -1,4 +1,4 @@
-ghost use Rattle.std.specs.Prelude.{◌≡◌, ◌<◌, ◌≤◌, ◌++◌, None, IfOk, OnOk};
+ghost use Rattle.std.specs.Prelude.{◌≡◌, ◌<◌, ◌^◌, ◌++◌, None, IfOk, OnOk};
 ghost use Rattle.net_graph.specs.Joins.{AreSmall, counted_past, link_by, links_by, links_by_all, spot_by};
 ghost use Rattle.net_graph.specs.Nets.{counted, counted_all};
 
@@ -37,8 +37,8 @@ fn spot_of(table: &[usize], before: usize, piece: &Piece) -> Option<Spot>
 }
 
 // How many stages are defined after a piece, where so many are before it.
-fn counted(before: usize, piece: &Piece) -> usize
-    requires { before < 65536 }
+pub(crate) fn counted(before: usize, piece: &Piece) -> usize
+    requires { before < 2 ^ 63 }
     ensures { result ≡ counted before piece.now }
 {
     match piece.kind {

@@ -5,10 +5,12 @@ mod assembly;
 mod fault;
 mod flags;
 mod joins;
+mod outcomes;
 mod pieces;
 mod places;
 mod search;
 mod strands;
+mod table;
 mod uses;
 
 pub use fault::NetFault;
