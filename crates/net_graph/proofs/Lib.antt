@@ -19,3 +19,4 @@ pub mod Usages
 pub mod Walks
 pub mod Tables
 pub mod Adding
+pub mod Feeds

@@ -4,6 +4,7 @@
 mod assembly;
 mod fault;
 mod flags;
+mod input;
 mod joins;
 mod outcomes;
 mod pieces;
@@ -14,3 +15,4 @@ mod table;
 mod uses;
 
 pub use fault::NetFault;
+pub use input::feed;
