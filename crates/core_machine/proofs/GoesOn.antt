@@ -1,5 +1,5 @@
 -- A strand that is told an event goes on in place: its turn and its coming home in one.
-use Rattle.std.proofs.Common.{◌≡◌, ℕ, zero, suc, ◌+◌, ◌<◌, Bool, true, false, cond, ◌||◌, not, ◌==◌, List, [], ◌∷◌, ◌++◌, length, refl, sym, ◌∙◌, ap, subst, arith, Option, Some, None, slice_get, slice_set}
+use Rattle.std.proofs.Common.{◌≡◌, ℕ, zero, suc, ◌<◌, Bool, true, false, cond, ◌||◌, not, List, [], ◌∷◌, ◌++◌, length, refl, sym, ◌∙◌, ap, subst, Option, Some, None, slice_get, slice_set}
 use Rattle.std.specs.Prelude.{take}
 use Rattle.pipe_model.specs.declared.net.Net.{Net}
 use Rattle.pipe_model.specs.declared.net.Strand.{Strand}
@@ -11,7 +11,6 @@ use Rattle.pipe_model.specs.State.{Who, past}
 use Rattle.pipe_model.specs.Licence.{licence}
 use Rattle.pipe_model.specs.Play.{play}
 use Rattle.record_pool.specs.declared.pool.Held.{Held}
-use Rattle.record_pool.specs.Places.{bytes_at}
 use Rattle.stage_steps.specs.Coroutine.{told, bytes_with, CanResume, Resumes}
 use Rattle.run_desk.specs.Desk.{DeskState}
 use Rattle.run_desk.specs.Moves.{made, pool_moved, sight_through, CanCome}

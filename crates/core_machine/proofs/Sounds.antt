@@ -1,5 +1,5 @@
 -- A sound core stays sound through a turn and a coming home.
-use Rattle.std.proofs.Common.{◌≡◌, ◌≢◌, inl, inr, ℕ, zero, suc, ◌+◌, ◌<◌, Bool, true, false, cond, ◌||◌, ◌==◌, List, [], ◌∷◌, ◌++◌, length, refl, sym, ◌∙◌, ap, subst, arith, Option, Some, None, slice_get, slice_set, length-set, is_some}
+use Rattle.std.proofs.Common.{◌≡◌, ◌≢◌, inl, inr, ℕ, zero, suc, ◌<◌, Bool, true, false, cond, ◌||◌, ◌==◌, List, [], ◌∷◌, ◌++◌, length, refl, sym, ◌∙◌, ap, subst, arith, Option, Some, None, slice_get, slice_set, length-set, is_some}
 use Rattle.std.specs.Prelude.{take}
 use Rattle.std.specs.Option.{option_map, option_map_or}
 use Rattle.pipe_model.specs.declared.net.Net.{Net}
@@ -19,7 +19,7 @@ use Rattle.record_pool.specs.declared.pool.Held.{Held}
 use Rattle.record_pool.specs.Places.{bytes_at}
 use Rattle.stage_steps.specs.Coroutine.{told, bytes_with, meaning, last_seen}
 use Rattle.run_desk.specs.Desk.{DeskState}
-use Rattle.run_desk.specs.Kept.{left_out, left_in, asked}
+use Rattle.run_desk.specs.Kept.{left_out, left_in}
 use Rattle.run_desk.specs.Moves.{made, pool_moved, CanMove, CanCome, hand_on, sight_through}
 use Rattle.connectors.specs.WireState.{IsHeldIn}
 use Rattle.run_desk.specs.Order.{IsRun}
@@ -36,12 +36,12 @@ use Rattle.confluence_laws.proofs.Braids.{play_reached}
 use Rattle.confluence_laws.proofs.LeftOut.{licensed_too}
 use Rattle.core_machine.specs.declared.actor.Actor.{Actor}
 use Rattle.core_machine.specs.Actors.{is_end, come_back, bare, bytes_told}
-use Rattle.core_machine.specs.Answered.{LeastReady, Shows}
+use Rattle.core_machine.specs.Answered.{LeastReady, LeastEvent, Shows}
 use Rattle.core_machine.specs.Jobs.{JobStands, DoneStands}
 use Rattle.core_machine.specs.Machine.{is_of, is_at, left_by, without, is_among, looks_at, IsLawful}
 use Rattle.core_machine.specs.Members.{Members}
 use Rattle.core_machine.specs.Sound.{IsLast, IsActor, AreActors, IsSound}
-use Rattle.core_machine.specs.Woken.{IsCovering, AsksEarly, AreInside, HasReturned, LeastAwake}
+use Rattle.core_machine.specs.Woken.{IsCovering, AsksEarly, AreInside, HasReturned, LeastAwake, LeastEventAwake}
 use Rattle.core_machine.proofs.Away.{left_turned, last_turned, apart_turned, left_home, apart_home, last_home, among_last, among_left, one_strand, fewer_out}
 use Rattle.core_machine.proofs.Plays.{get_set_same, get_set_other, get_take, end_length, looks_of, looks_same, looks_here, play_one, legal_one, play_length, end_seen, shows_bare, early_on, links_inside}
 
@@ -88,9 +88,13 @@ module _ {S : Type 0} (stands : S → Strand → List Event → Type 0) (is_look
   pub seen_back : (s : Who) (k : ℕ) (e : Event) → licence net st left s k ≡ Some e → Pure.seen_at d s k ≡ Some (told e)
   seen_back s k e is = desk_sees s k ∙ ap (option_map told) is
 
-  pub least_is : (looking : List Bool) (b : Bool) (r : Option (ℕ × ℕ)) → LeastAwake d ready r → LeastReady (record { net = net; budget = budget; looking = looking; journal = journal; out = out; is_broken = b }) r
+  least_is : (looking : List Bool) (b : Bool) (r : Option (ℕ × ℕ)) → LeastAwake d ready r → LeastReady (record { net = net; budget = budget; looking = looking; journal = journal; out = out; is_broken = b }) r
   least_is looking b None is = λ s k. none_is s k (is sound.covers s k)
   least_is looking b (Some r) is = (sym (ready_is r.0 r.1) ∙ is.0.0, λ k p. none_is r.0 k (is.0.1 k p), λ t k p. none_is t k (is.1 sound.covers t k p))
+
+  pub event_is : (looking : List Bool) (b : Bool) (r : Option (ℕ × ℕ × Seen)) → LeastEventAwake d ready r → LeastEvent (record { net = net; budget = budget; looking = looking; journal = journal; out = out; is_broken = b }) r
+  event_is looking b None is = least_is looking b None is
+  event_is looking b (Some r) is = (least_is looking b (Some (r.0, r.1)) is.0, some_is r.0 r.1 r.2 is.1)
 
   pub asks_early : AsksEarly d
   asks_early = early_on net st sound.formed own (bytes_at places) left d sound.run.kept

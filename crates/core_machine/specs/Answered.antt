@@ -3,13 +3,14 @@ use Rattle.std.specs.Prelude.{◌≡◌, ℕ, ◌<◌, Bool, true, false, List, 
 use Rattle.pipe_model.specs.declared.net.Strand.{Strand}
 use Rattle.pipe_model.specs.declared.step.Entry.{Entry}
 use Rattle.pipe_model.specs.declared.step.Out.TheVariants.{Fresh}
+use Rattle.pipe_model.specs.declared.step.Seen.{Seen}
 use Rattle.pipe_model.specs.declared.step.Want.{Want as Asked}
 use Rattle.pipe_model.specs.declared.step.Want.TheVariants as Ask
 use Rattle.pipe_model.specs.Event.{Event, Want, has_ended, code_of}
 use Rattle.pipe_model.specs.Event.Event.{Saw}
 use Rattle.pipe_model.specs.Event.Want.{Write}
 use Rattle.pipe_model.specs.State.{Who, past}
-use Rattle.stage_steps.specs.Coroutine.{meaning, last_seen, bytes_with}
+use Rattle.stage_steps.specs.Coroutine.{told, meaning, last_seen, bytes_with}
 use Rattle.core_machine.specs.declared.job.Turned.{Turned}
 use Rattle.core_machine.specs.declared.job.Turned.TheVariants.{Broken, NotReady, Spent, Room, Work}
 use Rattle.core_machine.specs.declared.job.RunEnd.{RunEnd}
@@ -42,6 +43,11 @@ LeastReady m (Some r) =
     (is_some (licence_of m r.0 r.1) ≡ true)
     × ((k : ℕ) → k < r.1 → licence_of m r.0 k ≡ None)
     × ((t k : ℕ) → t < r.0 → licence_of m t k ≡ None)
+
+-- the same, with what the strand is told of the event
+abbrev pub LeastEvent : Machine → Option (ℕ × ℕ × Seen) → Type 0
+LeastEvent m None = LeastReady m None
+LeastEvent m (Some r) = LeastReady m (Some (r.0, r.1)) × ((e : Event) × (licence_of m r.0 r.1 ≡ Some e) × (told e ≡ r.2))
 
 -- the least stream of a strand on which it may have an event, or there is none
 abbrev pub LeastStream : Machine → Who → Option ℕ → Type 0

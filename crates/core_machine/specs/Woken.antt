@@ -30,6 +30,16 @@ abbrev pub LeastAwake : DeskState → Members → Option (ℕ × ℕ) → Type 0
 LeastAwake d set None = IsCovering d set → (s k : ℕ) → Pure.seen_at d s k ≡ None
 LeastAwake d set (Some r) = Pure.IsFirst d r.0 (Some r.1) × (IsCovering d set → (t k : ℕ) → t < r.0 → Pure.seen_at d t k ≡ None)
 
+-- the strand and the stream of an event
+abbrev pub place_of : Option (ℕ × ℕ × Seen) → Option (ℕ × ℕ)
+place_of None = None
+place_of (Some r) = Some (r.0, r.1)
+
+-- the same, with what the strand would be told there
+abbrev pub LeastEventAwake : DeskState → Members → Option (ℕ × ℕ × Seen) → Type 0
+LeastEventAwake d set None = LeastAwake d set None
+LeastEventAwake d set (Some r) = LeastAwake d set (Some (r.0, r.1)) × (Pure.seen_at d r.0 r.1 ≡ Some r.2)
+
 -- the strand came home with this want, or had ended and changed nothing
 abbrev pub HasReturned : DeskState → List (Option Held) → ℕ → Want → DeskState → List (Option Held) → Type 0
 HasReturned d places s w new after =

@@ -42,6 +42,14 @@ impl Bits {
         }
     }
 
+    // A word that is there.
+    fn word_in(&self, k: usize) -> u64
+        requires { k < length self.now }
+        ensures { result ≡ word_at self.now k }
+    {
+        self.words[k]
+    }
+
     /// Puts a number in.
     pub fn insert(&mut self, s: u32)
         requires { s / 64 < length self.old }
@@ -51,7 +59,7 @@ impl Bits {
         ensures size { length self.new ≡ length self.old }
     {
         let k = (s / 64) as usize;
-        let word = self.word(k);
+        let word = self.word_in(k);
         self.words[k] = word | bit(s % 64);
     }
 
@@ -64,7 +72,7 @@ impl Bits {
         ensures size { length self.new ≡ length self.old }
     {
         let k = (s / 64) as usize;
-        let word = self.word(k);
+        let word = self.word_in(k);
         self.words[k] = word & !bit(s % 64);
     }
 

@@ -12,7 +12,7 @@ impl<S: Stage> Core<S> {
     ghost use Rattle.pipe_model.specs.Event.{Event};
     ghost use Rattle.stage_steps.specs.Coroutine.{told};
     ghost use Rattle.core_machine.specs.Machine.{licence_of, IsLawful};
-    ghost use Rattle.core_machine.specs.Answered.{LeastReady, Stepped, HasRun, HasBroken, Ends};
+    ghost use Rattle.core_machine.specs.Answered.{LeastEvent, Stepped, HasRun, HasBroken, Ends};
 
     /// Makes the least event that may be, of the least strand on its least stream, until there is none or the journal
     /// has as many entries as the budget allows. The gate is entered before the work on each record that a strand saw.
@@ -29,7 +29,7 @@ impl<S: Stage> Core<S> {
                 return Ok(RunEnd::Complete);
             }
         }
-        match self.least_ready() {
+        match self.least_event() {
             None => Ok(RunEnd::Complete),
             Some(_) => Ok(RunEnd::Spent),
         }
@@ -44,10 +44,7 @@ impl<S: Stage> Core<S> {
         ensures lacks { OnErr result (HasBroken self.old self.new) }
         ensures lawful { IsLawful self.new }
     {
-        let Some((strand, stream)) = self.least_ready() else {
-            return Ok(false);
-        };
-        let Some(seen) = self.desk.seen_at(strand, stream) else {
+        let Some((strand, stream, seen)) = self.least_event() else {
             return Ok(false);
         };
         if let Seen::Saw(_) = seen {
@@ -100,10 +97,11 @@ impl<S: Stage> Core<S> {
         Ok(())
     }
 
-    // The least strand that may have an event, and its least stream.
-    fn least_ready(&mut self) -> Option<(u32, u16)>
+    // The least strand that may have an event, its least stream, and what it is told there.
+    #[inline(always)]
+    fn least_event(&mut self) -> Option<(u32, u16, Seen)>
         ensures same { self.new ≡ self.old }
-        ensures least { LeastReady self.old result }
+        ensures least { LeastEvent self.old result }
         ensures lawful { IsLawful self.new }
     {
         least_awake(&mut self.ready, &self.desk)

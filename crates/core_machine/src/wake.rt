@@ -8,7 +8,7 @@ ghost use Rattle.run_desk.specs.Kept.{IsKept, link_through};
 ghost use Rattle.run_desk.specs.Moves.{CanMove, CanCome, HasCome, made, pool_moved, ends};
 ghost use Rattle.run_desk.specs.Pure as Pure;
 ghost use Rattle.core_machine.specs.Members.{is_member};
-ghost use Rattle.core_machine.specs.Woken.{IsCovering, AsksEarly, AreInside, HasReturned, LeastAwake, IsLarger, IsWhole, IsProducerIn, IsConsumerIn, OfDoors, AreEndsIn, IsReaderIn, IsStageIn, primes, commits};
+ghost use Rattle.core_machine.specs.Woken.{IsCovering, AsksEarly, AreInside, HasReturned, LeastEventAwake, IsLarger, IsWhole, IsProducerIn, IsConsumerIn, OfDoors, AreEndsIn, IsReaderIn, IsStageIn, primes, commits};
 
 use crate::ready::Ready;
 use pipe_model::{Link, NoMemory, Seen, Want};
@@ -16,6 +16,7 @@ use record_pool::Pool;
 use run_desk::Desk;
 
 /// Makes on the desk what a strand was told, and wakes whom it may concern.
+#[inline(always)]
 pub(crate) fn move_out(
     desk: &mut Desk,
     pool: &mut Pool,
@@ -34,13 +35,15 @@ pub(crate) fn move_out(
         IsWellFormed net → IsKept net texts st left desk.old → AsksEarly desk.old → IsCovering desk.old ready.old → IsCovering desk.new ready.new }
 {
     let before = settled_before(desk, strand, primes(seen), ends(seen));
-    wake_ends(ready, desk, links, strand, seen);
-    desk.make(pool, strand, seen);
+    let door = desk.told_door(strand, seen);
+    wake_ends(ready, desk, links, strand, seen, door);
+    desk.make_through(pool, strand, seen, door);
     wake_settled(ready, desk, strand, before);
 }
 
 /// Brings a strand home with what it wants next, and wakes it and whom that may concern. Out of memory leaves the desk
 /// and the pool as they were.
+#[inline(always)]
 pub(crate) fn move_home(
     desk: &mut Desk,
     pool: &mut Pool,
@@ -68,6 +71,7 @@ pub(crate) fn move_home(
 
 /// Brings a strand home with what it wants next, or, where it has ended, with nothing. Out of memory leaves the desk and
 /// the pool as they were.
+#[inline(always)]
 pub(crate) fn bring_home(
     desk: &mut Desk,
     pool: &mut Pool,
@@ -92,12 +96,13 @@ pub(crate) fn bring_home(
     move_home(desk, pool, ready, links, strand, want)
 }
 
-/// The least strand that may go on, and its least stream. Who is found not to is taken out.
-pub(crate) fn least_awake(ready: &mut Ready, desk: &Desk) -> Option<(u32, u16)>
+/// The least strand that may go on, its least stream, and what it would be told there. Who is found not to is taken out.
+#[inline(always)]
+pub(crate) fn least_awake(ready: &mut Ready, desk: &Desk) -> Option<(u32, u16, Seen)>
     ensures size { ready.new.size ≡ ready.old.size }
     ensures inside { IfSome result (λ r. r.0 < ready.old.size) }
     ensures covers { IsCovering desk.now ready.old → IsCovering desk.now ready.new }
-    ensures least { LeastAwake desk.now ready.old result }
+    ensures least { LeastEventAwake desk.now ready.old result }
 {
     let size = ready.size();
     let mut from = 0;
@@ -105,8 +110,8 @@ pub(crate) fn least_awake(ready: &mut Ready, desk: &Desk) -> Option<(u32, u16)>
         let Some(strand) = ready.least() else {
             return None;
         };
-        if let Some(stream) = desk.ready_stream(strand) {
-            return Some((strand, stream));
+        if let Some((stream, seen)) = desk.ready_event(strand) {
+            return Some((strand, stream, seen));
         }
         ready.remove(strand);
         from = strand + 1;
@@ -152,7 +157,8 @@ fn settled_before(desk: &Desk, strand: u32, primes: bool, fills: bool) -> Settle
     }
 }
 
-// Wakes the strands for which the event settled something.
+// Wakes the strands for which the event settled something. Most events can settle nothing.
+#[inline(always)]
 fn wake_settled(ready: &mut Ready, desk: &Desk, strand: u32, before: Settled)
     requires { strand < ready.old.size }
     ensures larger { IsLarger ready.old ready.new }
@@ -160,9 +166,20 @@ fn wake_settled(ready: &mut Ready, desk: &Desk, strand: u32, before: Settled)
     ensures low { before.low ≡ false → is_some (Pure.level_code desk.now (negsuc 0)) ≡ true → IsWhole ready.new }
     ensures zero { before.zero ≡ false → is_some (Pure.level_code desk.now (pos 0)) ≡ true → IsWhole ready.new }
 {
-    if before.primer && before.low && before.zero {
-        return;
+    if !(before.primer && before.low && before.zero) {
+        wake_newly(ready, desk, strand, before);
     }
+}
+
+// The same, where something wasn't settled before.
+#[inline(never)]
+fn wake_newly(ready: &mut Ready, desk: &Desk, strand: u32, before: Settled)
+    requires { strand < ready.old.size }
+    ensures larger { IsLarger ready.old ready.new }
+    ensures stage { before.primer ≡ false → is_some (Pure.primed_of (slice_get desk.now.seats strand)) ≡ true → IsStageIn desk.now strand ready.new }
+    ensures low { before.low ≡ false → is_some (Pure.level_code desk.now (negsuc 0)) ≡ true → IsWhole ready.new }
+    ensures zero { before.zero ≡ false → is_some (Pure.level_code desk.now (pos 0)) ≡ true → IsWhole ready.new }
+{
     let primed = !before.primer && desk.is_primer(strand);
     let low = !before.low && desk.level_code(-1).is_some();
     let zero = !before.zero && desk.level_code(0).is_some();
@@ -208,14 +225,22 @@ fn wake_followers(ready: &mut Ready, desk: &Desk, strand: u32)
 
 // Wakes the strands at the other ends of the links that what was told concerns: of a record that was taken its
 // producer, of one that was put its consumer, and at an end all.
-fn wake_ends(ready: &mut Ready, desk: &Desk, links: &[Link], strand: u32, seen: Seen)
-    requires { AreInside links.now ready.old.size }
+fn wake_ends(
+    ready: &mut Ready,
+    desk: &Desk,
+    links: &[Link],
+    strand: u32,
+    seen: Seen,
+    door: Option<u32>,
+)
+    requires links { AreInside links.now ready.old.size }
+    requires door { door ≡ Pure.told_door desk.now strand seen }
     ensures larger { IsLarger ready.old ready.new }
     ensures ends { AreEndsIn desk.now links.now strand seen ready.new }
 {
     match seen {
-        Seen::Took(i) => wake_producer(ready, links, desk.in_door(strand, i)),
-        Seen::Put(o) => wake_consumer(ready, links, desk.out_door(strand, o)),
+        Seen::Took(_) => wake_producer(ready, links, door),
+        Seen::Put(_) => wake_consumer(ready, links, door),
         Seen::Ended(_) => {
             wake_consumers(ready, links, desk.outputs(strand));
             wake_producers(ready, links, desk.inputs(strand));
@@ -225,6 +250,7 @@ fn wake_ends(ready: &mut Ready, desk: &Desk, links: &[Link], strand: u32, seen: 
 }
 
 // Wakes a strand that comes home, and the one that may see what it writes.
+#[inline(always)]
 fn wake_reader(ready: &mut Ready, desk: &Desk, links: &[Link], strand: u32, want: &Want)
     requires strand { strand < ready.old.size }
     requires links { AreInside links.now ready.old.size }
@@ -232,9 +258,20 @@ fn wake_reader(ready: &mut Ready, desk: &Desk, links: &[Link], strand: u32, want
     ensures here { is_member ready.new strand ≡ true }
     ensures reader { IsReaderIn desk.now links.now strand want.now ready.new }
 {
-    ready.insert(strand);
+    wake(ready, strand);
     if let Want::Write(o, _) = want {
         wake_consumer(ready, links, desk.out_door(strand, *o));
+    }
+}
+
+// Wakes a strand that is mostly in the set already.
+fn wake(ready: &mut Ready, strand: u32)
+    requires { strand < ready.old.size }
+    ensures larger { IsLarger ready.old ready.new }
+    ensures here { is_member ready.new strand ≡ true }
+{
+    if !ready.has(strand) {
+        ready.insert(strand);
     }
 }
 

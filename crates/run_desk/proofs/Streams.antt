@@ -1,7 +1,6 @@
 -- On which streams a strand may go on.
-use Rattle.std.proofs.Common.{◌≡◌, ◌≢◌, ◌⊎◌, inl, inr, ℕ, zero, suc, ◌+◌, ◌≤◌, ◌<◌, Bool, true, false, cond, ◌&&◌, ◌==◌, List, [], ◌∷◌, length, refl, sym, ◌∙◌, ap, arith, Option, Some, None, is_some, slice_get}
+use Rattle.std.proofs.Common.{◌≡◌, ◌≢◌, ◌⊎◌, inl, inr, ℕ, zero, suc, ◌+◌, ◌≤◌, ◌<◌, Bool, true, false, cond, ◌&&◌, ◌==◌, List, [], ◌∷◌, length, refl, ◌∙◌, ap, arith, Option, None, slice_get}
 use Rattle.confluence_laws.proofs.Basics.{equal_or_not, test_apart}
-use Rattle.pipe_model.specs.declared.step.Seen.TheVariants as Told
 use Rattle.run_desk.specs.declared.seat.Ask.{Ask}
 use Rattle.run_desk.specs.declared.seat.Ask.TheVariants as Now
 use Rattle.run_desk.specs.Desk.{DeskState}
@@ -12,25 +11,7 @@ beyond [] j p = refl
 beyond (x ∷ xs) zero p = absurd (omega arith)
 beyond (x ∷ xs) (suc j) p = beyond xs j (omega (arith, p))
 
-if_not : {A : Type 0} (b : Bool) (x : Option A) → b ≡ false → cond b x None ≡ None
-if_not b x e = ap (λ z. cond z x None) e
-
--- a strand that asks for one stream goes on on no other
-elsewhere : (d : DeskState) (s j : ℕ) (a : Ask) → Pure.is_wide a ≡ false → j ≢ Pure.stream_of a → Pure.seen_by d s j a ≡ None
-elsewhere d s j Now.Nothing w p = refl
-elsewhere d s j (Now.Commit l) w p = if_not (j == 0) (Pure.up_seen l (Pure.level_code d l)) (test_apart j 0 p)
-elsewhere d s j (Now.Read i) w p = if_not (j == i) (Pure.read_seen i (Pure.shows (Pure.wire_in d s i)) (Pure.is_over (Pure.wire_in d s i))) (test_apart j i p)
-elsewhere d s j Now.Any w p = cc
-elsewhere d s j Now.Gate w p = cc
-elsewhere d s j (Now.Take i) w p = if_not (j == i) (Some (Told.Took i)) (test_apart j i p)
-elsewhere d s j (Now.Write o) w p = if_not (j == o) (Pure.write_seen o (Pure.can_put (Pure.wire_out d s o)) (Pure.can_refuse (Pure.wire_out d s o))) (test_apart j o p)
-elsewhere d s j Now.Primed w p = if_not (j == 0) (Pure.primed_seen (Pure.primed_at d s)) (test_apart j 0 p)
-elsewhere d s j Now.Issue w p = refl
-elsewhere d s j (Now.Join u) w p = refl
-elsewhere d s j (Now.Cut i) w p = if_not (j == i) (Some (Told.Cut i)) (test_apart j i p)
-elsewhere d s j (Now.Done c) w p = if_not (j == 0) (Some (Told.Ended c)) (test_apart j 0 p)
-
--- one that asks for any goes on on none behind its inputs
+-- a strand that asks for any goes on on none behind its inputs
 past_inputs : (d : DeskState) (s j : ℕ) (a : Ask) → Pure.is_wide a ≡ true → j ≢ 0 → length (Pure.inputs_of (slice_get d.doors s)) ≤ j → Pure.seen_by d s j a ≡ None
 past_inputs d s j Now.Any w p m =
     ap (λ z. Pure.any_seen j (Pure.shows (Pure.through d.wires (Pure.joined z))) ((j == 0) && Pure.all_over d s)) (beyond (Pure.inputs_of (slice_get d.doors s)) j m)
@@ -49,19 +30,6 @@ past_inputs d s j (Now.Join u) w p m = cc
 past_inputs d s j (Now.Cut i) w p m = cc
 past_inputs d s j (Now.Done c) w p m = cc
 
-is_none : {A : Type 0} (x : Option A) → is_some x ≡ false → x ≡ None
-is_none None e = refl
-is_none (Some a) e = cc
-
-pub only_there : (d : DeskState) (s k : ℕ) → Pure.is_wide (Pure.ask_at d s) ≡ false → k ≡ Pure.stream_of (Pure.ask_at d s) → Pure.seen_at d s k ≡ None → (j : ℕ) → Pure.seen_at d s j ≡ None
-only_there d s k wide is none j = elim (equal_or_not j k) [
-  | inl e ↦ ap (Pure.seen_at d s) e ∙ none
-  | inr e ↦ elsewhere d s j (Pure.ask_at d s) wide (λ z. e (z ∙ sym is))
-]
-
-pub only_below : (d : DeskState) (s k : ℕ) → Pure.is_wide (Pure.ask_at d s) ≡ false → k ≡ Pure.stream_of (Pure.ask_at d s) → (j : ℕ) → j < k → Pure.seen_at d s j ≡ None
-only_below d s k wide is j less = elsewhere d s j (Pure.ask_at d s) wide (λ z. absurd (omega (arith, z, is, less)))
-
 pub wide_none : (d : DeskState) (s k : ℕ) → Pure.is_wide (Pure.ask_at d s) ≡ true → 0 < k → length (Pure.inputs_of (slice_get d.doors s)) ≤ k → ((j : ℕ) → j < k → Pure.seen_at d s j ≡ None) → (j : ℕ) → Pure.seen_at d s j ≡ None
 wide_none d s k wide some all before j = go (less_or_not j k)
   where
@@ -72,8 +40,8 @@ wide_none d s k wide some all before j = go (less_or_not j k)
     go (inl p) = before j p
     go (inr p) = past_inputs d s j (Pure.ask_at d s) wide (λ z. absurd (omega (arith, z, some, p))) (omega (arith, all, p))
 
-pub next_none : (d : DeskState) (s k : ℕ) → is_some (Pure.seen_at d s k) ≡ false → ((j : ℕ) → j < k → Pure.seen_at d s j ≡ None) → (j : ℕ) → j < k + 1 → Pure.seen_at d s j ≡ None
-next_none d s k none before j p = elim (equal_or_not j k) [ inl e ↦ ap (Pure.seen_at d s) e ∙ is_none (Pure.seen_at d s k) none | inr e ↦ before j (strict j k p e) ]
+pub next_none : (d : DeskState) (s k : ℕ) → Pure.seen_at d s k ≡ None → ((j : ℕ) → j < k → Pure.seen_at d s j ≡ None) → (j : ℕ) → j < k + 1 → Pure.seen_at d s j ≡ None
+next_none d s k none before j p = elim (equal_or_not j k) [ inl e ↦ ap (Pure.seen_at d s) e ∙ none | inr e ↦ before j (strict j k p e) ]
   where
     strict : (a b : ℕ) → a < b + 1 → a ≢ b → a < b
     strict a b p q = grind arith

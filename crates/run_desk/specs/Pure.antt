@@ -36,6 +36,14 @@ in_door d s i = joined (slice_get (inputs_of (slice_get d.doors s)) i)
 abbrev pub out_door : DeskState → ℕ → ℕ → Option ℕ
 out_door d s o = joined (slice_get (outputs_of (slice_get d.doors s)) o)
 
+-- the number of the link that what a strand is told concerns, if it concerns one
+abbrev pub told_door : DeskState → ℕ → Seen → Option ℕ
+told_door d s (Saw i) = in_door d s i
+told_door d s (Took i) = in_door d s i
+told_door d s (Put o) = out_door d s o
+told_door d s (Refused o) = out_door d s o
+told_door d s _ = None
+
 -- Wires
 
 -- the wire behind a door
@@ -161,6 +169,16 @@ seen_at d s k = seen_by d s k (ask_at d s)
 abbrev pub IsFirst : DeskState → ℕ → Option ℕ → Type 0
 IsFirst d s None = (k : ℕ) → seen_at d s k ≡ None
 IsFirst d s (Some k) = (is_some (seen_at d s k) ≡ true) × ((j : ℕ) → j < k → seen_at d s j ≡ None)
+
+-- the same, with what the strand would be told there
+abbrev pub IsFirstEvent : DeskState → ℕ → Option (ℕ × Seen) → Type 0
+IsFirstEvent d s None = IsFirst d s None
+IsFirstEvent d s (Some r) = IsFirst d s (Some r.0) × (seen_at d s r.0 ≡ Some r.1)
+
+-- what is told, with its stream
+abbrev pub on_stream : ℕ → Option Seen → Option (ℕ × Seen)
+on_stream k None = None
+on_stream k (Some seen) = Some (k, seen)
 
 -- a strand that asks so may go on on several streams
 abbrev pub is_wide : Ask → Bool

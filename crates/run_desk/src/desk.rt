@@ -5,7 +5,7 @@ ghost use Rattle.commit_levels.specs.UnitState.{IsLive};
 ghost use Rattle.run_desk.specs.Pure as Pure;
 
 use crate::doors::Doors;
-use crate::looks::{can_put, can_refuse, is_over, is_wide, primed_seen, shows, stream_of, up_seen};
+use crate::looks::{can_put, can_refuse, is_over, on_stream, primed_seen, shows, stream_of, up_seen};
 use crate::seat::{Ask, Seat, ask_seat, change_seat};
 use crate::sights::{forget, hold_of, see_at};
 use crate::wires::{close_ins, close_outs, offer_at, settle_at, take_at, withdraw_at};
@@ -80,34 +80,45 @@ impl Desk {
         ensures desk { self.new ≡ made self.old strand seen }
         ensures pool { pool.new ≡ pool_moved self.old pool.old strand seen }
     {
-        self.move_on(pool, strand, seen);
+        let door = self.told_door(strand, seen);
+        self.make_through(pool, strand, seen, door);
+    }
+
+    /// The same, for a caller that has looked up the link.
+    pub fn make_through(&mut self, pool: &mut Pool, strand: u32, seen: Seen, door: Option<u32>)
+        requires can { CanMove self.old pool.old strand seen }
+        requires door { door ≡ Pure.told_door self.old strand seen }
+        ensures desk { self.new ≡ made self.old strand seen }
+        ensures pool { pool.new ≡ pool_moved self.old pool.old strand seen }
+    {
+        self.move_on(pool, strand, seen, door);
         change_seat(&mut self.seats, strand, seen);
     }
 
+    /// The number of the link that what a strand is told concerns, if it concerns one.
+    pub fn told_door(&self, strand: u32, seen: Seen) -> Option<u32>
+        ensures { result ≡ Pure.told_door self.now strand seen }
+    {
+        match seen {
+            Seen::Saw(i) | Seen::Took(i) => self.in_door(strand, i),
+            Seen::Put(o) | Seen::Refused(o) => self.out_door(strand, o),
+            _ => None,
+        }
+    }
+
     // The same, but for the seat.
-    fn move_on(&mut self, pool: &mut Pool, strand: u32, seen: Seen)
-        requires { CanMove self.old pool.old strand seen }
+    fn move_on(&mut self, pool: &mut Pool, strand: u32, seen: Seen, door: Option<u32>)
+        requires can { CanMove self.old pool.old strand seen }
+        requires door { door ≡ Pure.told_door self.old strand seen }
         ensures desk { self.new ≡ moved self.old strand seen }
         ensures pool { pool.new ≡ pool_moved self.old pool.old strand seen }
     {
         match seen {
             Seen::Up(level, _) => self.unit.reach(strand, level),
-            Seen::Saw(i) => {
-                let door = self.in_door(strand, i);
-                see_at(&self.wires, &mut self.sights, pool, door);
-            }
-            Seen::Took(i) => {
-                let door = self.in_door(strand, i);
-                take_at(&mut self.wires, pool, door);
-            }
-            Seen::Put(o) => {
-                let door = self.out_door(strand, o);
-                settle_at(&mut self.wires, pool, door);
-            }
-            Seen::Refused(o) => {
-                let door = self.out_door(strand, o);
-                withdraw_at(&mut self.wires, pool, door);
-            }
+            Seen::Saw(_) => see_at(&self.wires, &mut self.sights, pool, door),
+            Seen::Took(_) => take_at(&mut self.wires, pool, door),
+            Seen::Put(_) => settle_at(&mut self.wires, pool, door),
+            Seen::Refused(_) => withdraw_at(&mut self.wires, pool, door),
             Seen::Ended(code) => self.end(pool, strand, code),
             _ => {}
         }
@@ -115,6 +126,7 @@ impl Desk {
 
     /// A strand comes home with what it wants next. Where it writes, it offers the record that it saw last on an
     /// input, which is empty where it saw none, or new bytes. Out of memory leaves all as it was.
+    #[inline(always)]
     pub fn come_home(&mut self, pool: &mut Pool, strand: u32, want: &Want) -> Result<(), NoMemory>
         requires { CanCome self.old pool.old strand want.now }
         ensures home { IfOk result (λ done. HasCome self.old pool.old strand want.now self.new pool.new) }
@@ -221,33 +233,44 @@ impl Desk {
     }
 
     /// The least stream on which a strand may go on.
-    #[tactic(auto, using(crate::proofs::Streams::only_there, crate::proofs::Streams::only_below))]
     pub fn ready_stream(&self, strand: u32) -> Option<u16>
         ensures { Pure.IsFirst self.now strand result }
     {
-        let ask = self.ask_of(strand);
-        if is_wide(ask) {
-            return self.wide_stream(strand);
-        }
-        let stream = stream_of(ask);
-        self.seen_at(strand, stream)?;
+        let (stream, _) = self.ready_event(strand)?;
         Some(stream)
+    }
+
+    /// The least stream on which a strand may go on, with what it would be told there.
+    #[inline(always)]
+    pub fn ready_event(&self, strand: u32) -> Option<(u16, Seen)>
+        ensures { Pure.IsFirstEvent self.now strand result }
+    {
+        match self.ask_of(strand) {
+            Ask::Read(i) => on_stream(i, self.read_seen(strand, i)),
+            Ask::Take(i) => Some((i, Seen::Took(i))),
+            Ask::Write(o) => on_stream(o, self.write_seen(strand, o)),
+            Ask::Any | Ask::Gate => self.wide_event(strand),
+            ask => on_stream(
+                stream_of(ask),
+                self.seen_by(strand, stream_of(ask), ask),
+            ),
+        }
     }
 
     // The same for a strand that may go on on several.
     #[tactic(auto, using(crate::proofs::Streams::wide_none, crate::proofs::Streams::next_none))]
-    fn wide_stream(&self, strand: u32) -> Option<u16>
+    fn wide_event(&self, strand: u32) -> Option<(u16, Seen)>
         requires { Pure.is_wide (Pure.ask_at self.now strand) ≡ true }
-        ensures { Pure.IsFirst self.now strand result }
+        ensures { Pure.IsFirstEvent self.now strand result }
     {
         let count = self.input_count(strand);
-        if self.seen_at(strand, 0).is_some() {
-            return Some(0);
+        if let Some(seen) = self.seen_at(strand, 0) {
+            return Some((0, seen));
         }
         let mut k = 1;
         while k < count {
-            if self.seen_at(strand, k).is_some() {
-                return Some(k);
+            if let Some(seen) = self.seen_at(strand, k) {
+                return Some((k, seen));
             }
             k += 1;
         }

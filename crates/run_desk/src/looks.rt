@@ -66,10 +66,11 @@ pub(crate) fn primed_seen(primed: Option<bool>) -> Option<Seen>
     Some(Seen::Primed(primed?))
 }
 
-pub(crate) fn is_wide(ask: Ask) -> bool
-    ensures { result ≡ Pure.is_wide ask }
+// What is told, with its stream.
+pub(crate) fn on_stream(stream: u16, seen: Option<Seen>) -> Option<(u16, Seen)>
+    ensures { result ≡ Pure.on_stream stream seen }
 {
-    matches!(ask, Ask::Any | Ask::Gate)
+    Some((stream, seen?))
 }
 
 pub(crate) fn stream_of(ask: Ask) -> u16

@@ -21,7 +21,7 @@ abbrev pub Spells : Signs → Reading → ℕ → List ℕ → Type 0
 Spells signs Plain byte spelling = (spelling ≡ byte ∷ []) × (parts signs byte ≡ false) × (is_sign signs.escape byte ≡ false)
 Spells signs Literal byte spelling =
     ((escape : ℕ) × (signs.escape ≡ Some escape) × (spelling ≡ escape ∷ (byte ∷ [])))
-  ⊎ ((parts signs byte ≡ true) × (spelling ≡ byte ∷ (byte ∷ [])))
+    ⊎ ((parts signs byte ≡ true) × (spelling ≡ byte ∷ (byte ∷ [])))
 Spells signs Separator byte spelling = (spelling ≡ byte ∷ []) × (signs.separator ≡ byte)
 Spells signs End byte spelling = (spelling ≡ byte ∷ []) × (signs.end ≡ Some byte)
 

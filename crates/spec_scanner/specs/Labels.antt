@@ -97,6 +97,6 @@ read_pipelines labels [] = nothing_read labels
 read_pipelines labels (pipeline ∷ pipelines) =
     if is_ignored pipeline then read_pipelines labels pipelines
     else
-      let first = read_stages labels (cut is_separator pipeline.inside pipeline.closed) in
-      let rest = read_pipelines first.labels pipelines in
-      record { pipelines = first.pieces ∷ rest.pipelines; labels = rest.labels; faults = first.faults ++ rest.faults }
+    let first = read_stages labels (cut is_separator pipeline.inside pipeline.closed) in
+    let rest = read_pipelines first.labels pipelines in
+    record { pipelines = first.pieces ∷ rest.pipelines; labels = rest.labels; faults = first.faults ++ rest.faults }

@@ -1,9 +1,14 @@
+pub mod Additions
 pub mod Blanks
 pub mod Body
+pub mod Cuts
 pub mod Faults
+pub mod Fronts
 pub mod Labels
+pub mod OptionWords
 pub mod Options
 pub mod Pieces
 pub mod Reads
+pub mod Settings
 pub mod Straight
 pub mod Stretches

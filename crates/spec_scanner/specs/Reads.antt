@@ -68,7 +68,7 @@ pub record HasBodyFaults (text : List ℕ) (faults : List Fault) : Type 0 where
 abbrev pub AreFaults : List ℕ → List Fault → Type 0
 AreFaults text faults =
     ((longest < length text) × (faults ≡ fault 10 longest ∷ []))
-  ⊎ ((length text ≤ longest) × (HasBadOptions text faults ⊎ HasBodyFaults text faults))
+    ⊎ ((length text ≤ longest) × (HasBadOptions text faults ⊎ HasBodyFaults text faults))
 
 -- this is the least fault of a text
 pub record IsRefused (text : List ℕ) (least : Fault) : Type 0 where

@@ -12,20 +12,7 @@ pub struct Fault {
     pub place: u32,
 }
 
-impl Fault {
-    /// A fault that isn't of an argument.
-    pub fn new(number: u8, place: u32) -> Fault
-        ensures { result ≡ Faults.fault number place }
-    {
-        Fault {
-            number,
-            argument: 0,
-            place,
-        }
-    }
-}
-
-// The first of a fault found before, if any, and another one.
+/// The first of a fault found before, if any, and another one: the one further left, or at one place that of the lesser number.
 pub fn least(found: Option<Fault>, other: Fault) -> Fault
     ensures { result ≡ Faults.least found other }
 {

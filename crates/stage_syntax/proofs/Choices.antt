@@ -1,8 +1,8 @@
 -- Which of the parts that may come a text is.
-use Rattle.std.proofs.Common.{◌≡◌, ℕ, suc, get_or, ◌+◌, ◌-◌, ◌<◌, ◌≤◌, List, [], ◌∷◌, length, take, drop, sym, ap, ◌∙◌, arith, subst, inr}
+use Rattle.std.proofs.Common.{◌≡◌, ℕ, suc, get_or, ◌+◌, ◌-◌, ◌<◌, ◌≤◌, List, [], ◌∷◌, length, take, drop, sym, ap, ◌∙◌, arith, subst, inl, inr}
 use Rattle.std.specs.List.{All, Contains}
 use Rattle.std.proofs.lemmas.List.{take_all}
-use Rattle.std.proofs.lemmas.List.Elements.{All-contains}
+use Rattle.std.proofs.lemmas.List.Elements.{All-contains, Contains-push_cases}
 use Rattle.stage_syntax.proofs.Passed.{blanks_passed}
 use Rattle.stage_syntax.specs.Parts.{IsMisfitOf, IsNext, IsNoPart, IsPartOf, fault_of_last}
 use Rattle.stage_syntax.specs.Words.{IsUnblanked}
@@ -47,3 +47,7 @@ last_gives (Asked.Range ∷ (next ∷ parts)) part asked is some stands = last_g
 last_gives (Asked.String ∷ (next ∷ parts)) part asked is some stands = last_gives (next ∷ parts) part asked is (omega arith) (λ other.
     let later : length (Asked.String ∷ (next ∷ parts)) - 1 ≡ suc (length (next ∷ parts) - 1) = omega arith in
     stands other ∙ ap (λ at. get_or (Asked.String ∷ (next ∷ parts)) at other) later)
+
+-- where one part may come, it is that part
+pub only_part : (asked part : Part) → Contains (asked ∷ []) part → asked ≡ part
+only_part asked part among = elim (Contains-push_cases [] asked part among) [ inl none ↦ absurd (omega (arith, none.1)) | inr same ↦ same ]

@@ -4,9 +4,10 @@ use borrow.Author.Tests.{eqb-true}
 use Rattle.std.specs.Char.{is_ascii_alphanumeric}
 use Rattle.std.specs.List.{Contains}
 use Rattle.std.proofs.Math.Seq.{split_at}
-use Rattle.std.proofs.lemmas.List.{append_assoc, drop_at, take_rest, get_or_at, get_or_default, get_or-take, length-take}
+use Rattle.std.proofs.lemmas.List.{append_assoc, take_rest, get_or_at, get_or_default, get_or-take, length-take}
 use Rattle.bstr.specs.Find.{IsFirstByte, is_byte}
 use Rattle.pipe_model.proofs.Cuts.{tail_of}
+use Rattle.stage_syntax.proofs.Passed.{rest_left}
 use Rattle.stage_syntax.specs.Strings.{IsDelimited, IsString, IsUnclosed, is_delimiter}
 
 -- a byte that is none of the others is a delimiter
@@ -75,10 +76,7 @@ unclosed_at (byte ∷ after) some nowhere chosen = record {
 -- the rest after a string is what is left after as many bytes as spell it
 pub rest_after : (text string rest : List ℕ) → IsDelimited text string rest → drop (length text - length rest) text ≡ rest
 rest_after text string rest delimited =
-    let front = delimited.delimiter ∷ string ++ delimited.delimiter ∷ [] in
-    let parts : text ≡ front ++ rest = delimited.spells ∙ ap (λ b. delimited.delimiter ∷ b) (sym (append_assoc string (delimited.delimiter ∷ []) rest)) in
-    let long : length front ≡ length text - length rest = omega (arith, ap length parts, length-append front rest) in
-    ap (drop (length text - length rest)) parts ∙ drop_at front rest (length text - length rest) long
+    rest_left text (delimited.delimiter ∷ string ++ delimited.delimiter ∷ []) rest (delimited.spells ∙ ap (λ b. delimited.delimiter ∷ b) (sym (append_assoc string (delimited.delimiter ∷ []) rest)))
 
 -- a delimited string that isn't empty was read
 pub delimited_read : (text string rest : List ℕ) → IsDelimited text string rest → 0 < length string → IsString text string (drop (length text - length rest) text)

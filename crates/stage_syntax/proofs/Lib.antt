@@ -6,9 +6,17 @@ pub mod FirstWords
 pub mod Letters
 pub mod Misfits
 pub mod Numerals
+pub mod OneFronts
+pub mod OneKinds
+pub mod OneParts
+pub mod OneRanges
+pub mod OneSpellings
+pub mod OneStrings
 pub mod Outcomes
 pub mod Passed
 pub mod RangeFronts
+pub mod RowExamples
 pub mod RowSteps
 pub mod Spellings
 pub mod StringParts
+pub mod WordExamples

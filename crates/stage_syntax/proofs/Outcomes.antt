@@ -21,7 +21,7 @@ pub delimited_front : (text string rest : List ℕ) (delimited : IsDelimited tex
 delimited_front text string rest delimited = ap (λ bytes. get_or bytes 0 0) delimited.spells
 
 -- a hexadecimal word begins with x
-hexadecimal_front : (text string rest : List ℕ) → IsHexadecimalWord text string rest → get_or text 0 0 ≡ 120
+pub hexadecimal_front : (text string rest : List ℕ) → IsHexadecimalWord text string rest → get_or text 0 0 ≡ 120
 hexadecimal_front text string rest hexadecimal =
     ap (λ bytes. get_or bytes 0 0) (hexadecimal.first.spells ∙ ap (λ word. word ++ rest) hexadecimal.worth.spells)
 
@@ -30,7 +30,7 @@ pub no_front : (text : List ℕ) (byte front : ℕ) → get_or text 0 0 ≡ byte
 no_front text byte front is chosen other sign = no_letter byte chosen (ap is_ascii_alphanumeric (sym is ∙ other) ∙ sign)
 
 -- what is delimited isn't unclosed
-not_unclosed : (text string rest : List ℕ) → IsDelimited text string rest → ¬ IsUnclosed text
+pub not_unclosed : (text string rest : List ℕ) → IsDelimited text string rest → ¬ IsUnclosed text
 not_unclosed text string rest delimited unclosed =
     let both = sym delimited.spells ∙ unclosed.spells in
     let heads : delimited.delimiter ≡ unclosed.delimiter = cc in

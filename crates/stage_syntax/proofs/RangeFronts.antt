@@ -2,7 +2,7 @@
 use Rattle.std.proofs.Common.{◌≡◌, ℕ, ◌+◌, ◌-◌, ◌<◌, List, [], ◌∷◌, ◌++◌, length, drop, append-nil, refl, sym, ap, ◌∙◌, subst, inl, inr, arith}
 use Rattle.pipe_model.specs.declared.kind.Span.{Span}
 use Rattle.pipe_model.specs.declared.kind.Range.{Range}
-use Rattle.stage_syntax.proofs.FirstWords.{one_word}
+use Rattle.stage_syntax.proofs.FirstWords.{same_word}
 use Rattle.stage_syntax.proofs.Letters.{name_others, one_split, spelling_begins}
 use Rattle.stage_syntax.proofs.Passed.{more_passed, word_passed}
 use Rattle.stage_syntax.specs.Numbers.{AreFirstOthers}
@@ -13,10 +13,6 @@ use Rattle.stage_syntax.specs.SpanNames.{IsSpanName}
 use Rattle.stage_syntax.specs.Words.{IsFirstWord, IsUnblanked}
 use Rattle.stage_syntax.specs.declared.fault.FaultKind.TheVariants.{Missing}
 use Rattle.stage_syntax.specs.declared.ranges.Spelling.{Spelling}
-
--- a text has one first word
-pub same_word : (text word rest other more : List ℕ) → IsFirstWord text word rest → IsFirstWord text other more → word ≡ other
-same_word text word rest other more first second = one_word word other rest more first.whole second.whole first.stops second.stops (sym first.spells ∙ second.spells)
 
 -- nothing was left of a list
 emptied : (bytes : List ℕ) → length bytes ≡ 0 → bytes ≡ []

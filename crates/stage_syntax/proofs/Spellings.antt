@@ -48,7 +48,7 @@ one_front (a ∷ digits) (b ∷ other) rest after are others stops stops_other s
     (cc, more.1)
 
 -- what is spelled after the first number doesn't begin with a digit
-ends_stop : (after : List ℕ) (ending : Ending) → Ends after ending → is_ascii_digit (get_or after 0 0) ≡ false
+pub ends_stop : (after : List ℕ) (ending : Ending) → Ends after ending → is_ascii_digit (get_or after 0 0) ≡ false
 ends_stop after Alone ends = ap (λ bytes. is_ascii_digit (get_or bytes 0 0)) ends
 ends_stop after (To last) ends = ap (λ bytes. is_ascii_digit (get_or bytes 0 0)) ends.1
 ends_stop after Open ends = ap (λ bytes. is_ascii_digit (get_or bytes 0 0)) ends
@@ -56,7 +56,7 @@ ends_stop after (Long len) ends = ap (λ bytes. is_ascii_digit (get_or bytes 0 0
 
 module _ (word digits rest : List ℕ) (first : AreFirstDigits word digits rest) where
   -- the first digits are the number that is spelled, and the rest is what is spelled after it
-  same_parts : (spelling : Spelling) (spelled : IsSpelling word spelling) → (digits ≡ spelled.number) × (rest ≡ spelled.after)
+  pub same_parts : (spelling : Spelling) (spelled : IsSpelling word spelling) → (digits ≡ spelled.number) × (rest ≡ spelled.after)
   same_parts spelling spelled =
       one_front digits spelled.number rest spelled.after first.digits_all spelled.counts.digits first.stops (ends_stop spelled.after spelling.ending spelled.ends) (sym first.spells ∙ spelled.spells)
 

@@ -1,12 +1,11 @@
 -- A text that a string may begin: which of its faults it has, and when it is left to other parts.
-use Rattle.std.proofs.Common.{◌≡◌, ℕ, List, [], get_or, refl, ap, subst, inl, inr}
+use Rattle.std.proofs.Common.{ℕ, List, [], get_or, refl, ap, subst, inl, inr}
 use Rattle.stage_syntax.proofs.Outcomes.{delimited_front, no_fault, no_front}
-use Rattle.stage_syntax.specs.Parts.{IsNoPart, IsOfStrings, IsPart, IsPartMisfit}
-use Rattle.stage_syntax.specs.Strings.{IsNoString, IsOtherWord, IsStringFault}
+use Rattle.stage_syntax.specs.Parts.{IsNoPart, IsOfStrings, IsPart}
+use Rattle.stage_syntax.specs.Strings.{IsNoString, IsOtherWord}
 use Rattle.stage_syntax.specs.declared.fault.FaultKind.{FaultKind}
-use Rattle.stage_syntax.specs.declared.fault.FaultKind.TheVariants.{Missing, Extra, NotANumber, OutOfRange, Unclosed, EmptyString, UnknownWord, BadHex, Reversed}
+use Rattle.stage_syntax.specs.declared.fault.FaultKind.TheVariants.{UnknownWord}
 use Rattle.stage_syntax.specs.declared.part.Part.TheVariants as Asked
-use Rattle.stage_syntax.specs.declared.part.TextFault.{TextFault}
 use Rattle.stage_syntax.specs.declared.part.Value.{Value}
 use Rattle.stage_syntax.specs.declared.part.Value.TheVariants as Read
 
@@ -32,18 +31,3 @@ module _ (text : List ℕ) where
     none = no_string_of_word other;
     no_misfit = λ fault misfit. no_fault_of_word other fault.kind misfit.1 misfit.2;
   }
-
-  -- each other fault is a string's whatever else may come
-  of_strings : (kind : FaultKind) → IsNoString text kind → ¬ (kind ≡ UnknownWord) → IsOfStrings kind
-  of_strings Unclosed fault other = inl refl
-  of_strings EmptyString fault other = inr (inl refl)
-  of_strings BadHex fault other = inr (inr refl)
-  of_strings UnknownWord fault other = absurd (other refl)
-  of_strings Missing fault other = absurd fault
-  of_strings Extra fault other = absurd fault
-  of_strings NotANumber fault other = absurd fault
-  of_strings OutOfRange fault other = absurd fault
-  of_strings Reversed fault other = absurd fault
-
-  pub misfit_of_string : (fault : TextFault) → IsStringFault text fault → ¬ (fault.kind ≡ UnknownWord) → IsPartMisfit Asked.String text fault
-  misfit_of_string fault is other = (is.0, of_strings fault.kind is.1 other, is.1)

@@ -5,6 +5,7 @@ mod arg;
 mod bounds;
 mod digits;
 mod fault;
+mod laws;
 mod next;
 mod part;
 mod range_words;
@@ -14,6 +15,8 @@ mod rows;
 mod span_words;
 mod spelled;
 mod strings;
+#[cfg(test)]
+mod tests;
 mod text;
 mod words;
 
@@ -21,6 +24,7 @@ pub use arg::Arg;
 pub use bounds::{Misfit, no_misfit, range_of};
 pub use digits::{first_digits, first_others, number};
 pub use fault::{ArgFault, FaultKind, KindFault};
+pub use laws::{no_kind_fault, one_fault, one_kind};
 pub use next::{Taken, close, next_part, next_string};
 pub use part::{Part, TextFault, Value};
 pub use range_words::{SpelledRange, range};

@@ -14,7 +14,7 @@ returns-clause-covers c = λ net texts st left same size formed kept early cover
     let seen = c.args.seen in
     let new = c.wake_settled.new.ready in
     let before = c.settled_before-before in
-    let made_is : c.make.new.self ≡ made d s seen = c.make.ensures.desk in
+    let made_is : c.make_through.new.self ≡ made d s seen = c.make_through.ensures.desk in
     let primer_is : before.result.primer ≡ (not (primes seen) || is_some (Pure.primed_of (slice_get d.seats s))) =
     before.ensures.primer ∙ ap (λ z. not z || is_some (Pure.primed_of (slice_get d.seats s))) c.primes.ensures in
     let low_is : before.result.low ≡ (not (ends seen) || is_some (Pure.level_code d (negsuc 0))) =

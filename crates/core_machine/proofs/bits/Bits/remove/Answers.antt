@@ -9,7 +9,7 @@ pub returns-clause-here : goal.returns-clause-here
 returns-clause-here c =
     let ws = c.self.inside.words.items in
     let k = c.args.s / 64 in
-    let word : word_at ws k ≡ c.word-word.result = ap (λ y. word_at y k) c.self.view_is ∙ sym c.word-word.ensures in
+    let word : word_at ws k ≡ c.word_in-word.result = ap (λ y. word_at y k) c.self.view_is ∙ sym c.word_in-word.ensures in
     let inside : k < length ws = search rules in
     let not_s : bit_at (18446744073709551615 - c.bit.result) (c.args.s % 64) ≡ 0 =
     bit_at_not w64 c.bit.result (c.args.s % 64) (search rules) (omega arith) ∙ ap (λ z. 1 - bit_at z (c.args.s % 64)) c.bit.ensures ∙ ap (λ z. 1 - z) (bit_at-pow_same (c.args.s % 64)) in
@@ -21,7 +21,7 @@ pub returns-clause-others : goal.returns-clause-others
 returns-clause-others c = λ t other.
     let ws = c.self.inside.words.items in
     let k = c.args.s / 64 in
-    let word : word_at ws k ≡ c.word-word.result = ap (λ y. word_at y k) c.self.view_is ∙ sym c.word-word.ensures in
+    let word : word_at ws k ≡ c.word_in-word.result = ap (λ y. word_at y k) c.self.view_is ∙ sym c.word_in-word.ensures in
     let inside : k < length ws = search rules in
     let not_s : bit_at (18446744073709551615 - c.bit.result) (c.args.s % 64) ≡ 0 =
     bit_at_not w64 c.bit.result (c.args.s % 64) (search rules) (omega arith) ∙ ap (λ z. 1 - bit_at z (c.args.s % 64)) c.bit.ensures ∙ ap (λ z. 1 - z) (bit_at-pow_same (c.args.s % 64)) in
@@ -31,4 +31,4 @@ returns-clause-others c = λ t other.
     (remove_others ws c.args.s inside (18446744073709551615 - c.bit.result) not_s not_others t other ∙ ap (λ y. has y t) c.self.view_is)
 
 pub returns-clause-apart : goal.returns-clause-apart
-returns-clause-apart c = λ k apart. word_other c.self.inside.words.items (c.args.s / 64) k (bit_and c.word-word.result (18446744073709551615 - c.bit.result)) apart ∙ ap (λ y. word_at y k) c.self.view_is
+returns-clause-apart c = λ k apart. word_other c.self.inside.words.items (c.args.s / 64) k (bit_and c.word_in-word.result (18446744073709551615 - c.bit.result)) apart ∙ ap (λ y. word_at y k) c.self.view_is

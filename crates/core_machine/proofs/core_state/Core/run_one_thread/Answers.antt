@@ -20,13 +20,13 @@ loop-self-preserved g c =
 pub returns-in-None-clause-runs : goal.returns-in-None-clause-runs
 returns-in-None-clause-runs g c =
     let i = c.loop-self.invariant in
-    run_idles c.args.self.now c.loop-self.self c.least_ready.new.self i.0 i.1 c.least_ready.ensures.same c.in-None.ensures.least
+    run_idles c.args.self.now c.loop-self.self c.least_event.new.self i.0 i.1 c.least_event.ensures.same c.in-None.ensures.least
 
 pub returns-in-Some-clause-runs : goal.returns-in-Some-clause-runs
 returns-in-Some-clause-runs g c =
     let i = c.loop-self.invariant in
     let full : c.loop-self.self.budget ≤ length c.loop-self.self.journal = search rules in
-    run_spends c.args.self.now c.loop-self.self c.least_ready.new.self c.in-Some.field-0 i.0 (subst (λ (z : Machine). IsLawful z) c.least_ready.ensures.same c.least_ready.ensures.lawful) full c.least_ready.ensures.same c.in-Some.ensures.least
+    run_spends c.args.self.now c.loop-self.self c.least_event.new.self (c.in-Some.field-0.0, c.in-Some.field-0.1) i.0 (subst (λ (z : Machine). IsLawful z) c.least_event.ensures.same c.least_event.ensures.lawful) full c.least_event.ensures.same c.in-Some.ensures.least.0
 
 pub returns-in_err-step-clause-lacks : goal.returns-in_err-step-clause-lacks
 returns-in_err-step-clause-lacks g c =
