@@ -1,4 +1,12 @@
 pub mod Faults
+pub mod Fed
+pub mod Flags
+pub mod Joins
 pub mod Line
 pub mod Nets
+pub mod Numbered
+pub mod Outcomes
+pub mod Searches
 pub mod Stands
+pub mod Strands
+pub mod Uses

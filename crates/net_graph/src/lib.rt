@@ -1,8 +1,20 @@
 //! The net of a specification: its stages as strands, and the links between them.
 #![tactic(auto)]
 
+mod assembly;
 mod fault;
+mod flags;
+mod input;
+mod joins;
 mod laws;
+mod outcomes;
+mod pieces;
+mod places;
+mod search;
+mod strands;
+mod table;
+mod uses;
 
 pub use fault::NetFault;
+pub use input::feed;
 pub use laws::straight_net;

@@ -1,0 +1,9 @@
+use Rattle.std.proofs.Common.{drop, arith}
+use Rattle.net_graph.proofs.Joined.{count_least}
+use Rattle.net_graph.proofs.joins.join_pipeline.Goals as goal
+
+pub spot_of-next-requires-clause-few : goal.spot_of-next-requires-clause-few
+spot_of-next-requires-clause-few c = omega (arith, count_least c.loop-piece.after (drop c.loop-piece.piece-index c.args.pieces.now), c.loop-piece.invariant.count, c.requires.few)
+
+pub counted-after-requires : goal.counted-after-requires
+counted-after-requires c = omega (arith, count_least c.loop-piece.after (drop c.loop-piece.piece-index c.args.pieces.now), c.loop-piece.invariant.count, c.requires.few)

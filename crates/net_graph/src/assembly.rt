@@ -1,0 +1,38 @@
+ghost use Rattle.std.specs.Prelude.{◌≡◌, ℕ, [], Ok, Some, map, slice_get, IfOk};
+ghost use Rattle.net_graph.specs.Faults.{faults_of};
+ghost use Rattle.net_graph.specs.Nets.{AreOutcomes, net_of};
+ghost use Rattle.net_graph.specs.Numbered.{AreScanned};
+ghost use Rattle.net_graph.specs.Stands.{stage_of, stages_of, stands_of};
+
+use crate::flags::{linked_inputs, linked_outputs};
+use crate::joins::links_of;
+use crate::pieces::Pieces;
+use crate::strands::strands_of;
+use crate::uses::later_uses;
+use pipe_model::{Kind, Links, Net, NoMemory, Strands};
+use std::alloc::Global;
+
+/// The net of pipelines without a fault, whose stages are of these kinds, where a table tells the stages that the labels define.
+pub(crate) fn assemble(
+    alloc: Global,
+    pipelines: &[Pieces],
+    kinds: Vec<Kind>,
+    table: &[usize],
+) -> Result<Net, NoMemory>
+    requires scanned { AreScanned pipelines.now }
+    requires read { AreOutcomes (stages_of (stands_of pipelines.now)) (map (λ kind. Ok kind) kinds.items) }
+    requires good { faults_of pipelines.now (map (λ kind. Ok kind) kinds.items) ≡ [] }
+    requires labelled { (label : ℕ) → slice_get table.now label ≡ stage_of (stands_of pipelines.now) (Some label) }
+    ensures { IfOk result (λ net. net ≡ net_of pipelines.now kinds.items) }
+{
+    let links = links_of(alloc, table, pipelines)?;
+    let later = later_uses(alloc, pipelines)?;
+    let stages = later.len();
+    let inputs = linked_inputs(alloc, &links, stages)?;
+    let outputs = linked_outputs(alloc, &links, stages)?;
+    let strands = strands_of(alloc, &inputs, &outputs, &later, kinds)?;
+    Ok(Net {
+        strands: Strands::from_vec(strands),
+        links: Links::from_vec(links),
+    })
+}
