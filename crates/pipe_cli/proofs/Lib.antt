@@ -1,3 +1,4 @@
+pub mod CommandCases
 pub mod CoreRuns
 pub mod LineDone
 pub mod LineFormed
@@ -6,6 +7,7 @@ pub mod LineLoops
 pub mod LineReply
 pub mod LineRuns
 pub mod LineStrands
+pub mod Refusals
 pub mod Replies
 pub mod Statuses
 pub mod Streams

@@ -1,17 +1,26 @@
 //! The program's one call: it reads the words of the command line, does what they say, and answers a status.
 #![tactic(auto)]
 
+mod command;
+mod demands;
+mod grammar;
 mod line;
 mod main_call;
 mod meaning;
 mod read;
 mod run;
 mod status;
+mod values;
+mod words;
 mod write;
 
+pub use command::{Command, WordsFault};
 pub use main_call::pipe_main;
 pub use meaning::one_meaning;
 pub use status::Status;
+pub use words::read_words;
 
 #[cfg(test)]
 mod tests;
+#[cfg(test)]
+mod word_tests;
