@@ -59,38 +59,53 @@ const CASES: [(&str, &str); 51] = [
     ("--version", "usage"),
 ];
 
-// The bytes of a record.
-fn text(rec: &Rec) -> &str {
-    str::from_utf8(rec.bytes()).unwrap_or("?")
+// The text of a record.
+fn text(alloc: Global, rec: &Rec) -> Result<String, Fail> {
+    Ok(String::from_str(alloc, str::from_utf8(rec.bytes()).unwrap_or("?"))?)
 }
 
 // What words mean, as a text.
 fn told(alloc: Global, words: &[String]) -> Result<String, Fail> {
-    let told = match read_words(alloc, words) {
-        Ok(Command::Run {
+    match read_words(alloc, words) {
+        Ok(command) => command_text(alloc, &command),
+        Err(WordsFault::Usage) => Ok(String::from_str(alloc, "usage")?),
+        Err(WordsFault::NoMemory) => Ok(String::from_str(alloc, "out of memory")?),
+    }
+}
+
+fn command_text(alloc: Global, command: &Command) -> Result<String, Fail> {
+    match command {
+        Command::Run {
             spec,
             workers,
             steps,
-            trace: None,
-        }) => format!(in alloc; "run [{}] {workers} {steps}", text(&spec))?,
-        Ok(Command::Run {
-            spec,
-            workers,
-            steps,
-            trace: Some(name),
-        }) => format!(in alloc; "run [{}] {workers} {steps} [{}]", text(&spec), text(&name))?,
-        Ok(Command::Check { spec, name }) => {
-            format!(in alloc; "check [{}] [{}]", text(&spec), text(&name))?
+            trace,
+        } => {
+            let spec = text(alloc, spec)?;
+            let trace = trace_text(alloc, trace)?;
+            Ok(format!(in alloc; "run [{spec}] {workers} {steps}{trace}")?)
         }
-        Ok(Command::Sample {
+        Command::Check { spec, name } => {
+            let spec = text(alloc, spec)?;
+            let name = text(alloc, name)?;
+            Ok(format!(in alloc; "check [{spec}] [{name}]")?)
+        }
+        Command::Sample {
             lines,
             workers,
             steps,
-        }) => format!(in alloc; "sample {lines} {workers} {steps}")?,
-        Err(WordsFault::Usage) => String::from_str(alloc, "usage")?,
-        Err(WordsFault::NoMemory) => String::from_str(alloc, "out of memory")?,
-    };
-    Ok(told)
+        } => Ok(format!(in alloc; "sample {lines} {workers} {steps}")?),
+    }
+}
+
+fn trace_text(alloc: Global, trace: &Option<Rec>) -> Result<String, Fail> {
+    match trace {
+        None => Ok(String::new(alloc)),
+        Some(name) => {
+            let name = text(alloc, name)?;
+            Ok(format!(in alloc; " [{name}]")?)
+        }
+    }
 }
 
 // The words of a text, with a space between them.
@@ -119,17 +134,23 @@ fn no_words_are_a_fault_of_usage(rt: HostRuntime) -> Result<(), Fail> {
     Ok(())
 }
 
+// What SPEC and an option with a name of so many bytes mean.
+fn named(alloc: Global, option: &str, length: usize) -> Result<String, Fail> {
+    let mut words = split(alloc, option)?;
+    words.push("n".repeat(alloc, length)?)?;
+    told(alloc, &words)
+}
+
 #[test]
 fn a_name_is_at_most_255_bytes(rt: HostRuntime) -> Result<(), Fail> {
     let alloc = rt.alloc();
-    let mut words = split(alloc, "x --trace")?;
-    words.push("n".repeat(alloc, 255)?)?;
-    assert!(rt; told(alloc, &words)?.starts_with("run [x] 4 4000000 [nn"));
-    words[1] = String::from_str(alloc, "--check")?;
-    assert!(rt; told(alloc, &words)?.starts_with("check [x] [nn"));
-    words[2].push('n')?;
-    assert_eq!(rt; told(alloc, &words)?.as_str(), "usage");
-    words[1] = String::from_str(alloc, "--trace")?;
-    assert_eq!(rt; told(alloc, &words)?.as_str(), "usage");
+    let trace = named(alloc, "x --trace", 255)?;
+    assert!(rt; trace.starts_with("run [x] 4 4000000 [nn"));
+    let check = named(alloc, "x --check", 255)?;
+    assert!(rt; check.starts_with("check [x] [nn"));
+    let trace = named(alloc, "x --trace", 256)?;
+    assert_eq!(rt; trace.as_str(), "usage");
+    let check = named(alloc, "x --check", 256)?;
+    assert_eq!(rt; check.as_str(), "usage");
     Ok(())
 }
