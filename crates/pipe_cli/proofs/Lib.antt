@@ -1,3 +1,4 @@
+pub mod CommandCases
 pub mod Commands
 pub mod CoreRuns
 pub mod Feds
@@ -8,6 +9,7 @@ pub mod LineFed
 pub mod LineFormed
 pub mod LineReply
 pub mod LineStrands
+pub mod Refusals
 pub mod Replies
 pub mod Runs
 pub mod Streams

@@ -3,6 +3,7 @@ pub mod Command
 pub mod Devices
 pub mod Line
 pub mod Meaning
+pub mod Outcome
 pub mod Refusals
 pub mod Runs
 pub mod Status

@@ -3,11 +3,14 @@
 
 mod called;
 mod command;
+mod demands;
+mod grammar;
 mod input;
 mod main_call;
 mod net_run;
 mod read;
 mod status;
+mod values;
 mod words;
 mod write;
 
@@ -15,3 +18,6 @@ pub use command::{Command, WordsFault};
 pub use main_call::pipe_main;
 pub use status::Status;
 pub use words::read_words;
+
+#[cfg(test)]
+mod word_tests;
