@@ -20,4 +20,6 @@ pub use status::Status;
 pub use words::read_words;
 
 #[cfg(test)]
+mod tests;
+#[cfg(test)]
 mod word_tests;

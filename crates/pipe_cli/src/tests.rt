@@ -1,0 +1,174 @@
+ghost use Rattle.std.specs.Prelude.{◌≤◌};
+
+use crate::pipe_main;
+use outside::{MemShelf, MemSink, MemSource, OpenGate};
+use pipe_model::Rec;
+use std::alloc::Global;
+use std::process::Abort;
+use std::sync::Wait;
+use std::test::Fail;
+use std::thread::Threads;
+
+// A source, a sink for the output and a sink for the text, in memory.
+#[derive(Drop)]
+struct Streams {
+    input: MemSource,
+    output: MemSink,
+    diag: MemSink,
+}
+
+// Streams over these bytes, which give and take `piece` bytes a call and fail at the calls that are named. `room` bytes
+// of text can be told.
+fn in_memory(
+    alloc: Global,
+    input: &[u8],
+    piece: usize,
+    read_fails: &[u32],
+    write_fails: &[u32],
+    room: usize,
+) -> Result<Streams, Fail>
+    requires { 1 ≤ piece }
+{
+    let bytes = Rec::from_slice(alloc, input)?;
+    let input = MemSource::new(bytes, piece, read_fails.to_vec(alloc)?);
+    let output = MemSink::new(alloc, 64, piece, write_fails.to_vec(alloc)?)?;
+    let diag = MemSink::new(alloc, room, 64, Vec::new(alloc))?;
+    Ok(Streams {
+        input,
+        output,
+        diag,
+    })
+}
+
+fn strings(alloc: Global, words: &[&str]) -> Result<Vec<String>, Fail> {
+    let mut owned = Vec::new(alloc);
+    for word in words {
+        owned.push(String::from_str(alloc, word)?)?;
+    }
+    Ok(owned)
+}
+
+// The call's status, as a number.
+fn call<R: Threads + Wait + Sync>(
+    rt: &R,
+    alloc: Global,
+    words: &[String],
+    streams: &mut Streams,
+) -> u8 {
+    let mut shelf = MemShelf::new(alloc, Vec::new(alloc));
+    pipe_main(
+        rt,
+        alloc,
+        words,
+        &mut streams.input,
+        &mut streams.output,
+        &mut streams.diag,
+        &mut shelf,
+        &OpenGate,
+    )
+    .number()
+}
+
+// The call with these words answers this status, and writes and tells these bytes.
+fn expect<R: Threads + Wait + Sync + Abort>(
+    rt: &R,
+    alloc: Global,
+    words: &[&str],
+    mut streams: Streams,
+    status: u8,
+    output: &[u8],
+    diag: &[u8],
+) -> Result<(), Fail> {
+    let words = strings(alloc, words)?;
+    assert_eq!(rt; call(rt, alloc, &words, &mut streams), status);
+    assert_eq!(rt; streams.output.written(), output);
+    assert_eq!(rt; streams.diag.written(), diag);
+    Ok(())
+}
+
+const LINE: &str = "console | locate /b/ | console";
+
+const TEXT: &[u8] = b"ab\ncd\nb";
+
+const USAGE: &[u8] = b"usage: pipe SPEC [--workers N] [--steps N] [--trace NAME] [--check NAME] | pipe --sample N\n";
+
+const TWO: &str = "(endchar ?) console | a: locate /x/ | console ? a: | locate /y/";
+
+#[test]
+fn words_and_bytes_give_bytes_and_a_status(rt: HostRuntime) -> Result<(), Fail> {
+    let alloc = rt.alloc();
+    let cases: [(&[&str], &[u8], u8, &[u8], &[u8]); 13] = [
+        (&[LINE], TEXT, 0, b"ab\nb\n", b""),
+        (
+            &["Console|LOCATE /a/|locate  /b/|CONSOLE"],
+            TEXT,
+            0,
+            b"ab\n",
+            b"",
+        ),
+        (
+            &["console | console"],
+            b"\n\n\xff\0",
+            0,
+            b"\n\n\xff\0\n",
+            b"",
+        ),
+        (&[TWO, "--steps", "27"], b"x\nzy\n", 0, b"x\n", b""),
+        (
+            &[TWO, "--steps=26"],
+            b"x\nzy\n",
+            4,
+            b"",
+            b"spent 26\n",
+        ),
+        (&["console | locate 2 /d/"], TEXT, 0, b"", b""),
+        (&["locate /b/ | console"], TEXT, 0, b"", b""),
+        (
+            &["console | take 1 | console"],
+            TEXT,
+            2,
+            b"",
+            b"spec 11 at 10\n",
+        ),
+        (
+            &["console | locate b | console"],
+            TEXT,
+            2,
+            b"",
+            b"spec 12.7 at 17\n",
+        ),
+        (&["console |"], TEXT, 2, b"", b"spec 2 at 9\n"),
+        (&[LINE, LINE], TEXT, 9, b"", USAGE),
+        (&[LINE, "--workers", "65"], TEXT, 9, b"", USAGE),
+        (&[LINE, "--trace", "t"], TEXT, 12, b"", b"not yet\n"),
+    ];
+    for (words, input, status, output, diag) in cases {
+        let streams = in_memory(alloc, input, 2, &[], &[], 128)?;
+        expect(&rt, alloc, words, streams, status, output, diag)?;
+    }
+    Ok(())
+}
+
+#[test]
+fn a_fault_in_mid_stream_is_told(rt: HostRuntime) -> Result<(), Fail> {
+    let alloc = rt.alloc();
+    let read = in_memory(alloc, TEXT, 2, &[2], &[], 64)?;
+    expect(&rt, alloc, &[LINE], read, 5, b"", b"read fault\n")?;
+    let written = in_memory(alloc, TEXT, 2, &[], &[2], 64)?;
+    expect(&rt, alloc, &[LINE], written, 6, b"ab", b"write fault\n")
+}
+
+#[test]
+fn a_text_that_cannot_be_told_is_a_write_fault(rt: HostRuntime) -> Result<(), Fail> {
+    let alloc = rt.alloc();
+    let streams = in_memory(alloc, TEXT, 2, &[], &[], 4)?;
+    expect(&rt, alloc, &[], streams, 6, b"", b"usag")
+}
+
+#[test]
+fn too_much_input_is_refused(rt: HostRuntime) -> Result<(), Fail> {
+    let alloc = rt.alloc();
+    let bytes: Vec<u8> = vec![in alloc; b'x'; 67_108_865]?;
+    let streams = in_memory(alloc, &bytes, 1_000_000, &[], &[], 64)?;
+    expect(&rt, alloc, &[LINE], streams, 10, b"", b"input too large\n")
+}
