@@ -1,5 +1,7 @@
+pub mod Adding
 pub mod Assembled
 pub mod Cases
+pub mod Feeds
 pub mod Formed
 pub mod FormedFaults
 pub mod FormedFits
@@ -11,12 +13,11 @@ pub mod FormedLone
 pub mod FormedPositions
 pub mod FormedSpots
 pub mod FormedStrands
+pub mod Goods
 pub mod Joined
 pub mod Numberings
 pub mod Searched
 pub mod Stages
+pub mod Tables
 pub mod Usages
 pub mod Walks
-pub mod Tables
-pub mod Adding
-pub mod Feeds

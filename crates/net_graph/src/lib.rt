@@ -4,10 +4,10 @@
 mod assembly;
 mod fault;
 mod flags;
+mod graph;
 mod input;
 mod joins;
 mod outcomes;
-mod pieces;
 mod places;
 mod search;
 mod strands;
@@ -15,4 +15,5 @@ mod table;
 mod uses;
 
 pub use fault::NetFault;
+pub use graph::build;
 pub use input::feed;
