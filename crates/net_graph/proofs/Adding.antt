@@ -1,15 +1,12 @@
 -- Outcomes are added stage by stage.
-use Rattle.std.proofs.Common.{◌≡◌, ℕ, Bool, true, false, List, [], ◌∷◌, ◌++◌, ◌∙◌, refl, ap, sym, subst, append_assoc, if◌then◌else◌}
+use Rattle.std.proofs.Common.{◌≡◌, Bool, true, false, List, [], ◌∷◌, ◌++◌, ◌∙◌, ap, sym, subst, append_assoc, if◌then◌else◌}
 use Rattle.std.specs.declared.result.Result.{Result}
-use Rattle.std.proofs.lemmas.List.{append-nil}
 use Rattle.std.proofs.lemmas.List.Elements.{filter-append}
 use Rattle.pipe_model.specs.declared.kind.Kind.{Kind}
 use Rattle.stage_syntax.specs.declared.fault.KindFault.{KindFault}
-use Rattle.spec_scanner.specs.declared.piece.PieceKind.{PieceKind}
-use Rattle.spec_scanner.specs.declared.piece.PieceKind.TheVariants.{Stage}
 use Rattle.net_graph.specs.Nets.{AreOutcomes, IsOutcome}
 use Rattle.net_graph.specs.Outcomes.{AddsOutcomes}
-use Rattle.net_graph.specs.Stands.{Stand, is_of_stage, is_stage, stages_of}
+use Rattle.net_graph.specs.Stands.{Stand, is_stage, stages_of}
 
 outcomes_both : (stages more : List Stand) (a b : List (Result Kind KindFault)) → AreOutcomes stages a → AreOutcomes more b → AreOutcomes (stages ++ more) (a ++ b)
 outcomes_both [] more [] b first second = second

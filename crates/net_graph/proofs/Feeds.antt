@@ -1,6 +1,5 @@
 -- A net whose reading CONSOLE is given bytes stays well-formed.
-use Rattle.std.proofs.Common.{◌≡◌, ◌≢◌, ◌⊎◌, inl, inr, ℕ, zero, suc, ◌+◌, ◌-◌, ◌<◌, ◌≤◌, min, Bool, true, false, List, [], ◌∷◌, ◌∙◌, ◌↔◌, length, length-set, slice_get, slice_set, refl, ap, sym, subst, arith, Option, Some, None}
-use Rattle.std.specs.List.{position}
+use Rattle.std.proofs.Common.{◌≡◌, ◌≢◌, ◌⊎◌, inl, inr, ℕ, ◌+◌, ◌-◌, ◌<◌, true, List, ◌∙◌, length, length-set, slice_get, slice_set, refl, ap, sym, subst, arith, Option, Some, None}
 use Rattle.std.specs.Option.{option_map_or}
 use Rattle.pipe_model.specs.declared.kind.Kind.{Kind}
 use Rattle.pipe_model.specs.declared.kind.Kind.TheVariants.{ConsoleIn, ConsoleOut, Locate, FanOut, FanIn, FanInAny, Elastic, Copy}
@@ -10,7 +9,7 @@ use Rattle.pipe_model.specs.declared.net.Strand.{Strand}
 use Rattle.pipe_model.specs.State.{nothing_yet, strand_at}
 use Rattle.pipe_model.specs.Next.{flag_at}
 use Rattle.pipe_model.specs.Table.{Parting, form, line_of}
-use Rattle.pipe_model.specs.Table.Parting.{Whole, Queued, Streamed}
+use Rattle.pipe_model.specs.Table.Parting.{Whole}
 use Rattle.pipe_model.specs.WellFormed.{IsJoined, IsOfStage, IsQueue, IsWellFormed, TellsPorts, places_of, strands_of}
 use Rattle.net_graph.specs.Fed.{fed, reader_of, reads_input, with_kind}
 use Rattle.net_graph.proofs.FormedLists.{equal_or_not, get_set_other, get_set_same}

@@ -13,6 +13,7 @@ pub mod FormedLone
 pub mod FormedPositions
 pub mod FormedSpots
 pub mod FormedStrands
+pub mod Goods
 pub mod Joined
 pub mod Numberings
 pub mod Searched

@@ -2,6 +2,7 @@ pub mod Faults
 pub mod Fed
 pub mod Flags
 pub mod Joins
+pub mod Kept
 pub mod Line
 pub mod Nets
 pub mod Numbered

@@ -6,10 +6,10 @@ ghost use Rattle.net_graph.specs.Stands.{stage_of, stages_of, stands_of};
 
 use crate::flags::{linked_inputs, linked_outputs};
 use crate::joins::links_of;
-use crate::pieces::Pieces;
 use crate::strands::strands_of;
 use crate::uses::later_uses;
 use pipe_model::{Kind, Links, Net, NoMemory, Strands};
+use spec_scanner::Pieces;
 use std::alloc::Global;
 
 /// The net of pipelines without a fault, whose stages are of these kinds, where a table tells the stages that the labels define.

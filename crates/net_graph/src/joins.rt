@@ -2,9 +2,8 @@ ghost use Rattle.std.specs.Prelude.{◌≡◌, ◌<◌, ◌^◌, ◌++◌, None,
 ghost use Rattle.net_graph.specs.Joins.{AreSmall, counted_past, link_by, links_by, links_by_all, spot_by};
 ghost use Rattle.net_graph.specs.Nets.{counted, counted_all};
 
-use crate::pieces::Pieces;
 use pipe_model::{Link, NoMemory};
-use spec_scanner::{Piece, PieceKind};
+use spec_scanner::{Piece, PieceKind, Pieces};
 use std::alloc::Global;
 
 /// A stream of a stage.

@@ -4,11 +4,11 @@
 mod assembly;
 mod fault;
 mod flags;
+mod graph;
 mod input;
 mod joins;
 mod laws;
 mod outcomes;
-mod pieces;
 mod places;
 mod search;
 mod strands;
@@ -16,5 +16,6 @@ mod table;
 mod uses;
 
 pub use fault::NetFault;
+pub use graph::build;
 pub use input::feed;
 pub use laws::straight_net;

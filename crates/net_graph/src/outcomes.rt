@@ -4,9 +4,8 @@ ghost use Rattle.net_graph.specs.Outcomes.{AddsOutcomes};
 ghost use Rattle.net_graph.specs.Searches.{stand};
 ghost use Rattle.net_graph.specs.Stands.{is_of_stage, stages_of, stands_in, stands_of};
 
-use crate::pieces::Pieces;
 use pipe_model::{Kind, NoMemory};
-use spec_scanner::{Piece, PieceKind};
+use spec_scanner::{Piece, PieceKind, Pieces};
 use stage_syntax::{KindFault, kind_of};
 use std::alloc::Global;
 

@@ -9,10 +9,9 @@ ghost use Rattle.spec_scanner.specs.Faults.{IsLeastSo};
 ghost use Rattle.spec_scanner.specs.declared.piece.PieceKind.TheVariants.{Stage};
 ghost use Rattle.spec_scanner.specs.Faults as Found;
 
-use crate::pieces::Pieces;
 use crate::places::{most_inputs, most_outputs};
 use pipe_model::Kind;
-use spec_scanner::{Fault, Piece, PieceKind, least};
+use spec_scanner::{Fault, Piece, PieceKind, Pieces, least};
 use stage_syntax::KindFault;
 
 /// The most stages of a specification.
@@ -35,7 +34,14 @@ pub(crate) struct Search {
 fn noted(found: Option<Fault>, number: u8, place: u32) -> Option<Fault>
     ensures { result ≡ Some (Found.least found (Found.fault number place)) }
 {
-    Some(least(found, Fault::new(number, place)))
+    Some(least(
+        found,
+        Fault {
+            number,
+            argument: 0,
+            place,
+        },
+    ))
 }
 
 // A stage past the 1,024th.

@@ -5,9 +5,8 @@ ghost use Rattle.net_graph.specs.Numbered.{pieces_of};
 ghost use Rattle.net_graph.specs.Outcomes.{tabled, tabled_one};
 
 use crate::joins::counted;
-use crate::pieces::Pieces;
 use pipe_model::NoMemory;
-use spec_scanner::{Piece, PieceKind};
+use spec_scanner::{Piece, PieceKind, Pieces};
 use std::alloc::Global;
 
 // A pipeline's labels, and how many stages are defined after it.

@@ -3,9 +3,8 @@ ghost use Rattle.net_graph.specs.Numbered.{AreNumbered, AreScanned, IsNumbered, 
 ghost use Rattle.net_graph.specs.Uses.{later_by, later_of, more_streams, uses_past};
 ghost use Rattle.net_graph.specs.Stands.{stages_of, stands_of};
 
-use crate::pieces::Pieces;
 use pipe_model::NoMemory;
-use spec_scanner::{Piece, PieceKind};
+use spec_scanner::{Piece, PieceKind, Pieces};
 use std::alloc::Global;
 
 // One piece more, of which the numbers of later uses take note.

@@ -1,13 +1,10 @@
-use Rattle.std.proofs.Common.{◌≡◌, ◌+◌, ◌++◌, ◌∷◌, [], ◌∙◌, List, nat_eq, length, drop, ap, sym, subst, true}
-use Rattle.std.specs.declared.result.Result.{Result}
+use Rattle.std.proofs.Common.{[], ◌∙◌, List, nat_eq, ap, sym, subst, true}
 use Rattle.std.proofs.lemmas.List.{append-nil}
-use Rattle.pipe_model.specs.declared.kind.Kind.{Kind}
-use Rattle.stage_syntax.specs.declared.fault.KindFault.{KindFault}
 use Rattle.net_graph.specs.Nets.{AreOutcomes}
 use Rattle.net_graph.specs.Outcomes.{AddsOutcomes}
 use Rattle.net_graph.specs.Stands.{Stand, stages_of, stands_in}
 use Rattle.net_graph.proofs.Adding.{no_outcome, one_outcome}
-use Rattle.net_graph.proofs.Walks.{stand_here, stands_end, stands_on}
+use Rattle.net_graph.proofs.Walks.{stands_end, stands_on}
 use Rattle.net_graph.proofs.outcomes.add_outcomes.Goals as goal
 use Rattle.net_graph.proofs.outcomes.add_outcomes.Goals.{then-is_stage+in_ok-outcome+in_ok-push, else-is_stage}
 

@@ -1,4 +1,4 @@
-use Rattle.std.proofs.Common.{◌≡◌, ◌+◌, ◌++◌, [], List, length, drop, ap, sym, subst, true}
+use Rattle.std.proofs.Common.{[], List, ap, sym, subst, true}
 use Rattle.std.proofs.lemmas.List.{append-nil}
 use Rattle.spec_scanner.specs.declared.piece.Piece.{Piece}
 use Rattle.net_graph.specs.Nets.{AreOutcomes}

@@ -1,9 +1,6 @@
-use Rattle.std.proofs.Common.{◌≡◌, ◌+◌, ◌∙◌, List, ℕ, drop, ap, arith, sym, refl}
-use Rattle.spec_scanner.specs.declared.piece.Piece.{Piece}
+use Rattle.std.proofs.Common.{◌+◌, ◌∙◌, drop, ap, arith, sym}
 use Rattle.net_graph.specs.Joins.{counted_past}
 use Rattle.net_graph.specs.Nets.{counted_all}
-use Rattle.net_graph.specs.Numbered.{pieces_of}
-use Rattle.net_graph.specs.Outcomes.{tabled}
 use Rattle.net_graph.proofs.Joined.{left_at, past_least}
 use Rattle.net_graph.proofs.Tables.{tabled_past}
 use Rattle.net_graph.proofs.Usages.{pieces_past}
