@@ -4,11 +4,15 @@ pub mod CoreRuns
 pub mod Feds
 pub mod Finishes
 pub mod GraphKinds
+pub mod GraphOnce
+pub mod Journals
 pub mod Kept
 pub mod LineFed
 pub mod LineFormed
 pub mod LineReply
 pub mod LineStrands
+pub mod Meanings
+pub mod OneRuns
 pub mod Refusals
 pub mod Replies
 pub mod Runs
