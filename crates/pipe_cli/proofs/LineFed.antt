@@ -10,7 +10,7 @@ use Rattle.pipe_model.specs.Play.{play, IsLegal, IsComplete}
 use Rattle.pipe_model.specs.Reply.{Reply, reply}
 use Rattle.pipe_model.specs.WellFormed.{IsWellFormed}
 use Rattle.net_graph.specs.Fed.{reader_of, with_kind}
-use Rattle.pipe_cli.specs.Line.{line_net}
+use Rattle.net_graph.specs.Line.{line_net}
 use Rattle.pipe_cli.specs.Meaning.{Filters, net_on, taken, reads_any}
 use Rattle.pipe_cli.proofs.LineReply.{line_replies, line_reads}
 use Rattle.pipe_cli.proofs.LineStrands.{line_size}

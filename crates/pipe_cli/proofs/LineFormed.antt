@@ -16,7 +16,7 @@ use Rattle.pipe_model.specs.WellFormed.{IsWellFormed, TellsPorts}
 use Rattle.stage_steps.specs.First.{IsFirstKind}
 use Rattle.confluence_laws.proofs.Basics.{at_some, test_apart}
 use Rattle.confluence_laws.proofs.Formed.{AllAt, IsLone, IsLink, no_two, lone_formed}
-use Rattle.pipe_cli.specs.Line.{first_strand, locate_strand, last_strand, line_net}
+use Rattle.net_graph.specs.Line.{first_strand, locate_strand, last_strand, line_net}
 use Rattle.pipe_cli.proofs.LineStrands.{each_strand, line_size, link_at, line_out, line_in, none_out, none_in, none_out_more, none_in_more}
 
 -- a fact at each place is a fact of all

@@ -20,7 +20,7 @@ use Rattle.confluence_laws.proofs.Flow.{IsFlowing, all_flows}
 use Rattle.confluence_laws.proofs.Passes.{first_pass}
 use Rattle.confluence_laws.proofs.Progress.{has_ended_at, last_took}
 use Rattle.confluence_laws.proofs.Second.{second_pass}
-use Rattle.pipe_cli.specs.Line.{strands_from, line_net}
+use Rattle.net_graph.specs.Line.{strands_from, line_net}
 use Rattle.pipe_cli.proofs.LineStrands.{line_straight}
 use Rattle.pipe_cli.proofs.LineFormed.{line_formed, line_plain, line_ordered, line_calm}
 

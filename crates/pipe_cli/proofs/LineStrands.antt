@@ -6,7 +6,7 @@ use Rattle.pipe_model.specs.declared.kind.Kind.TheVariants.{ConsoleIn, ConsoleOu
 use Rattle.pipe_model.specs.State.{Who, same, nothing_yet, strand_at, link_in, link_out}
 use Rattle.pipe_model.specs.Straight.{IsStraightNet, all_columns, next_link, chain}
 use Rattle.confluence_laws.proofs.Basics.{and_false, equal_or_not, test_same, test_apart}
-use Rattle.pipe_cli.specs.Line.{first_strand, locate_strand, last_strand, strands_from, line_net}
+use Rattle.net_graph.specs.Line.{first_strand, locate_strand, last_strand, strands_from, line_net}
 
 -- Strands
 

@@ -1,7 +1,6 @@
 pub mod Answer
 pub mod Command
 pub mod Devices
-pub mod Line
 pub mod Meaning
 pub mod Outcome
 pub mod Refusals

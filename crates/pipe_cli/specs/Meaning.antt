@@ -20,7 +20,7 @@ use Rattle.pipe_cli.specs.declared.command.Command.TheVariants.{Run, Check, Samp
 use Rattle.pipe_cli.specs.declared.status.Outcome.{Outcome}
 use Rattle.pipe_cli.specs.declared.status.Outcome.TheVariants.{Done, Coded, SpecRefused, Stalled, Spent, ReadFault, WriteFault, NoMemory, Usage, InputTooLarge, NotYet}
 use Rattle.pipe_cli.specs.Command.{command_of}
-use Rattle.pipe_cli.specs.Line.{line_net}
+use Rattle.net_graph.specs.Line.{line_net}
 use Rattle.pipe_cli.specs.Refusals.{HasLeastFault}
 
 -- the most bytes that a run reads: 64 MiB
