@@ -7,6 +7,7 @@ mod flags;
 mod graph;
 mod input;
 mod joins;
+mod notes;
 mod outcomes;
 mod places;
 mod search;
