@@ -1,17 +1,15 @@
-ghost use Rattle.std.specs.Prelude.{◌≡◌, ◌<◌, ◌≤◌, ◌+◌, ◌^◌, ℕ, Some, None, length, slice_get, true, MatchOption, []};
-ghost use Rattle.net_graph.specs.Faults as Faults;
+ghost use Rattle.std.specs.Prelude.{◌≡◌, ◌<◌, ◌≤◌, ◌+◌, ◌^◌, ℕ, Some, length, slice_get, true, []};
 ghost use Rattle.net_graph.specs.Faults.{faults_of};
 ghost use Rattle.net_graph.specs.Nets.{AreOutcomes};
 ghost use Rattle.net_graph.specs.Searches as Searches;
-ghost use Rattle.net_graph.specs.Searches.{labelled_kind, second_faults, stand};
+ghost use Rattle.net_graph.specs.Searches.{stand};
 ghost use Rattle.net_graph.specs.Stands.{stage_of, stages_of, stands_in, stands_of};
 ghost use Rattle.spec_scanner.specs.Faults.{IsLeastSo};
 ghost use Rattle.spec_scanner.specs.declared.piece.PieceKind.TheVariants.{Stage};
-ghost use Rattle.spec_scanner.specs.Faults as Found;
 
 use crate::notes::{is_console, labelled_kind, note_kind, note_stage, note_stream, noted};
 use pipe_model::Kind;
-use spec_scanner::{Fault, Piece, PieceKind, Pieces, least};
+use spec_scanner::{Fault, Piece, PieceKind, Pieces};
 use stage_syntax::KindFault;
 
 /// What is kept of the pieces that were passed: the least fault, how many stages they define, and whether a CONSOLE is among
