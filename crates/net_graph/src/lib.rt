@@ -8,6 +8,7 @@ mod graph;
 mod input;
 mod joins;
 mod laws;
+mod notes;
 mod outcomes;
 mod places;
 mod search;

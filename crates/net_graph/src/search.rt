@@ -1,24 +1,16 @@
-ghost use Rattle.std.specs.Prelude.{◌≡◌, ◌<◌, ◌≤◌, ◌+◌, ◌^◌, ℕ, Some, None, length, slice_get, true, MatchOption, []};
-ghost use Rattle.net_graph.specs.Faults as Faults;
+ghost use Rattle.std.specs.Prelude.{◌≡◌, ◌<◌, ◌≤◌, ◌+◌, ◌^◌, ℕ, Some, length, slice_get, true, []};
 ghost use Rattle.net_graph.specs.Faults.{faults_of};
 ghost use Rattle.net_graph.specs.Nets.{AreOutcomes};
 ghost use Rattle.net_graph.specs.Searches as Searches;
-ghost use Rattle.net_graph.specs.Searches.{labelled_kind, second_faults, stand};
+ghost use Rattle.net_graph.specs.Searches.{stand};
 ghost use Rattle.net_graph.specs.Stands.{stage_of, stages_of, stands_in, stands_of};
 ghost use Rattle.spec_scanner.specs.Faults.{IsLeastSo};
 ghost use Rattle.spec_scanner.specs.declared.piece.PieceKind.TheVariants.{Stage};
-ghost use Rattle.spec_scanner.specs.Faults as Found;
 
-use crate::places::{most_inputs, most_outputs};
+use crate::notes::{is_console, labelled_kind, note_kind, note_stage, note_stream, noted};
 use pipe_model::Kind;
-use spec_scanner::{Fault, Piece, PieceKind, Pieces, least};
+use spec_scanner::{Fault, Piece, PieceKind, Pieces};
 use stage_syntax::KindFault;
-
-/// The most stages of a specification.
-const MOST_STAGES: usize = 1_024;
-
-/// The most streams of a stage.
-const MOST_STREAMS: u16 = 64;
 
 /// What is kept of the pieces that were passed: the least fault, how many stages they define, and whether a CONSOLE is among
 /// them that reads, and one that writes.
@@ -28,99 +20,6 @@ pub(crate) struct Search {
     pub stages: usize,
     pub reads: bool,
     pub writes: bool,
-}
-
-// The first of a fault found before, if any, and another one.
-fn noted(found: Option<Fault>, number: u8, place: u32) -> Option<Fault>
-    ensures { result ≡ Some (Found.least found (Found.fault number place)) }
-{
-    Some(least(
-        found,
-        Fault {
-            number,
-            argument: 0,
-            place,
-        },
-    ))
-}
-
-// A stage past the 1,024th.
-fn note_stage(found: Option<Fault>, piece: &Piece, stages: usize) -> Option<Fault>
-    ensures { result ≡ Searches.noted found (Faults.stage_faults stages (stand piece.now true true)) }
-{
-    if stages < MOST_STAGES {
-        found
-    } else {
-        noted(found, 16, piece.place)
-    }
-}
-
-// A name that is unknown, or arguments that aren't of its form.
-fn note_kind(
-    found: Option<Fault>,
-    piece: &Piece,
-    outcomes: &[Result<Kind, KindFault>],
-    stages: usize,
-) -> Option<Fault>
-    ensures { result ≡ Searches.noted found (Faults.kind_faults (stand piece.now true true) (slice_get outcomes.now stages)) }
-{
-    match outcomes.get(stages) {
-        Some(Err(KindFault::Unknown)) => noted(found, 11, piece.name_place),
-        Some(Err(KindFault::Argument(fault))) => Some(least(
-            found,
-            Fault {
-                number: 12,
-                argument: fault.kind.number(),
-                place: fault.place,
-            },
-        )),
-        _ => found,
-    }
-}
-
-// Whether the piece is a CONSOLE.
-fn is_console(piece: &Piece) -> bool
-    ensures { result ≡ Faults.is_console piece.now }
-{
-    piece.name.bytes().eq_ignore_ascii_case(b"console")
-}
-
-// The kind of the stage that a label defines.
-fn labelled_kind<'a>(
-    table: &[usize],
-    outcomes: &'a [Result<Kind, KindFault>],
-    label: Option<u32>,
-) -> Option<&'a Kind>
-    ensures { MatchOption result (labelled_kind table.now outcomes.now label ≡ None) (λ kind. labelled_kind table.now outcomes.now label ≡ Some kind.now) }
-{
-    let stage = table.get(label? as usize)?;
-    match outcomes.get(*stage) {
-        Some(Ok(kind)) => Some(kind),
-        _ => None,
-    }
-}
-
-// A later use of a stream that there can't be.
-fn note_stream(
-    found: Option<Fault>,
-    piece: &Piece,
-    first: bool,
-    last: bool,
-    kind: Option<&Kind>,
-) -> Option<Fault>
-    ensures { MatchOption kind.entry (result ≡ Searches.noted found (Faults.stream_faults (stand piece.now first last) None)) (λ kind. result ≡ Searches.noted found (Faults.stream_faults (stand piece.now first last) (Some kind.now))) }
-{
-    let past = match kind {
-        Some(kind) => {
-            !first && piece.uses >= most_inputs(kind) || !last && piece.uses >= most_outputs(kind)
-        }
-        None => false,
-    };
-    if piece.uses >= MOST_STREAMS || past {
-        noted(found, 13, piece.place)
-    } else {
-        found
-    }
 }
 
 // The search after one piece.

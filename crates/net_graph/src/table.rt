@@ -1,8 +1,8 @@
-ghost use Rattle.std.specs.Prelude.{◌≡◌, ◌<◌, ◌^◌, [], ℕ, Some, slice_get, IfOk, OnOk};
+ghost use Rattle.std.specs.Prelude.{◌≡◌, ◌<◌, ◌^◌, [], IfOk, OnOk};
 ghost use Rattle.net_graph.specs.Joins.{counted_past};
-ghost use Rattle.net_graph.specs.Nets.{counted, counted_all};
+ghost use Rattle.net_graph.specs.Nets.{counted_all};
 ghost use Rattle.net_graph.specs.Numbered.{pieces_of};
-ghost use Rattle.net_graph.specs.Outcomes.{tabled, tabled_one};
+ghost use Rattle.net_graph.specs.Outcomes.{tabled};
 
 use crate::joins::counted;
 use pipe_model::NoMemory;
