@@ -21,7 +21,6 @@ pub mod Readings
 pub mod Rising
 pub mod Scans
 pub mod Settling
-pub mod Slashes
 pub mod SoFar
 pub mod StraightCuts
 pub mod StraightItems

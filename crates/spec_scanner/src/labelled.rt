@@ -22,7 +22,7 @@ fn refer(alloc: Global, findings: &mut Findings, name: &[u8], place: u32, end: u
         findings.note(Fault {
             number: 7,
             argument: 0,
-            place: place,
+            place,
         });
         return reference_piece(alloc, None, 0, place, end);
     };
@@ -45,7 +45,7 @@ fn define(
         findings.note(Fault {
             number: 6,
             argument: 0,
-            place: place,
+            place,
         });
         return named_piece(alloc, PieceKind::Stage, None, place, items);
     }
@@ -67,7 +67,7 @@ fn bad_label(
     findings.note(Fault {
         number: 8,
         argument: 0,
-        place: place,
+        place,
     });
     if items.is_empty() {
         return Ok(reference_piece(alloc, None, 0, place, end));

@@ -1,4 +1,4 @@
-//! The text of a specification: what it reads as, or its least fault; and a reader of one form alone, `console | locate /string/ | .. | console`.
+//! The text of a specification: what it reads as, or its least fault.
 #![tactic(auto)]
 
 mod body;
@@ -11,7 +11,6 @@ mod labels;
 mod laws;
 mod option_words;
 mod options;
-mod parts;
 mod piece;
 mod pieces;
 mod scanned;
@@ -19,7 +18,6 @@ mod scanner;
 mod settings;
 mod signs;
 mod stages;
-mod straight_line;
 mod words;
 
 pub use fault::{Fault, SpecFault, least};
@@ -27,7 +25,6 @@ pub use laws::{no_refusal, one_reading_of};
 pub use piece::{Piece, PieceKind};
 pub use scanned::{Pieces, Scanned};
 pub use scanner::scan;
-pub use straight_line::{one_reading, straight};
 
 #[cfg(test)]
 mod tests;

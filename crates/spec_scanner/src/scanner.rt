@@ -44,7 +44,7 @@ fn with_escaped(found: Option<Fault>, is_cut_short: bool, size: u32) -> Option<F
             Fault {
                 number: 9,
                 argument: 0,
-                place: place,
+                place,
             },
         ))
     } else {

@@ -36,7 +36,7 @@ fn word_fault(is_new: bool, place: u32) -> Option<Fault>
         Some(Fault {
             number: 3,
             argument: 0,
-            place: place,
+            place,
         })
     }
 }

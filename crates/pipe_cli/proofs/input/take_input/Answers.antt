@@ -9,10 +9,10 @@ feed-requires g c = record { reads = reader_at c.args.net c.in-Some.strand (sym 
 pub returns-clause-whole : goal.returns-clause-whole
 returns-clause-whole g c =
     let there = reader_at c.args.net c.in-Some.strand (sym c.reader.ensures ∙ c.in-Some.is) in
-    subst (λ z. IsWellFormed z) (sym c.feed.ensures) (fed_formed c.args.net c.in-Some.strand c.from_vec.result there c.requires.whole)
+    subst (λ z. IsWellFormed z) (sym c.feed.ensures.fed) (fed_formed c.args.net c.in-Some.strand c.from_vec.result there c.requires.whole)
 
 pub returns-clause-kinds : goal.returns-clause-kinds
 returns-clause-kinds g c =
     let there = reader_at c.args.net c.in-Some.strand (sym c.reader.ensures ∙ c.in-Some.is) in
     let kinds = fed_kinds c.args.net c.in-Some.strand c.from_vec.result there c.requires.kinds in
-    rw c.feed.ensures kinds
+    rw c.feed.ensures.fed kinds
