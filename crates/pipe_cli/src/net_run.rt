@@ -68,6 +68,7 @@ fn stages_of(alloc: Global, net: &Net) -> Result<Vec<Box<FirstStage>>, NoMemory>
 
 // How a run that is complete ended.
 pub(crate) fn outcome_of(core: &Core<Box<FirstStage>>) -> Outcome
+    requires few { length core.now.net.strands ≤ 65536 }
     ensures { IsOutcomeOf (reply core.now.net (state_of core.now)) result }
 {
     let mut code = 0;
@@ -92,6 +93,7 @@ pub(crate) fn write_kept<O: Sink>(
     core: &Core<Box<FirstStage>>,
 ) -> Result<(), Outcome>
     requires home { core.now.out ≡ [] }
+    requires few { length core.now.net.strands ≤ 65536 }
     ensures { let old = device (O.written output.old) (O.faults output.old) in let new = device (O.written output.new) (O.faults output.new) in
         MatchResult result (λ _. IsWritten (console_from (state_of core.now) 0 core.now.net.strands) old new) (λ outcome. IsPartWritten (console_from (state_of core.now) 0 core.now.net.strands) old new outcome) }
 {

@@ -8,6 +8,11 @@ use Rattle.core_machine.specs.Machine.{state_of}
 use Rattle.pipe_cli.proofs.Runs.{ended_none, reply_waits, down_none, down_code}
 use Rattle.pipe_cli.proofs.net_run.outcome_of.Goals as goal
 
+pub overflow_cast-strand : goal.overflow_cast-strand
+overflow_cast-strand c =
+    let size = ap length (c.as_slice.ensures ∙ ap (λ (n : Net). n.strands) c.net.ensures) in
+    omega (arith, size, c.requires)
+
 pub returns-in_default : goal.returns-in_default
 returns-in_default c =
     let core = c.args.core.now in

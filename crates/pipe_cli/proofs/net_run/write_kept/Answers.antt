@@ -13,6 +13,12 @@ use Rattle.pipe_cli.proofs.Kept.{with_kept, without_kept, wrote_more, wrote_part
 use Rattle.pipe_cli.proofs.net_run.write_kept.Goals as goal
 use Rattle.pipe_cli.proofs.net_run.write_kept.Goals.{in-ConsoleOut+in_ok-write_all, in_default}
 
+pub overflow_cast-k : goal.overflow_cast-k
+overflow_cast-k g c =
+    let size = ap length (c.as_slice-strands.ensures ∙ ap (λ (n : Net). n.strands) c.net.ensures) in
+    let below = c.loop-k-test.true in
+    omega (arith, size, below, c.requires.few)
+
 pub returns-in_err-write_all : goal.returns-in_err-write_all
 returns-in_err-write_all g c =
     let p = err_from_is_err_and c.from_residual.result c.from_residual.ensures.1 in
