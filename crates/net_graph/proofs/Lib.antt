@@ -15,6 +15,8 @@ pub mod FormedSpots
 pub mod FormedStrands
 pub mod Joined
 pub mod Numberings
+pub mod OneNets
+pub mod OneOutcomes
 pub mod Searched
 pub mod Stages
 pub mod StraightChains
