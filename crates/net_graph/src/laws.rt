@@ -21,3 +21,8 @@ pub fn one_net()
 pub fn no_net_refusal()
     ensures { (pipelines : List (List Piece)) (net : Net) (fault : Fault) → IsGraph pipelines net → ¬ IsRefused pipelines fault }
 {}
+
+/// The pieces that a text reads as have one refusal at most.
+pub fn one_net_refusal()
+    ensures { (text : List ℕ) (pipelines : List (List Piece)) (a b : Fault) → Reads text pipelines → IsRefused pipelines a → IsRefused pipelines b → a ≡ b }
+{}

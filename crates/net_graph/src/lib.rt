@@ -17,4 +17,4 @@ mod uses;
 
 pub use fault::NetFault;
 pub use input::feed;
-pub use laws::{no_net_refusal, one_net, straight_net};
+pub use laws::{no_net_refusal, one_net, one_net_refusal, straight_net};
