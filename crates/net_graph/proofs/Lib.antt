@@ -1,6 +1,7 @@
 pub mod Adding
 pub mod Assembled
 pub mod Cases
+pub mod FaultRanks
 pub mod Feeds
 pub mod Formed
 pub mod FormedFaults
@@ -14,8 +15,13 @@ pub mod FormedPositions
 pub mod FormedSpots
 pub mod FormedStrands
 pub mod Goods
+pub mod ItemRuns
 pub mod Joined
 pub mod Numberings
+pub mod OneFaults
+pub mod OneNets
+pub mod OneOutcomes
+pub mod PieceSpreads
 pub mod Searched
 pub mod Stages
 pub mod StraightChains

@@ -19,4 +19,4 @@ mod uses;
 pub use fault::NetFault;
 pub use graph::build;
 pub use input::feed;
-pub use laws::straight_net;
+pub use laws::{no_net_refusal, one_net, one_net_refusal, straight_net};
