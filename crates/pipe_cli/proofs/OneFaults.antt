@@ -72,7 +72,7 @@ module _ (one_kind : (name : List ℕ) (arg : ArgText) (first : Bool) (a b : Kin
       (no_refusal : (text : List ℕ) (pipelines : List (List Piece)) (fault : Fault) → Reads text pipelines → ¬ IsTextRefused text fault)
       (one_text_fault : (text : List ℕ) (a b : Fault) → IsTextRefused text a → IsTextRefused text b → a ≡ b)
       (one_argument : (text : List ℕ) (pipelines : List (List Piece)) (outcomes : List (Result Kind KindFault)) → Reads text pipelines → AreOutcomes (stages_of (stands_of pipelines)) outcomes →
-        (a b : Fault) → Contains (faults_of pipelines outcomes) a → Contains (faults_of pipelines outcomes) b → a.place ≡ b.place → a.number ≡ b.number → a.argument ≡ b.argument) where
+      (a b : Fault) → Contains (faults_of pipelines outcomes) a → Contains (faults_of pipelines outcomes) b → a.place ≡ b.place → a.number ≡ b.number → a.argument ≡ b.argument) where
     -- pieces that are read have one least fault
     one_graph_fault : (text : List ℕ) (pipelines : List (List Piece)) (a b : Fault) → Reads text pipelines → IsRefused pipelines a → IsRefused pipelines b → a ≡ b
     one_graph_fault text pipelines a b reads first second =

@@ -12,7 +12,10 @@ pub enum Command {
         trace: Option<Rec>,
     },
     /// To check a journal file, named by 1 to 255 bytes, against a specification.
-    Check { spec: Rec, name: Rec },
+    Check {
+        spec: Rec,
+        name: Rec,
+    },
     /// To run the sample on an input of so many lines, 1 to 200,000.
     Sample {
         lines: u32,

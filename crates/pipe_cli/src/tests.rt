@@ -90,7 +90,8 @@ const LINE: &str = "console | locate /b/ | console";
 
 const TEXT: &[u8] = b"ab\ncd\nb";
 
-const USAGE: &[u8] = b"usage: pipe SPEC [--workers N] [--steps N] [--trace NAME] [--check NAME] | pipe --sample N\n";
+const USAGE: &[u8] =
+    b"usage: pipe SPEC [--workers N] [--steps N] [--trace NAME] [--check NAME] | pipe --sample N\n";
 
 const TWO: &str = "(endchar ?) console | a: locate /x/ | console ? a: | locate /y/";
 
@@ -114,13 +115,7 @@ fn words_and_bytes_give_bytes_and_a_status(rt: HostRuntime) -> Result<(), Fail> 
             b"",
         ),
         (&[TWO, "--steps", "27"], b"x\nzy\n", 0, b"x\n", b""),
-        (
-            &[TWO, "--steps=26"],
-            b"x\nzy\n",
-            4,
-            b"",
-            b"spent 26\n",
-        ),
+        (&[TWO, "--steps=26"], b"x\nzy\n", 4, b"", b"spent 26\n"),
         (&["console | locate 2 /d/"], TEXT, 0, b"", b""),
         (&["locate /b/ | console"], TEXT, 0, b"", b""),
         (
