@@ -11,6 +11,7 @@ pub mod LineFormed
 pub mod LineReply
 pub mod LineStrands
 pub mod Meanings
+pub mod OneFaults
 pub mod OneRuns
 pub mod Replies
 pub mod Runs
