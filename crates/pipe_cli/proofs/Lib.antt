@@ -1,5 +1,7 @@
+pub mod Answering
 pub mod Commands
 pub mod CoreRuns
+pub mod FedStrands
 pub mod Feds
 pub mod Finishes
 pub mod GraphKinds
