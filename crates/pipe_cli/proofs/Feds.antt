@@ -10,17 +10,16 @@ use Rattle.std.proofs.lemmas.Option.{slice_get_within}
 use Rattle.pipe_model.specs.declared.net.Net.{Net}
 use Rattle.pipe_model.specs.declared.net.Link.{Link}
 use Rattle.pipe_model.specs.declared.net.Strand.{Strand}
-use Rattle.pipe_model.specs.declared.kind.Kind.{Kind}
-use Rattle.pipe_model.specs.declared.kind.Kind.TheVariants.{ConsoleIn, ConsoleOut, Locate, FanOut, FanIn, FanInAny, Elastic, Copy}
+use Rattle.pipe_model.specs.declared.kind.Kind.TheVariants.{ConsoleIn}
 use Rattle.pipe_model.specs.Next.{flag_at}
 use Rattle.pipe_model.specs.State.{Who, nothing_yet, strand_at, link_in, link_out}
-use Rattle.pipe_model.specs.Table.{form, line_of}
-use Rattle.pipe_model.specs.Table.Parting.{Whole}
+use Rattle.pipe_model.specs.Table.{form}
 use Rattle.pipe_model.specs.WellFormed.{IsWellFormed, IsOfStage, IsJoined, IsQueue, TellsPorts, strands_of, places_of}
 use Rattle.net_graph.specs.Fed.{reader_of, reads_input, with_kind}
 use Rattle.stage_steps.specs.First.{IsFirstKind}
 use Rattle.confluence_laws.proofs.Basics.{at_some, cond_some, equal_or_not, found_at}
 use Rattle.core_machine.proofs.Plays.{get_set_same, get_set_other}
+use Rattle.pipe_cli.proofs.FedStrands.{IsLike, like_same, like_fed}
 
 -- the strand that reads is there
 pub reader_at : (net : Net) (s : ℕ) → reader_of net ≡ Some s → (p : Strand) × (slice_get net.strands s ≡ Some p) × (reads_input p.kind ≡ true)
@@ -33,61 +32,6 @@ reader_at net s is =
     let p = at_some net.strands n within in
     let passes = (found_at test net.strands (find_at test net.strands ∙ p.1)).0 in
     (p.0, subst (λ z. slice_get net.strands z ≡ Some p.0) same p.1, passes)
-
--- a strand before and after it was given bytes
-record IsLike (p q : Strand) : Type 0 where
-  name_is : q.name ≡ p.name
-  part_is : q.part ≡ p.part
-  unit_is : q.unit ≡ p.unit
-  ports_is : q.ports ≡ p.ports
-  inputs_is : (form q).inputs ≡ (form p).inputs
-  outputs_is : (form q).outputs ≡ (form p).outputs
-  parting_is : (form q).parting ≡ (form p).parting
-  kept : reads_input p.kind ≡ false → q.kind ≡ p.kind
-  whole : reads_input p.kind ≡ true → (form p).parting ≡ Whole
-  first : IsFirstKind p.kind → IsFirstKind q.kind
-
--- a kind that reads stays whole
-whole_if : (p : Strand) (k : Kind) → reads_input k ≡ true → (line_of p k).parting ≡ Whole
-whole_if p (ConsoleIn bytes) is = refl
-whole_if p ConsoleOut is = cc
-whole_if p (Locate range text) is = cc
-whole_if p FanOut is = cc
-whole_if p FanIn is = cc
-whole_if p FanInAny is = cc
-whole_if p Elastic is = cc
-whole_if p Copy is = cc
-
-like_same : (p : Strand) → IsLike p p
-like_same p = record { name_is = refl; part_is = refl; unit_is = refl; ports_is = refl; inputs_is = refl; outputs_is = refl; parting_is = refl; kept = λ is. refl; whole = whole_if p p.kind; first = λ is. is }
-
--- a reading CONSOLE has no inputs and one output
-reading_places : (p q : Strand) (bytes : List ℕ) (k : Kind) → reads_input k ≡ true →
-    ((line_of q (ConsoleIn bytes)).inputs ≡ (line_of p k).inputs) × ((line_of q (ConsoleIn bytes)).outputs ≡ (line_of p k).outputs) × ((line_of q (ConsoleIn bytes)).parting ≡ (line_of p k).parting)
-reading_places p q bytes (ConsoleIn old) is = (refl, refl, refl)
-reading_places p q bytes ConsoleOut is = cc
-reading_places p q bytes (Locate range text) is = cc
-reading_places p q bytes FanOut is = cc
-reading_places p q bytes FanIn is = cc
-reading_places p q bytes FanInAny is = cc
-reading_places p q bytes Elastic is = cc
-reading_places p q bytes Copy is = cc
-
-like_fed : (p : Strand) (bytes : List ℕ) → reads_input p.kind ≡ true → IsLike p (record p { kind = ConsoleIn bytes })
-like_fed p bytes is =
-    let places = reading_places p (record p { kind = ConsoleIn bytes }) bytes p.kind is in
-    record {
-      name_is = refl;
-      part_is = refl;
-      unit_is = refl;
-      ports_is = refl;
-      inputs_is = places.0;
-      outputs_is = places.1;
-      parting_is = places.2;
-      kept = λ other. (let e : true ≡ false = sym is ∙ other in cc);
-      whole = whole_if p p.kind;
-      first = λ any. tt;
-    }
 
 module _ (net : Net) (s : ℕ) (bytes : List ℕ) (there : (p : Strand) × (slice_get net.strands s ≡ Some p) × (reads_input p.kind ≡ true)) where
   abbrev after : Net

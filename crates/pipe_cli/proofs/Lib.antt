@@ -1,6 +1,8 @@
+pub mod Answering
 pub mod CommandCases
 pub mod Commands
 pub mod CoreRuns
+pub mod FedStrands
 pub mod Feds
 pub mod Finishes
 pub mod GraphKinds
