@@ -16,6 +16,7 @@ pub mod Nowhere
 pub mod OneBodies
 pub mod OneOutsets
 pub mod OneReadings
+pub mod OneRefusals
 pub mod Prefixes
 pub mod Readings
 pub mod Rising
