@@ -15,7 +15,6 @@ pub mod FormedPositions
 pub mod FormedSpots
 pub mod FormedStrands
 pub mod Goods
-pub mod ItemRuns
 pub mod Joined
 pub mod Numberings
 pub mod OneFaults

@@ -10,9 +10,9 @@ use Rattle.spec_scanner.specs.Labels.{Label, bad_label, define, good_label, labe
 use Rattle.spec_scanner.specs.Pieces.{after_word, bytes_of, colon_of, end_of, first_word, from_word, is_connector, is_good_label, named_piece, place_of, reference_piece}
 use Rattle.spec_scanner.specs.Reads.{Reads}
 use Rattle.spec_scanner.specs.Stretches.{Stretch, cut, is_end, is_ignored, is_separator, trimmed, without_front}
+use Rattle.spec_scanner.proofs.ItemRuns.{AreIn, BodyItem, Parted, cut_parted, in_drop, in_trimmed, run_follow, run_in, run_within}
 use Rattle.spec_scanner.proofs.Rising.{follow}
 use Rattle.net_graph.specs.Numbered.{pieces_of}
-use Rattle.net_graph.proofs.ItemRuns.{AreIn, Item, Parted, cut_parted, in_drop, in_trimmed, run_follow, run_in, run_within}
 
 -- a place stands between two others
 abbrev pub IsBetween : ℕ → ℕ → ℕ → Type 0
@@ -39,19 +39,19 @@ spread_joined at [] middle others end are later = spread_lower at middle others 
 spread_joined at (piece ∷ pieces) middle others end are later = (are.0, are.1, are.2, spread_joined (suc are.0) pieces middle others end are.3 later)
 
 module _ (low high : ℕ) where
-  place_between : (items : List Item) (place : ℕ) → AreIn low high items → IsBetween low high place → IsBetween low high (place_of items place)
+  place_between : (items : List BodyItem) (place : ℕ) → AreIn low high items → IsBetween low high place → IsBetween low high (place_of items place)
   place_between [] place are is = is
   place_between (item ∷ items) place are is = (are.0, omega (arith, are.1, are.2))
 
-  last_between : (found : Option Item) (items : List Item) (place : ℕ) → AreIn low high items → IsBetween low high (option_map_or (λ (item : Item). item.after) found place)
-      → IsBetween low high (option_map_or (λ (item : Item). item.after) (last_or found items) place)
+  last_between : (found : Option BodyItem) (items : List BodyItem) (place : ℕ) → AreIn low high items → IsBetween low high (option_map_or (λ (item : BodyItem). item.after) found place)
+      → IsBetween low high (option_map_or (λ (item : BodyItem). item.after) (last_or found items) place)
   last_between found [] place are is = is
   last_between found (item ∷ items) place are is = last_between (Some item) items place are.3 (omega (arith, are.0, are.1), are.2)
 
-  end_between : (items : List Item) (place : ℕ) → AreIn low high items → IsBetween low high place → IsBetween low high (end_of items place)
+  end_between : (items : List BodyItem) (place : ℕ) → AreIn low high items → IsBetween low high place → IsBetween low high (end_of items place)
   end_between items place are is = last_between None items place are is
 
-  argument_placed : (items : List Item) (end : ℕ) → AreIn low high items → IsBetween low high end → (k : ℕ) → IsBetween low high (get_or (map (λ (item : Item). item.place) items) k end)
+  argument_placed : (items : List BodyItem) (end : ℕ) → AreIn low high items → IsBetween low high end → (k : ℕ) → IsBetween low high (get_or (map (λ (item : BodyItem). item.place) items) k end)
   argument_placed [] end are is k = is
   argument_placed (item ∷ items) end are is zero = (are.0, omega (arith, are.1, are.2))
   argument_placed (item ∷ items) end are is (suc k) = argument_placed items end are.3 is k
@@ -59,7 +59,7 @@ module _ (low high : ℕ) where
   one_spread : (piece : Piece) → IsPlaced low high piece.arg → low ≤ high → Spread low (piece ∷ []) (suc high)
   one_spread piece is within = (high, within, is, omega arith)
 
-  named_spread : (kind : PieceKind) (label : Option ℕ) (place : ℕ) (items : List Item) → AreIn low high items → IsBetween low high place
+  named_spread : (kind : PieceKind) (label : Option ℕ) (place : ℕ) (items : List BodyItem) → AreIn low high items → IsBetween low high place
       → Spread low (named_piece kind label place items ∷ []) (suc high)
   named_spread kind label place items are is =
       one_spread (named_piece kind label place items)
@@ -74,32 +74,32 @@ module _ (low high : ℕ) where
     refer_spread None = reference_spread None 0 place end end_is
     refer_spread (Some number) = reference_spread (Some number) (suc (uses_of labels number)) place end end_is
 
-    define_spread : (items : List Item) (number : Option ℕ) → AreIn low high items → Spread low (define labels name place items number).pieces (suc high)
+    define_spread : (items : List BodyItem) (number : Option ℕ) → AreIn low high items → Spread low (define labels name place items number).pieces (suc high)
     define_spread items (Some number) are = named_spread Stage None place items are place_is
     define_spread items None are = named_spread Stage (Some (length labels)) place items are place_is
 
-    bad_spread : (items : List Item) → AreIn low high items → Spread low (bad_label labels place end items).pieces (suc high)
+    bad_spread : (items : List BodyItem) → AreIn low high items → Spread low (bad_label labels place end items).pieces (suc high)
     bad_spread [] are = reference_spread None 0 place end end_is
     bad_spread (item ∷ items) are = named_spread Stage None place (item ∷ items) are place_is
 
-    good_spread : (items : List Item) → AreIn low high items → Spread low (good_label labels name place end items).pieces (suc high)
+    good_spread : (items : List BodyItem) → AreIn low high items → Spread low (good_label labels name place end items).pieces (suc high)
     good_spread [] are = refer_spread (number_of labels name)
     good_spread (item ∷ items) are = define_spread (item ∷ items) (number_of labels name) are
 
-    labelled_spread : (items : List Item) → AreIn low high items → Spread low (labelled labels name place end items).pieces (suc high)
+    labelled_spread : (items : List BodyItem) → AreIn low high items → Spread low (labelled labels name place end items).pieces (suc high)
     labelled_spread items are = by (is_good_label name) where
       by : (good : Bool) → Spread low (if good then good_label labels name place end items else bad_label labels place end items).pieces (suc high)
       by true = good_spread items are
       by false = bad_spread items are
 
-  text_spread : (labels : List Label) (item : Item) (items : List Item) (colon : Option ℕ) → AreIn low high (item ∷ items) → Spread low (read_text labels (item ∷ items) colon).pieces (suc high)
+  text_spread : (labels : List Label) (item : BodyItem) (items : List BodyItem) (colon : Option ℕ) → AreIn low high (item ∷ items) → Spread low (read_text labels (item ∷ items) colon).pieces (suc high)
   text_spread labels item items None are = named_spread (if is_connector (first_word (item ∷ items)) then Connector else Stage) None item.place (item ∷ items) are (are.0, omega (arith, are.1, are.2))
   text_spread labels item items (Some colon) are =
       labelled_spread labels (bytes_of (take colon (item ∷ items))) item.place (end_of (item ∷ items) 0) (are.0, omega (arith, are.1, are.2))
       (last_between (Some item) items 0 are.3 (omega (arith, are.0, are.1), are.2))
       (without_front (drop (suc colon) (item ∷ items))) (in_drop low high _ (drop colon items) (in_drop low high colon items are.3))
 
-  stage_spread : (labels : List Label) (closed : ℕ) (items : List Item) → low ≤ high → AreIn low high items → Spread low (read_stage labels closed items).pieces (suc high)
+  stage_spread : (labels : List Label) (closed : ℕ) (items : List BodyItem) → low ≤ high → AreIn low high items → Spread low (read_stage labels closed items).pieces (suc high)
   stage_spread labels closed [] within are = omega arith
   stage_spread labels closed (item ∷ items) within are = text_spread labels item items (colon_of (item ∷ items)) are
 

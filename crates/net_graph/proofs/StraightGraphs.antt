@@ -12,7 +12,7 @@ use Rattle.spec_scanner.proofs.StraightWords.{Spelled}
 use Rattle.spec_scanner.specs.declared.piece.Piece.{Piece}
 use Rattle.spec_scanner.specs.Reads.{Reads}
 use Rattle.spec_scanner.specs.Straight.{IsStraight}
-use Rattle.spec_scanner.proofs.Readings.{length-locates}
+use Rattle.spec_scanner.proofs.StraightParts.{length-locates}
 use Rattle.net_graph.specs.Faults.{IsGraph}
 use Rattle.net_graph.specs.Line.{first_strand, line_net, strands_from as line_from}
 use Rattle.net_graph.specs.Nets.{AreOutcomes, links_from, links_in, net_of, strands_from}

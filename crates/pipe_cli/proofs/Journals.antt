@@ -15,7 +15,7 @@ use Rattle.net_graph.specs.Fed.{fed, reader_of, with_kind}
 use Rattle.stage_steps.specs.First.{IsFirstKind}
 use Rattle.confluence_laws.proofs.Flow.{length_more}
 use Rattle.confluence_laws.proofs.Prefixes.{beginning_of, alike}
-use Rattle.pipe_cli.proofs.Feds.{reader_at, fed_formed, fed_kinds}
+use Rattle.pipe_cli.proofs.Feds.{reader_at, fed_kinds}
 
 -- the strands are of the kinds that there are stages of
 abbrev pub HasFirstKinds : Net → Type 0
@@ -35,14 +35,7 @@ meets_first net s p Copy first = absurd first
 settled_first : (net : Net) → HasFirstKinds net → IsSettled net
 settled_first net kinds s p at = meets_first net s p p.kind (kinds s p at)
 
--- a net keeps its form with the bytes of the input
-pub formed_on : (net : Net) (bytes : List ℕ) → IsWellFormed net → IsWellFormed (fed bytes net)
-formed_on net bytes formed = go (reader_of net) (λ s is. fed_formed net s bytes (reader_at net s is) formed)
-  where
-    go : (o : Option ℕ) → ((s : ℕ) → o ≡ Some s → IsWellFormed (with_kind net s (ConsoleIn bytes))) → IsWellFormed (option_map_or (λ s. with_kind net s (ConsoleIn bytes)) o net)
-    go None each = formed
-    go (Some s) each = each s refl
-
+-- a net keeps such kinds with the bytes of the input
 pub kinds_on : (net : Net) (bytes : List ℕ) → HasFirstKinds net → HasFirstKinds (fed bytes net)
 kinds_on net bytes kinds = go (reader_of net) (λ s is. fed_kinds net s bytes (reader_at net s is) kinds)
   where

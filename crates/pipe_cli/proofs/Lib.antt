@@ -1,10 +1,10 @@
+pub mod Answering
 pub mod CommandCases
 pub mod Commands
 pub mod CoreRuns
 pub mod Feds
 pub mod Finishes
 pub mod GraphKinds
-pub mod GraphOnce
 pub mod Journals
 pub mod Kept
 pub mod LineFed
@@ -12,8 +12,9 @@ pub mod LineFormed
 pub mod LineReply
 pub mod LineStrands
 pub mod Meanings
-pub mod OneFaults
 pub mod OneRuns
+pub mod OneTexts
+pub mod StraightMeanings
 pub mod Refusals
 pub mod Replies
 pub mod Runs

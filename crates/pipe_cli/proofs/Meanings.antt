@@ -1,7 +1,6 @@
--- Words mean one outcome and one output on an input, where a text has one well-formed net or one least fault.
+-- Words mean one outcome and one output at most on an input.
 use Rattle.std.proofs.Common.{◌≡◌, ℕ, ◌≤◌, ◌<◌, true, false, cond, List, [], length, refl, sym, ◌∙◌, ap, subst, arith, Some, None}
 use Rattle.pipe_model.specs.declared.net.Net.{Net}
-use Rattle.pipe_model.specs.WellFormed.{IsWellFormed}
 use Rattle.spec_scanner.specs.declared.fault.Fault.{Fault}
 use Rattle.pipe_cli.specs.declared.command.Command.{Command}
 use Rattle.pipe_cli.specs.declared.command.Command.TheVariants.{Run}
@@ -12,13 +11,14 @@ use Rattle.pipe_cli.specs.Meaning.{IsNetOf, IsRunOf, IsSpecRefused, Means, Reads
 use Rattle.pipe_cli.specs.Refusals.{HasLeastFault}
 use Rattle.pipe_cli.proofs.GraphKinds.{graph_first}
 use Rattle.pipe_cli.proofs.OneRuns.{one_run, runs_fitting, same_run}
+use Rattle.pipe_cli.proofs.OneTexts.{net_formed, net_unrefused, one_least, one_net}
 
 -- a run is a command
-run_usage : (words : List (List ℕ)) (spec : List ℕ) (steps : ℕ) → IsRunOf words spec steps → command_of words ≡ None → ⊥
+pub run_usage : (words : List (List ℕ)) (spec : List ℕ) (steps : ℕ) → IsRunOf words spec steps → command_of words ≡ None → ⊥
 run_usage words spec steps run none = (let both : Some (Run spec run.workers steps None) ≡ None = sym run.command ∙ none in cc)
 
 -- and one that is made now
-run_later : (words : List (List ℕ)) (spec : List ℕ) (steps : ℕ) (command : Command) → IsRunOf words spec steps → command_of words ≡ Some command → is_later command ≡ true → ⊥
+pub run_later : (words : List (List ℕ)) (spec : List ℕ) (steps : ℕ) (command : Command) → IsRunOf words spec steps → command_of words ≡ Some command → is_later command ≡ true → ⊥
 run_later words spec steps command run read later =
     let both : Some (Run spec run.workers steps None) ≡ Some command = sym run.command ∙ read in
     let same : Run spec run.workers steps None ≡ command = cc in
@@ -32,11 +32,7 @@ too_large net input reads fits past =
     let within : length input ≤ input_limit = subst (λ z. length z ≤ input_limit) all fits in
     absurd (omega (arith, within, past))
 
-module _ (one_net : (spec : List ℕ) (a b : Net) → IsNetOf spec a → IsNetOf spec b → a ≡ b)
-    (net_unrefused : (spec : List ℕ) (net : Net) (fault : Fault) → IsNetOf spec net → HasLeastFault spec fault → ⊥)
-    (one_least : (spec : List ℕ) (a b : Fault) → HasLeastFault spec a → HasLeastFault spec b → a ≡ b)
-    (formed : (spec : List ℕ) (net : Net) → IsNetOf spec net → IsWellFormed net)
-    (words : List (List ℕ)) (input : List ℕ) where
+module _ (words : List (List ℕ)) (input : List ℕ) where
   -- words run one net
   same_net : (a b : Net) (n m : ℕ) → RunsNet words a n → RunsNet words b m → a ≡ b
   same_net a b n m first second =
@@ -59,7 +55,7 @@ module _ (one_net : (spec : List ℕ) (a b : Net) → IsNetOf spec a → IsNetOf
         let runs = fitting.1 in
         let theirs = runs_fitting words other input b y second in
         let same = same_net other net theirs.0 fitting.0 theirs.1 runs in
-        one_run words net (formed runs.spec net runs.net_of) (graph_first runs.net_of.pipelines net runs.net_of.graph) input a b x y first (subst (λ z. RunMeans words z input b y) same second)
+        one_run words net (net_formed runs.spec net runs.net_of) (graph_first runs.net_of.pipelines net runs.net_of.graph) input a b x y first (subst (λ z. RunMeans words z input b y) same second)
 
     run_first : (b : Outcome) (y : List ℕ) → Means words input b y → (a ≡ b) × (x ≡ y)
     run_first Done y second = both_run second.0 Done y second.1

@@ -7,7 +7,8 @@ use Rattle.pipe_cli.specs.declared.command.Command.TheVariants.{Run}
 use Rattle.pipe_cli.specs.declared.status.Outcome.{Outcome}
 use Rattle.pipe_cli.specs.declared.status.Outcome.TheVariants.{Done, Coded, SpecRefused, Stalled, Spent, ReadFault, WriteFault, NoMemory, Usage, InputTooLarge, NotYet}
 use Rattle.pipe_cli.specs.Meaning.{IsRunOf, RunsNet, RunMeans, Finishes, Exhausts, net_on, taken, input_limit}
-use Rattle.pipe_cli.proofs.Journals.{HasFirstKinds, formed_on, kinds_on, goes_further, same_play}
+use Rattle.net_graph.proofs.Feeds.{still_whole}
+use Rattle.pipe_cli.proofs.Journals.{HasFirstKinds, kinds_on, goes_further, same_play}
 
 -- The words
 
@@ -63,7 +64,7 @@ module _ (words : List (List ℕ)) (net : Net) (formed : IsWellFormed net) (kind
   on = net_on input net
 
   formed_here : IsWellFormed on
-  formed_here = formed_on net (taken net input) formed
+  formed_here = still_whole (taken net input) net formed
 
   kinds_here : HasFirstKinds on
   kinds_here = kinds_on net (taken net input) kinds

@@ -143,3 +143,10 @@ Means words input NotYet output = (command : Command) × (command_of words ≡ S
 Means words input ReadFault output = ⊥
 Means words input WriteFault output = ⊥
 Means words input NoMemory output = ⊥
+
+-- what words of a straight line with LOCATEs of these strings mean, in so many steps at most: the lines that hold every string, too few steps or too much input
+abbrev pub IsLineOutcome : List (List ℕ) → List ℕ → ℕ → Outcome → List ℕ → Type 0
+IsLineOutcome strings input steps Done output = output ≡ text (selected strings (lines input))
+IsLineOutcome strings input steps (Spent n) output = (n ≡ steps) × (output ≡ [])
+IsLineOutcome strings input steps InputTooLarge output = (input_limit < length input) × (output ≡ [])
+IsLineOutcome strings input steps _ output = ⊥

@@ -7,6 +7,7 @@ mod demands;
 mod grammar;
 mod input;
 mod main_call;
+mod meaning;
 mod net_run;
 mod read;
 mod status;
@@ -16,7 +17,8 @@ mod write;
 
 pub use command::{Command, WordsFault};
 pub use main_call::pipe_main;
-pub use status::Status;
+pub use meaning::{one_meaning, straight_line_means};
+pub use status::{Outcome, Status};
 pub use words::read_words;
 
 #[cfg(test)]

@@ -42,7 +42,7 @@ impl Status {
 
 /// How a call ended, with the numbers that its text tells.
 #[derive(Clone, Copy, Debug, PartialEq, Eq)]
-pub(crate) enum Outcome {
+pub enum Outcome {
     Done,
     Coded(i32),
     SpecRefused {

@@ -13,7 +13,7 @@ use Rattle.spec_scanner.proofs.OneOutsets.{one_outset}
 
 module _ (text : List ℕ) where
   -- a text has one body at most
-  one_has_body : (items others : List Item) (tail end : List ℕ) → HasBody text items tail → HasBody text others end → (items ≡ others) × (tail ≡ end)
+  pub one_has_body : (items others : List Item) (tail end : List ℕ) → HasBody text items tail → HasBody text others end → (items ≡ others) × (tail ≡ end)
   one_has_body items others tail end first second =
       let same = one_outset text first.outset second.outset first.begins second.begins in
       let body = subst (λ (outset : Outset). IsBody outset.signs outset.start (drop outset.start text) others end) (sym same) second.body in

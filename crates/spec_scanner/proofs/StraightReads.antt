@@ -12,7 +12,7 @@ use Rattle.spec_scanner.specs.Options.{no_signs}
 use Rattle.spec_scanner.specs.Reads.{Reads, body_faults, read_items}
 use Rattle.spec_scanner.specs.Straight.{AreLocates, IsConsole, IsLocate, IsStraight}
 use Rattle.spec_scanner.specs.Stretches.{Stretch, is_plain_blank, trimmed}
-use Rattle.spec_scanner.proofs.Locates.{name_length}
+use Rattle.spec_scanner.proofs.StraightParts.{name_length}
 use Rattle.spec_scanner.proofs.StraightCuts.{closes, cut_parts, stretch, stretches_from, whole_parts}
 use Rattle.spec_scanner.proofs.StraightItems.{AreBarless, AreFilled, Free, barred, barred_from, body_parts, parted, plain_from}
 use Rattle.spec_scanner.proofs.StraightStages.{AreLater, IsConsoleStage, console_stage, free_console, later_more, locate_stage}

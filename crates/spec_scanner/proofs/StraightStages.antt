@@ -9,9 +9,7 @@ use Rattle.spec_scanner.specs.Blanks.{blanks}
 use Rattle.spec_scanner.specs.Labels.{found, read_stage}
 use Rattle.spec_scanner.specs.Stretches.{trimmed}
 use Rattle.spec_scanner.specs.Straight.{IsConsole, IsLocate}
-use Rattle.spec_scanner.proofs.Blanks.{IsBare}
-use Rattle.spec_scanner.proofs.Consoles.{name_is_bare}
-use Rattle.spec_scanner.proofs.Locates.{closed_after, delimited, is_bare}
+use Rattle.spec_scanner.proofs.StraightParts.{IsBare, closed_after, delimited, is_bare, name_is_bare}
 use Rattle.spec_scanner.proofs.StraightItems.{Free, plain_from}
 use Rattle.spec_scanner.proofs.StraightTrims.{trimmed_between}
 use Rattle.spec_scanner.proofs.StraightWords.{Spelled, argument_is, free_alike, name_is, piece_of, spelled_of, stage_read}

@@ -6,7 +6,7 @@ use Rattle.spec_scanner.specs.declared.item.Item.{Item}
 use Rattle.spec_scanner.specs.declared.item.Reading.TheVariants.{Plain}
 use Rattle.spec_scanner.specs.Blanks.{blanks}
 use Rattle.spec_scanner.specs.Stretches.{is_plain_blank, trimmed, without_back, without_front}
-use Rattle.spec_scanner.proofs.Blanks.{IsBare}
+use Rattle.spec_scanner.proofs.StraightParts.{IsBare}
 use Rattle.spec_scanner.proofs.StraightItems.{plain_from}
 
 -- a byte that stands for itself at a place

@@ -12,3 +12,8 @@ pub fn one_reading_of()
 pub fn no_refusal()
     ensures { (text : List ℕ) (pipelines : List (List Piece)) (fault : Fault) → Reads text pipelines → ¬ IsRefused text fault }
 {}
+
+/// A text has one refusal at most.
+pub fn one_refusal_of()
+    ensures { (text : List ℕ) (a b : Fault) → IsRefused text a → IsRefused text b → a ≡ b }
+{}

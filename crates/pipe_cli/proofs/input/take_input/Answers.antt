@@ -1,15 +1,12 @@
-use Rattle.std.proofs.Common.{sym, ◌∙◌, subst}
-use Rattle.pipe_model.specs.WellFormed.{IsWellFormed}
-use Rattle.pipe_cli.proofs.Feds.{reader_at, fed_formed, fed_kinds}
+use Rattle.std.proofs.Common.{sym, ◌∙◌}
+use Rattle.pipe_cli.proofs.Feds.{reader_at, fed_kinds}
 use Rattle.pipe_cli.proofs.input.take_input.Goals as goal
 
 pub feed-requires : goal.feed-requires
 feed-requires g c = record { reads = reader_at c.args.net c.in-Some.strand (sym c.reader.ensures ∙ c.in-Some.is) }
 
 pub returns-clause-whole : goal.returns-clause-whole
-returns-clause-whole g c =
-    let there = reader_at c.args.net c.in-Some.strand (sym c.reader.ensures ∙ c.in-Some.is) in
-    subst (λ z. IsWellFormed z) (sym c.feed.ensures.fed) (fed_formed c.args.net c.in-Some.strand c.from_vec.result there c.requires.whole)
+returns-clause-whole g c = c.feed.ensures.whole c.requires.whole
 
 pub returns-clause-kinds : goal.returns-clause-kinds
 returns-clause-kinds g c =

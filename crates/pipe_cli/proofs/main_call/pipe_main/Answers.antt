@@ -1,5 +1,5 @@
 use Rattle.std.proofs.Common.{refl}
-use Rattle.pipe_cli.proofs.Replies.{answers}
+use Rattle.pipe_cli.proofs.Answering.{answers}
 use Rattle.pipe_cli.proofs.main_call.pipe_main.Goals as goal
 
 pub returns : goal.returns

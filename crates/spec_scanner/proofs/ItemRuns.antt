@@ -1,15 +1,12 @@
 -- The items of a body run to the right, and so do the stretches that they are cut into.
 use Rattle.std.proofs.Common.{ℕ, zero, suc, ◌<◌, ◌≤◌, Bool, true, false, if◌then◌else◌, List, [], ◌∷◌, take, drop, arith}
-use Rattle.spec_scanner.specs.Stretches.{Stretch, cut, is_plain, put_first, trimmed, without_front}
+use Rattle.spec_scanner.specs.declared.item.Item.{Item}
+use Rattle.spec_scanner.specs.Stretches.{Stretch, cut, put_first, trimmed, without_front}
 use Rattle.spec_scanner.proofs.Rising.{Follow}
 
--- what a test is of
-abbrev Tested : {A : Type 0} → (A → Bool) → Type 0
-Tested {A = A} test = A
-
--- the items of a body, whose type the scanner doesn't name to others
-abbrev pub Item : Type 0
-Item = Tested is_plain
+-- the items of a body, under a name that other crates may cite
+abbrev pub BodyItem : Type 0
+BodyItem = Item
 
 -- the items stand one after another between two places
 abbrev pub Run : ℕ → List Item → ℕ → Type 0
