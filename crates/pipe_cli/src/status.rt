@@ -64,6 +64,7 @@ pub enum Outcome {
 const ROOM: usize = 256;
 
 impl Outcome {
+    /// The status that the call answers.
     pub fn status(self) -> Status
         ensures { result ≡ status_of self }
     {
