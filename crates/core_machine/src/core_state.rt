@@ -2,9 +2,10 @@ ghost use Rattle.std.specs.Prelude.{◌≡◌, ◌≤◌, length, vec_capacity};
 ghost use Rattle.core_machine.specs.Machine.{without};
 
 use crate::actor::{Actor, bare, bytes_told, looks, send_out, take_back};
+use crate::home::bring_home;
 use crate::job::{Finished, Job, Turned};
 use crate::ready::Ready;
-use crate::wake::{bring_home, move_out};
+use crate::wake::move_out;
 use pipe_model::{Entry, Net, NoMemory, Seen, Want};
 use record_pool::Pool;
 use run_desk::Desk;

@@ -78,44 +78,4 @@ impl<S: Stage> Job<S> {
             want,
         }
     }
-
-    pub fn strand(&self) -> u32
-        ensures { result ≡ self.now.strand }
-    {
-        self.strand
-    }
-
-    pub fn place(&self) -> u64
-        ensures { result ≡ self.now.place }
-    {
-        self.place
-    }
-
-    pub fn seen(&self) -> Seen
-        ensures { result ≡ self.now.seen }
-    {
-        self.seen
-    }
-}
-
-impl<S: Stage> Finished<S> {
-    ghost use Rattle.std.specs.Prelude.{◌≡◌};
-
-    pub fn strand(&self) -> u32
-        ensures { result ≡ self.now.strand }
-    {
-        self.strand
-    }
-
-    pub fn place(&self) -> u64
-        ensures { result ≡ self.now.place }
-    {
-        self.place
-    }
-
-    pub fn seen(&self) -> Seen
-        ensures { result ≡ self.now.seen }
-    {
-        self.seen
-    }
 }

@@ -1,7 +1,8 @@
 use crate::actor::{asked_by, bare_at, bytes_told, give_up, looks, resume_at};
 use crate::core_state::Core;
+use crate::home::come_back;
 use crate::job::RunEnd;
-use crate::wake::{come_back, ends, least_awake, move_out};
+use crate::wake::{ends, least_awake, move_out};
 use outside::Gate;
 use pipe_model::{Entry, NoMemory, Seen};
 use stage_steps::Stage;

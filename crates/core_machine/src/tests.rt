@@ -173,7 +173,7 @@ fn work(
     let Turned::NotReady = core.turn(strand, 0, &mut Vec::new(alloc)) else {
         return Ok(None);
     };
-    let seen = job.seen();
+    let seen = job.seen;
     let done = job.run(alloc, room);
     core.finish(done)?;
     Ok(Some(seen))

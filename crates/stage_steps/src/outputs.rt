@@ -75,6 +75,7 @@ impl Pairs {
     }
 
     // Drops all pairs.
+    #[inline(always)]
     pub(crate) fn clear(&mut self)
         ensures { self.new ≡ [] }
     {
@@ -84,6 +85,7 @@ impl Pairs {
 }
 
 // Takes the first pair whose output is open from the front of the pairs, with those before it.
+#[inline(always)]
 pub(crate) fn next_pair(pairs: &mut Pairs, outputs: &Outputs) -> Option<Pair>
     ensures { MatchOption result (live outputs.now.flags.items pairs.old ≡ []) (λ p. live outputs.now.flags.items pairs.old ≡ p ∷ live outputs.now.flags.items pairs.new) }
 {

@@ -92,6 +92,7 @@ impl Walk {
         }
     }
 
+    #[inline(always)]
     fn ask_pair(&mut self) -> Want
         requires { self.old.place ≡ Place.Writing }
         ensures flags { self.new.outputs.flags.items ≡ self.old.outputs.flags.items }
