@@ -41,30 +41,6 @@ pub(crate) fn move_home(
     if commits(want) {
         return home_settling(desk, pool, ready, links, strand, want);
     }
-    home_plainly(desk, pool, ready, links, strand, want)
-}
-
-// The same for a want that can settle nothing for others.
-#[inline(always)]
-fn home_plainly(
-    desk: &mut Desk,
-    pool: &mut Pool,
-    ready: &mut Ready,
-    links: &[Link],
-    strand: u32,
-    want: &Want,
-) -> Result<(), NoMemory>
-    requires can { CanCome desk.old pool.old strand want.now }
-    requires strand { strand < ready.old.size }
-    requires links { AreInside links.now ready.old.size }
-    requires plain { commits want.now ≡ false }
-    ensures home { IfOk result (λ done. HasCome desk.old pool.old strand want.now desk.new pool.new) }
-    ensures err { OnErr result (desk.new ≡ desk.old) }
-    ensures err_pool { OnErr result (pool.new ≡ pool.old) }
-    ensures size { ready.new.size ≡ ready.old.size }
-    ensures covers { (net : NetIs) (texts : ℕ → List ℕ) (st : State) (left : Left) → net.links ≡ links.now → length net.strands ≡ ready.old.size →
-        IsWellFormed net → IsKept net texts st left desk.old → AsksEarly desk.new → IsCovering desk.old ready.old → IsCovering desk.new ready.new }
-{
     if let Want::Write(o, out) = want {
         return home_writing(desk, pool, ready, links, strand, *o, out);
     }
@@ -116,30 +92,6 @@ fn rest(ready: &mut Ready, desk: &Desk, strand: u32, door: Option<u32>)
 
 /// Brings a strand home with what it wants next, or, where it has ended, with nothing. Out of memory leaves the desk and
 /// the pool as they were.
-#[inline(always)]
-pub(crate) fn bring_home(
-    desk: &mut Desk,
-    pool: &mut Pool,
-    ready: &mut Ready,
-    links: &[Link],
-    strand: u32,
-    want: &Want,
-) -> Result<(), NoMemory>
-    requires can { Pure.ended_at desk.old strand ≡ false → CanCome desk.old pool.old strand want.now }
-    requires strand { strand < ready.old.size }
-    requires links { AreInside links.now ready.old.size }
-    ensures home { IfOk result (λ done. HasReturned desk.old pool.old strand want.now desk.new pool.new) }
-    ensures err { OnErr result (desk.new ≡ desk.old) }
-    ensures err_pool { OnErr result (pool.new ≡ pool.old) }
-    ensures size { ready.new.size ≡ ready.old.size }
-    ensures covers { (net : NetIs) (texts : ℕ → List ℕ) (st : State) (left : Left) → net.links ≡ links.now → length net.strands ≡ ready.old.size →
-        IsWellFormed net → IsKept net texts st left desk.old → AsksEarly desk.new → IsCovering desk.old ready.old → IsCovering desk.new ready.new }
-{
-    let has_ended = desk.has_ended(strand);
-    come_back(desk, pool, ready, links, strand, has_ended, want)
-}
-
-/// The same, where it is known whether the strand has ended.
 #[inline(always)]
 pub(crate) fn come_back(
     desk: &mut Desk,

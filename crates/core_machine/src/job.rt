@@ -41,7 +41,7 @@ pub enum Turned<S: Stage> {
 }
 
 /// How a run ended.
-#[derive(Clone, Copy, Debug, PartialEq, Eq)]
+#[derive(Clone, Copy)]
 pub enum RunEnd {
     /// No strand may have an event.
     Complete,

@@ -38,29 +38,6 @@ pub(crate) fn move_out(
         move_settling(desk, pool, ready, links, strand, seen);
         return;
     }
-    move_plainly(desk, pool, ready, links, strand, seen);
-}
-
-// The same for what can settle nothing for others.
-#[inline(always)]
-fn move_plainly(
-    desk: &mut Desk,
-    pool: &mut Pool,
-    ready: &mut Ready,
-    links: &[Link],
-    strand: u32,
-    seen: Seen,
-)
-    requires can { CanMove desk.old pool.old strand seen }
-    requires strand { strand < ready.old.size }
-    requires links { AreInside links.now ready.old.size }
-    requires plain { primes seen ≡ false }
-    ensures desk { desk.new ≡ made desk.old strand seen }
-    ensures pool { pool.new ≡ pool_moved desk.old pool.old strand seen }
-    ensures size { ready.new.size ≡ ready.old.size }
-    ensures covers { (net : NetIs) (texts : ℕ → List ℕ) (st : State) (left : Left) → net.links ≡ links.now → length net.strands ≡ ready.old.size →
-        IsWellFormed net → IsKept net texts st left desk.old → AsksEarly desk.old → IsCovering desk.old ready.old → IsCovering desk.new ready.new }
-{
     wake_ends(ready, desk, links, strand, seen);
     desk.make(pool, strand, seen);
 }

@@ -68,10 +68,10 @@ impl Pairs {
     fn pop(&mut self) -> Option<Pair>
         ensures { MatchOption result ((self.old ≡ []) × (self.new ≡ [])) (λ p. self.old ≡ p ∷ self.new) }
     {
-        match self.first.take() {
-            Some(pair) => Some(pair),
-            None => self.rest.pop_front(),
+        if self.first.is_none() {
+            return self.rest.pop_front();
         }
+        self.first.take()
     }
 
     // Drops all pairs.
@@ -79,7 +79,9 @@ impl Pairs {
     pub(crate) fn clear(&mut self)
         ensures { self.new ≡ [] }
     {
-        self.first = None;
+        if self.first.is_some() {
+            self.first = None;
+        }
         self.rest.clear();
     }
 }

@@ -45,7 +45,7 @@ impl Walk {
     }
 
     // The same for any event.
-    #[inline(never)]
+    #[inline(always)]
     fn answer_rarely(&mut self, seen: Seen, yields: bool) -> Want
         ensures flags { self.new.outputs.flags.items ≡ open_after seen self.old.outputs.flags.items }
         ensures connected { self.new.outputs.connected ≡ self.old.outputs.connected }
@@ -56,6 +56,7 @@ impl Walk {
     }
 
     // The walk after an event.
+    #[inline(always)]
     fn go(&mut self, seen: Seen, yields: bool)
         ensures flags { self.new.outputs.flags.items ≡ open_after seen self.old.outputs.flags.items }
         ensures connected { self.new.outputs.connected ≡ self.old.outputs.connected }
@@ -77,6 +78,7 @@ impl Walk {
     }
 
     // What it asks for where it stands.
+    #[inline(always)]
     fn ask(&mut self) -> Want
         ensures flags { self.new.outputs.flags.items ≡ self.old.outputs.flags.items }
         ensures connected { self.new.outputs.connected ≡ self.old.outputs.connected }

@@ -1,8 +1,7 @@
 -- The strand that writes and who reads there were woken, and it settled nothing for others.
-use Rattle.std.proofs.Common.{◌≡◌, ◌||◌, not, refl, sym, ◌∙◌, ap, subst, is_some, true, pos, negsuc}
+use Rattle.std.proofs.Common.{refl, ◌∙◌, subst, true}
 use Rattle.pipe_model.specs.declared.step.Want.TheVariants as Asks
 use Rattle.run_desk.specs.Moves.{HasCome}
-use Rattle.run_desk.specs.Pure as Pure
 use Rattle.core_machine.specs.Woken.{IsConsumerIn}
 use Rattle.core_machine.proofs.Homes.{covers_home, may_write}
 use Rattle.core_machine.proofs.home.home_writing.Goals as goal
