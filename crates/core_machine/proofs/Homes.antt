@@ -1,5 +1,5 @@
 -- Whom a strand that comes home concerns is woken.
-use Rattle.std.proofs.Common.{◌≡◌, ◌⊎◌, inl, ℕ, ◌<◌, Bool, true, false, ◌||◌, not, List, length, refl, sym, ◌∙◌, ap, subst, Option, Some, None, is_some, slice_get, ℤ, pos, negsuc}
+use Rattle.std.proofs.Common.{◌≡◌, ◌⊎◌, inl, ℕ, ◌<◌, Bool, true, false, cond, ◌==◌, ◌||◌, not, List, length, refl, sym, ◌∙◌, ap, subst, Option, Some, None, is_some, slice_get, ℤ, pos, negsuc}
 use Rattle.std.specs.Option.{option_map}
 use Rattle.pipe_model.specs.declared.net.Net.{Net}
 use Rattle.pipe_model.specs.declared.net.Link.{Link}
@@ -14,7 +14,7 @@ use Rattle.run_desk.specs.declared.seat.Ask.TheVariants as Now
 use Rattle.run_desk.specs.declared.seat.Seat.{Seat}
 use Rattle.run_desk.specs.Desk.{DeskState}
 use Rattle.run_desk.specs.Kept.{IsKept, link_through}
-use Rattle.run_desk.specs.Moves.{HasCome, home, asking, changed, offers}
+use Rattle.run_desk.specs.Moves.{HasCome, home, home_writing, asking, changed, offers}
 use Rattle.run_desk.specs.Pure as Pure
 use Rattle.core_machine.specs.Members.{Members, is_member}
 use Rattle.core_machine.specs.Woken.{IsCovering, AsksEarly, IsWhole, IsLarger, IsReaderIn, commits}
@@ -98,3 +98,20 @@ covers_home net texts st left d n links same formed kept early places after s w 
     around : IsAround net d n s new
     around = around_want net d n s new low zero (larger'.1 s here) fills_low fills_zero places after w come
         (more_readers d net.links s w set new larger'.1 (subst (λ z. IsReaderIn d z s w set) (sym same) reader)) low_is zero_is
+
+-- who came home to write may go on only where the record that it offered may be put, or refused
+pub may_write : (d : DeskState) (s o grip : ℕ) (n : DeskState) → n ≡ home_writing d s o grip → (door : Option ℕ) → door ≡ Pure.out_door d s o →
+    (k : ℕ) → is_some (Pure.seen_at n s k) ≡ true → (Pure.can_put (Pure.through n.wires door) || Pure.can_refuse (Pure.through n.wires door)) ≡ true
+may_write d s o grip n is door door_is k may =
+    subst (λ z. (Pure.can_put (Pure.through n.wires z) || Pure.can_refuse (Pure.through n.wires z)) ≡ true) (ap (λ (z : DeskState). Pure.out_door z s o) is ∙ sym door_is)
+    (by_seat (slice_get d.seats s) (sym (ap (λ x. is_some (Pure.seen_by n s k (Pure.ask_of x))) (ap (λ (z : DeskState). slice_get z.seats s) is ∙ changed_here d.seats (asking (Now.Write o)) s)) ∙ may))
+  where
+    by_test : (b p r : Bool) → is_some (cond b (Pure.write_seen o p r) None) ≡ true → (p || r) ≡ true
+    by_test true true r so = refl
+    by_test true false true so = refl
+    by_test true false false so = cc
+    by_test false p r so = cc
+
+    by_seat : (x : Option Seat) → is_some (Pure.seen_by n s k (Pure.ask_of (option_map (asking (Now.Write o)) x))) ≡ true → (Pure.can_put (Pure.wire_out n s o) || Pure.can_refuse (Pure.wire_out n s o)) ≡ true
+    by_seat None so = cc
+    by_seat (Some seat) so = by_test (k == o) (Pure.can_put (Pure.wire_out n s o)) (Pure.can_refuse (Pure.wire_out n s o)) so

@@ -2,9 +2,10 @@ ghost use Rattle.std.specs.Prelude.{◌≡◌, ◌≤◌, length, vec_capacity};
 ghost use Rattle.core_machine.specs.Machine.{without};
 
 use crate::actor::{Actor, bare, bytes_told, looks, send_out, take_back};
+use crate::home::come_back;
 use crate::job::{Finished, Job, Turned};
 use crate::ready::Ready;
-use crate::wake::{bring_home, move_out};
+use crate::wake::move_out;
 use pipe_model::{Entry, Net, NoMemory, Seen, Want};
 use record_pool::Pool;
 use run_desk::Desk;
@@ -150,12 +151,14 @@ impl<S: Stage> Core<S> {
         ensures home { OnOk result (self.new ≡ came_home self.old place) }
         ensures err { OnErr result (self.new ≡ self.old) }
     {
-        bring_home(
+        let has_ended = self.desk.has_ended(strand);
+        come_back(
             &mut self.desk,
             &mut self.pool,
             &mut self.ready,
             self.net.links.as_slice(),
             strand,
+            has_ended,
             &want,
         )?;
         take_back(

@@ -4,6 +4,8 @@
 mod actor;
 mod bits;
 mod core_state;
+mod far_ends;
+mod home;
 mod job;
 mod ready;
 mod run;

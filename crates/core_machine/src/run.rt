@@ -1,7 +1,8 @@
 use crate::actor::{asked_by, bare_at, bytes_told, give_up, looks, resume_at};
 use crate::core_state::Core;
+use crate::home::come_back;
 use crate::job::RunEnd;
-use crate::wake::{come_back, ends, least_awake, move_out};
+use crate::wake::{ends, least_awake, move_out};
 use outside::Gate;
 use pipe_model::{Entry, NoMemory, Seen};
 use stage_steps::Stage;
@@ -36,6 +37,7 @@ impl<S: Stage> Core<S> {
     }
 
     // Makes the least event that may be, and answers false where there is none.
+    #[inline(always)]
     fn step<G: Gate>(&mut self, alloc: Global, gate: &G) -> Result<bool, NoMemory>
         requires space { length self.old.journal < self.old.budget }
         requires home { self.old.out ≡ [] }
@@ -55,6 +57,7 @@ impl<S: Stage> Core<S> {
     }
 
     // Makes an event that may be, and goes on with the strand's coroutine, in place.
+    #[inline(always)]
     fn go_on(&mut self, alloc: Global, strand: u32, stream: u16, seen: Seen) -> Result<(), NoMemory>
         requires may { (e : Event) × (licence_of self.old strand stream ≡ Some e) × (told e ≡ seen) }
         requires space { length self.old.journal < self.old.budget }
@@ -83,7 +86,7 @@ impl<S: Stage> Core<S> {
                 at,
                 self.journal.len() as u64,
             );
-            self.is_broken = true;
+            self.is_broken = true; // its coroutine isn't resumed again
             return Err(NoMemory);
         };
         let Ok(()) = come_back(

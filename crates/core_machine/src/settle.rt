@@ -9,8 +9,10 @@ ghost use Rattle.run_desk.specs.Moves.{CanMove, CanCome, HasCome, made, pool_mov
 ghost use Rattle.run_desk.specs.Pure as Pure;
 ghost use Rattle.core_machine.specs.Woken.{IsCovering, AsksEarly, AreInside, IsLarger, IsWhole, IsStageIn, primes, commits};
 
+use crate::far_ends::{wake_ends, wake_reader};
+use crate::home::commits;
 use crate::ready::Ready;
-use crate::wake::{commits, ends, primes, wake_ends, wake_reader};
+use crate::wake::{ends, primes};
 use pipe_model::{Link, NoMemory, Seen, Want};
 use record_pool::Pool;
 use run_desk::Desk;

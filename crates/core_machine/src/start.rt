@@ -11,8 +11,8 @@ ghost use Rattle.core_machine.specs.Start.{IsCalled, new_actor};
 
 use crate::actor::{Actor, bare};
 use crate::core_state::Core;
+use crate::home::move_home;
 use crate::ready::Ready;
-use crate::wake::move_home;
 use pipe_model::{Net, NoMemory, Want};
 use record_pool::Pool;
 use run_desk::Desk;

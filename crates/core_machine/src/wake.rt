@@ -1,18 +1,17 @@
 //! The desk and the set of the strands that may go on, changed together: who may go on after an event is woken.
-ghost use Rattle.std.specs.Prelude.{◌≡◌, ◌<◌, not, ℕ, List, Some, length, true, false, IfOk, IfSome, OnErr};
+ghost use Rattle.std.specs.Prelude.{◌≡◌, ◌<◌, ℕ, List, length, false, IfSome};
 ghost use Rattle.pipe_model.specs.declared.net.Net.{Net as NetIs};
 ghost use Rattle.pipe_model.specs.State.{State};
 ghost use Rattle.pipe_model.specs.Licence.{Left};
 ghost use Rattle.pipe_model.specs.WellFormed.{IsWellFormed};
-ghost use Rattle.run_desk.specs.Kept.{IsKept, link_through};
-ghost use Rattle.run_desk.specs.Moves.{CanMove, CanCome, HasCome, made, pool_moved, ends};
-ghost use Rattle.run_desk.specs.Pure as Pure;
-ghost use Rattle.core_machine.specs.Members.{is_member};
-ghost use Rattle.core_machine.specs.Woken.{IsCovering, AsksEarly, AreInside, HasReturned, LeastEventAwake, IsLarger, IsProducerIn, IsConsumerIn, OfDoors, AreEndsIn, IsReaderIn, primes, commits};
+ghost use Rattle.run_desk.specs.Kept.{IsKept};
+ghost use Rattle.run_desk.specs.Moves.{CanMove, made, pool_moved, ends};
+ghost use Rattle.core_machine.specs.Woken.{IsCovering, AsksEarly, AreInside, LeastEventAwake, primes};
 
+use crate::far_ends::wake_ends;
 use crate::ready::Ready;
-use crate::settle::{home_settling, move_settling};
-use pipe_model::{Link, NoMemory, Seen, Want};
+use crate::settle::move_settling;
+use pipe_model::{Link, Seen};
 use record_pool::Pool;
 use run_desk::Desk;
 
@@ -39,151 +38,8 @@ pub(crate) fn move_out(
         move_settling(desk, pool, ready, links, strand, seen);
         return;
     }
-    move_plainly(desk, pool, ready, links, strand, seen);
-}
-
-// The same for what can settle nothing for others.
-#[inline(always)]
-fn move_plainly(
-    desk: &mut Desk,
-    pool: &mut Pool,
-    ready: &mut Ready,
-    links: &[Link],
-    strand: u32,
-    seen: Seen,
-)
-    requires can { CanMove desk.old pool.old strand seen }
-    requires strand { strand < ready.old.size }
-    requires links { AreInside links.now ready.old.size }
-    requires plain { primes seen ≡ false }
-    ensures desk { desk.new ≡ made desk.old strand seen }
-    ensures pool { pool.new ≡ pool_moved desk.old pool.old strand seen }
-    ensures size { ready.new.size ≡ ready.old.size }
-    ensures covers { (net : NetIs) (texts : ℕ → List ℕ) (st : State) (left : Left) → net.links ≡ links.now → length net.strands ≡ ready.old.size →
-        IsWellFormed net → IsKept net texts st left desk.old → AsksEarly desk.old → IsCovering desk.old ready.old → IsCovering desk.new ready.new }
-{
     wake_ends(ready, desk, links, strand, seen);
     desk.make(pool, strand, seen);
-}
-
-/// Brings a strand home with what it wants next, and wakes it and whom that may concern. Out of memory leaves the desk
-/// and the pool as they were.
-#[inline(never)]
-pub(crate) fn move_home(
-    desk: &mut Desk,
-    pool: &mut Pool,
-    ready: &mut Ready,
-    links: &[Link],
-    strand: u32,
-    want: &Want,
-) -> Result<(), NoMemory>
-    requires can { CanCome desk.old pool.old strand want.now }
-    requires strand { strand < ready.old.size }
-    requires links { AreInside links.now ready.old.size }
-    ensures home { IfOk result (λ done. HasCome desk.old pool.old strand want.now desk.new pool.new) }
-    ensures err { OnErr result (desk.new ≡ desk.old) }
-    ensures err_pool { OnErr result (pool.new ≡ pool.old) }
-    ensures size { ready.new.size ≡ ready.old.size }
-    ensures covers { (net : NetIs) (texts : ℕ → List ℕ) (st : State) (left : Left) → net.links ≡ links.now → length net.strands ≡ ready.old.size →
-        IsWellFormed net → IsKept net texts st left desk.old → AsksEarly desk.new → IsCovering desk.old ready.old → IsCovering desk.new ready.new }
-{
-    if commits(want) {
-        return home_settling(desk, pool, ready, links, strand, want);
-    }
-    home_plainly(desk, pool, ready, links, strand, want)
-}
-
-// The same for a want that can settle nothing for others.
-#[inline(always)]
-fn home_plainly(
-    desk: &mut Desk,
-    pool: &mut Pool,
-    ready: &mut Ready,
-    links: &[Link],
-    strand: u32,
-    want: &Want,
-) -> Result<(), NoMemory>
-    requires can { CanCome desk.old pool.old strand want.now }
-    requires strand { strand < ready.old.size }
-    requires links { AreInside links.now ready.old.size }
-    requires plain { commits want.now ≡ false }
-    ensures home { IfOk result (λ done. HasCome desk.old pool.old strand want.now desk.new pool.new) }
-    ensures err { OnErr result (desk.new ≡ desk.old) }
-    ensures err_pool { OnErr result (pool.new ≡ pool.old) }
-    ensures size { ready.new.size ≡ ready.old.size }
-    ensures covers { (net : NetIs) (texts : ℕ → List ℕ) (st : State) (left : Left) → net.links ≡ links.now → length net.strands ≡ ready.old.size →
-        IsWellFormed net → IsKept net texts st left desk.old → AsksEarly desk.new → IsCovering desk.old ready.old → IsCovering desk.new ready.new }
-{
-    wake_reader(ready, desk, links, strand, want);
-    desk.come_home(pool, strand, want)?;
-    rest(ready, desk, strand, want);
-    Ok(())
-}
-
-// Takes out a strand that came home to write and can't go on before its record is taken.
-fn rest(ready: &mut Ready, desk: &Desk, strand: u32, want: &Want)
-    requires { strand < ready.old.size }
-    ensures size { ready.new.size ≡ ready.old.size }
-    ensures covers { IsCovering desk.now ready.old → IsCovering desk.now ready.new }
-{
-    if let Want::Write(_, _) = want {
-        if desk.ready_event(strand).is_none() {
-            ready.remove(strand);
-        }
-    }
-}
-
-/// Brings a strand home with what it wants next, or, where it has ended, with nothing. Out of memory leaves the desk and
-/// the pool as they were.
-#[inline(always)]
-pub(crate) fn bring_home(
-    desk: &mut Desk,
-    pool: &mut Pool,
-    ready: &mut Ready,
-    links: &[Link],
-    strand: u32,
-    want: &Want,
-) -> Result<(), NoMemory>
-    requires can { Pure.ended_at desk.old strand ≡ false → CanCome desk.old pool.old strand want.now }
-    requires strand { strand < ready.old.size }
-    requires links { AreInside links.now ready.old.size }
-    ensures home { IfOk result (λ done. HasReturned desk.old pool.old strand want.now desk.new pool.new) }
-    ensures err { OnErr result (desk.new ≡ desk.old) }
-    ensures err_pool { OnErr result (pool.new ≡ pool.old) }
-    ensures size { ready.new.size ≡ ready.old.size }
-    ensures covers { (net : NetIs) (texts : ℕ → List ℕ) (st : State) (left : Left) → net.links ≡ links.now → length net.strands ≡ ready.old.size →
-        IsWellFormed net → IsKept net texts st left desk.old → AsksEarly desk.new → IsCovering desk.old ready.old → IsCovering desk.new ready.new }
-{
-    let has_ended = desk.has_ended(strand);
-    come_back(desk, pool, ready, links, strand, has_ended, want)
-}
-
-/// The same, where it is known whether the strand has ended.
-#[inline(always)]
-pub(crate) fn come_back(
-    desk: &mut Desk,
-    pool: &mut Pool,
-    ready: &mut Ready,
-    links: &[Link],
-    strand: u32,
-    has_ended: bool,
-    want: &Want,
-) -> Result<(), NoMemory>
-    requires ended { has_ended ≡ Pure.ended_at desk.old strand }
-    requires can { has_ended ≡ false → CanCome desk.old pool.old strand want.now }
-    requires strand { strand < ready.old.size }
-    requires links { AreInside links.now ready.old.size }
-    ensures home { IfOk result (λ done. HasReturned desk.old pool.old strand want.now desk.new pool.new) }
-    ensures err { OnErr result (desk.new ≡ desk.old) }
-    ensures err_pool { OnErr result (pool.new ≡ pool.old) }
-    ensures size { ready.new.size ≡ ready.old.size }
-    ensures covers { (net : NetIs) (texts : ℕ → List ℕ) (st : State) (left : Left) → net.links ≡ links.now → length net.strands ≡ ready.old.size →
-        IsWellFormed net → IsKept net texts st left desk.old → AsksEarly desk.new → IsCovering desk.old ready.old → IsCovering desk.new ready.new }
-{
-    if has_ended {
-        return Ok(());
-    }
-    move_home(desk, pool, ready, links, strand, want)
 }
 
 /// The least strand that may go on, its least stream, and what it would be told there. Who is found not to is taken out.
@@ -220,101 +76,4 @@ pub(crate) fn ends(seen: Seen) -> bool
     ensures { result ≡ ends seen }
 {
     matches!(seen, Seen::Ended(_))
-}
-
-pub(crate) fn commits(want: &Want) -> bool
-    ensures { result ≡ commits want.now }
-{
-    matches!(want, Want::Commit(_))
-}
-
-// Wakes the strands at the other ends of the links that what was told concerns: of a record that was taken its
-// producer, of one that was put its consumer, and at an end all.
-#[inline(always)]
-pub(crate) fn wake_ends(ready: &mut Ready, desk: &Desk, links: &[Link], strand: u32, seen: Seen)
-    requires { AreInside links.now ready.old.size }
-    ensures larger { IsLarger ready.old ready.new }
-    ensures ends { AreEndsIn desk.now links.now strand seen ready.new }
-{
-    match seen {
-        Seen::Took(i) => wake_producer(ready, links, desk.in_door(strand, i)),
-        Seen::Put(o) => wake_consumer(ready, links, desk.out_door(strand, o)),
-        Seen::Ended(_) => {
-            wake_consumers(ready, links, desk.outputs(strand));
-            wake_producers(ready, links, desk.inputs(strand));
-        }
-        _ => {}
-    }
-}
-
-// Wakes a strand that comes home, and the one that may see what it writes.
-#[inline(always)]
-pub(crate) fn wake_reader(ready: &mut Ready, desk: &Desk, links: &[Link], strand: u32, want: &Want)
-    requires strand { strand < ready.old.size }
-    requires links { AreInside links.now ready.old.size }
-    ensures larger { IsLarger ready.old ready.new }
-    ensures here { is_member ready.new strand ≡ true }
-    ensures reader { IsReaderIn desk.now links.now strand want.now ready.new }
-{
-    wake(ready, strand);
-    if let Want::Write(o, _) = want {
-        wake_consumer(ready, links, desk.out_door(strand, *o));
-    }
-}
-
-// Wakes a strand that is mostly in the set already.
-fn wake(ready: &mut Ready, strand: u32)
-    requires { strand < ready.old.size }
-    ensures larger { IsLarger ready.old ready.new }
-    ensures here { is_member ready.new strand ≡ true }
-{
-    if !ready.has(strand) {
-        ready.insert(strand);
-    }
-}
-
-fn wake_producer(ready: &mut Ready, links: &[Link], door: Option<u32>)
-    requires { AreInside links.now ready.old.size }
-    ensures larger { IsLarger ready.old ready.new }
-    ensures end { IsProducerIn links.now ready.new door }
-{
-    if let Some(link) = link_at(links, door) {
-        ready.insert(link.from);
-    }
-}
-
-fn wake_consumer(ready: &mut Ready, links: &[Link], door: Option<u32>)
-    requires { AreInside links.now ready.old.size }
-    ensures larger { IsLarger ready.old ready.new }
-    ensures end { IsConsumerIn links.now ready.new door }
-{
-    if let Some(link) = link_at(links, door) {
-        ready.insert(link.to);
-    }
-}
-
-fn wake_producers(ready: &mut Ready, links: &[Link], doors: &[Option<u32>])
-    requires { AreInside links.now ready.old.size }
-    ensures larger { IsLarger ready.old ready.new }
-    ensures ends { OfDoors (IsProducerIn links.now ready.new) doors.now }
-{
-    for door in doors {
-        wake_producer(ready, links, *door);
-    }
-}
-
-fn wake_consumers(ready: &mut Ready, links: &[Link], doors: &[Option<u32>])
-    requires { AreInside links.now ready.old.size }
-    ensures larger { IsLarger ready.old ready.new }
-    ensures ends { OfDoors (IsConsumerIn links.now ready.new) doors.now }
-{
-    for door in doors {
-        wake_consumer(ready, links, *door);
-    }
-}
-
-fn link_at(links: &[Link], door: Option<u32>) -> Option<Link>
-    ensures { result ≡ link_through links.now door }
-{
-    links.get(door? as usize).copied()
 }

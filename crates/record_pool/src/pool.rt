@@ -199,13 +199,14 @@ fn let_go(place: &mut Option<Held>) -> u64
     ensures after { place.new ≡ one_less place.old }
     ensures freed { result + blocks_at place.new ≡ blocks_at place.old }
 {
-    let Some(mut held) = place.take() else {
+    let Some(held) = place else {
         return 0;
     };
     if held.holders > 1 {
         held.holders -= 1;
-        *place = Some(held);
         return 0;
     }
-    count_blocks(held.bytes.bytes().len())
+    let freed = count_blocks(held.bytes.bytes().len());
+    *place = None;
+    freed
 }

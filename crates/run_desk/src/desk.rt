@@ -1,4 +1,4 @@
-ghost use Rattle.std.specs.Prelude.{◌≡◌, ◌<◌, ◌&&◌, ◌==◌, length, slice_get, true, Some, is_some, ℕ, IfOk, OnErr};
+ghost use Rattle.std.specs.Prelude.{◌≡◌, ◌<◌, ◌&&◌, ◌||◌, ◌==◌, length, slice_get, true, Some, is_some, ℕ, IfOk, OnErr};
 ghost use Rattle.run_desk.specs.declared.seat.Ask.TheVariants as Now;
 ghost use Rattle.run_desk.specs.Moves.{made, moved, pool_moved, CanMove, closed, ended, CanForget, pool_without, home, home_writing, unit_home, CanAsk, CanHold, IsHold, CanCome, HasCome};
 ghost use Rattle.commit_levels.specs.UnitState.{IsLive};
@@ -160,9 +160,38 @@ impl Desk {
         ensures err { OnErr result (self.new ≡ self.old) }
         ensures err_pool { OnErr result (pool.new ≡ pool.old) }
     {
+        let door = self.out_door(strand, o);
+        self.write_at(pool, strand, o, out, door)
+    }
+
+    /// A strand comes home to write, through the door of the output. Out of memory leaves all as it was.
+    #[inline(always)]
+    pub fn write_at(
+        &mut self,
+        pool: &mut Pool,
+        strand: u32,
+        o: u16,
+        out: &Out,
+        door: Option<u32>,
+    ) -> Result<(), NoMemory>
+        requires door { door ≡ Pure.out_door self.old strand o }
+        requires ask { CanAsk self.old strand (Now.Write o) }
+        requires hold { CanHold self.old pool.old strand out.now }
+        ensures ok { IfOk result (λ done. (grip : ℕ) × IsHold self.old pool.old strand out.now grip pool.new × (self.new ≡ home_writing self.old strand o grip)) }
+        ensures err { OnErr result (self.new ≡ self.old) }
+        ensures err_pool { OnErr result (pool.new ≡ pool.old) }
+    {
         let grip = self.hold(pool, strand, out)?;
-        self.offer(strand, o, grip);
+        offer_at(&mut self.wires, grip, door);
+        ask_seat(&mut self.seats, strand, Ask::Write(o));
         Ok(())
+    }
+
+    /// Whether what is offered behind a door may be put, or refused.
+    pub fn may_write(&self, door: Option<u32>) -> bool
+        ensures { result ≡ (Pure.can_put (Pure.through self.now.wires door) || Pure.can_refuse (Pure.through self.now.wires door)) }
+    {
+        self.can_put(door) || self.can_refuse(door)
     }
 
     #[inline(always)]
@@ -175,15 +204,6 @@ impl Desk {
             Out::Same(i) => hold_of(&self.sights, pool, self.in_door(strand, *i)),
             Out::Fresh(rec) => pool.put(rec.bytes()),
         }
-    }
-
-    fn offer(&mut self, strand: u32, o: u16, grip: Grip)
-        requires { CanAsk self.old strand (Now.Write o) }
-        ensures { self.new ≡ home_writing self.old strand o grip }
-    {
-        let door = self.out_door(strand, o);
-        offer_at(&mut self.wires, grip, door);
-        ask_seat(&mut self.seats, strand, Ask::Write(o));
     }
 
     fn ask_unit(&mut self, strand: u32, ask: Ask)

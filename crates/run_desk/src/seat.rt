@@ -4,7 +4,7 @@ ghost use Rattle.run_desk.specs.Moves.{seat_after, changed, asking};
 use pipe_model::Seen;
 
 /// What a strand asks for, without the record that it writes.
-#[derive(Clone, Copy, Debug, PartialEq, Eq)]
+#[derive(Clone, Copy)]
 pub enum Ask {
     /// It is out, or has ended.
     Nothing,
@@ -33,7 +33,7 @@ pub enum Ask {
 }
 
 /// What is kept of a strand.
-#[derive(Clone, Copy, Debug, PartialEq, Eq)]
+#[derive(Clone, Copy)]
 pub struct Seat {
     pub ask: Ask,
     pub has_ended: bool,

@@ -1,5 +1,5 @@
 -- The outputs of a strand that are open: connected, and not refused.
-use Rattle.std.specs.Prelude.{ℕ, suc, Bool, ◌&&◌, not, ◌==◌, List, [], ◌∷◌, filter}
+use Rattle.std.specs.Prelude.{ℕ, suc, Bool, ◌&&◌, not, ◌==◌, List, [], ◌∷◌, filter, Option, Some, None}
 use Rattle.std.specs.List.{list_any}
 use Rattle.pipe_model.specs.declared.step.Seen.{Seen}
 use Rattle.pipe_model.specs.declared.step.Seen.TheVariants.{Refused}
@@ -27,3 +27,8 @@ none_left connected open_flags = connected && not (list_any (λ flag. flag) open
 -- the pairs whose output is open
 abbrev pub live : List Bool → List Pair → List Pair
 live open_flags pairs = filter (λ p. flag_at open_flags p.output) pairs
+
+-- the pairs of which the first may be kept apart
+abbrev pub joined : Option Pair → List Pair → List Pair
+joined None rest = rest
+joined (Some first) rest = first ∷ rest

@@ -17,16 +17,19 @@ pub struct Pair {
 /// Pairs in order, seen as a list.
 #[derive(Drop)]
 pub struct Pairs {
-    items: VecDeque<Pair>,
+    // the first pair, if there was none when it came
+    first: Option<Pair>,
+    rest: VecDeque<Pair>,
 }
 
 impl Model for Pairs {
     ghost use Rattle.std.specs.Prelude.{List};
     ghost use Rattle.stage_steps.specs.declared.outputs.Pair.{Pair};
+    ghost use Rattle.stage_steps.specs.Outputs.{joined};
 
     ghost Value = { List Pair };
 
-    ghost view = { λ pairs. pairs.items.items };
+    ghost view = { λ pairs. joined pairs.first pairs.rest.items };
 }
 
 impl Pairs {
@@ -35,31 +38,60 @@ impl Pairs {
         ensures { result ≡ [] }
     {
         Pairs {
-            items: VecDeque::new(alloc),
+            first: None,
+            rest: VecDeque::new(alloc),
         }
     }
 
-    /// Adds a pair at the end. After want of memory nothing is said of the pairs.
+    /// Adds a pair at the end. After want of memory nothing is said of the pairs. A lone pair takes no memory.
+    #[inline(always)]
     pub fn push(&mut self, pair: Pair) -> Result<(), NoMemory>
         ensures { OnOk result (self.new ≡ self.old ++ pair ∷ []) }
     {
-        self.items.push_back(pair)?;
+        if self.first.is_none() && self.rest.is_empty() {
+            self.first = Some(pair);
+            return Ok(());
+        }
+        self.push_behind(pair)
+    }
+
+    #[inline(never)]
+    fn push_behind(&mut self, pair: Pair) -> Result<(), NoMemory>
+        ensures { OnOk result (self.new ≡ self.old ++ pair ∷ []) }
+    {
+        self.rest.push_back(pair)?;
         Ok(())
     }
 
+    // Takes the first pair.
+    #[inline(always)]
+    fn pop(&mut self) -> Option<Pair>
+        ensures { MatchOption result ((self.old ≡ []) × (self.new ≡ [])) (λ p. self.old ≡ p ∷ self.new) }
+    {
+        if self.first.is_none() {
+            return self.rest.pop_front();
+        }
+        self.first.take()
+    }
+
     // Drops all pairs.
+    #[inline(always)]
     pub(crate) fn clear(&mut self)
         ensures { self.new ≡ [] }
     {
-        self.items.clear();
+        if self.first.is_some() {
+            self.first = None;
+        }
+        self.rest.clear();
     }
 }
 
 // Takes the first pair whose output is open from the front of the pairs, with those before it.
+#[inline(always)]
 pub(crate) fn next_pair(pairs: &mut Pairs, outputs: &Outputs) -> Option<Pair>
     ensures { MatchOption result (live outputs.now.flags.items pairs.old ≡ []) (λ p. live outputs.now.flags.items pairs.old ≡ p ∷ live outputs.now.flags.items pairs.new) }
 {
-    while let Some(pair) = pairs.items.pop_front() {
+    while let Some(pair) = pairs.pop() {
         if outputs.is_open(pair.output) {
             return Some(pair);
         }

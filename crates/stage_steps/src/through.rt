@@ -90,9 +90,9 @@ impl<L: Lists> Stage for Through<L> {
         ensures resumes { IfOk result (λ asked. Resumes (λ x s h. ThroughIs L.gives (L.is_looking x.lists) true x.lists x.walk.place x.walk.left x.walk.outputs.connected x.walk.outputs.flags.items x.kept s h) (L.is_looking self.old.lists) self.old self.new seen bytes.now asked) }
     {
         give(&mut self.lists, alloc, seen, bytes, &mut self.walk.left)?;
-        self.walk.go(seen, self.kept.is_none());
+        let yields = self.kept.is_none();
         note_kept(&mut self.kept, seen, bytes)?;
-        Ok(self.walk.ask())
+        Ok(self.walk.answer(seen, yields))
     }
 
     fn looks(&self) -> bool {

@@ -23,8 +23,41 @@ impl Walk {
     ghost use Rattle.stage_steps.specs.Place.{place_after};
     ghost use Rattle.stage_steps.specs.Walk.{gives_up, AsksFrom, AsksPair};
 
-    // The walk after an event. Where it yields, it ends when the last open output refuses.
-    pub(crate) fn go(&mut self, seen: Seen, yields: bool)
+    // What it asks for after an event. Where it yields, it ends when the last open output refuses.
+    #[inline(always)]
+    pub(crate) fn answer(&mut self, seen: Seen, yields: bool) -> Want
+        ensures flags { self.new.outputs.flags.items ≡ open_after seen self.old.outputs.flags.items }
+        ensures connected { self.new.outputs.connected ≡ self.old.outputs.connected }
+        ensures asks { AsksFrom (place_after self.old.place seen Looking (gives_up seen yields self.old.outputs.connected (open_after seen self.old.outputs.flags.items))) (open_after seen self.old.outputs.flags.items) self.old.left self.new.place self.new.left result }
+    {
+        match (self.place, seen) {
+            (Place::Looking, Seen::Saw(_)) => {
+                self.place = Place::Writing;
+                self.ask_pair()
+            }
+            (Place::Writing, Seen::Put(_)) => self.ask_pair(),
+            (Place::Taking, Seen::Took(_)) => {
+                self.place = Place::Looking;
+                Want::Read(0)
+            }
+            _ => self.answer_rarely(seen, yields),
+        }
+    }
+
+    // The same for any event.
+    #[inline(always)]
+    fn answer_rarely(&mut self, seen: Seen, yields: bool) -> Want
+        ensures flags { self.new.outputs.flags.items ≡ open_after seen self.old.outputs.flags.items }
+        ensures connected { self.new.outputs.connected ≡ self.old.outputs.connected }
+        ensures asks { AsksFrom (place_after self.old.place seen Looking (gives_up seen yields self.old.outputs.connected (open_after seen self.old.outputs.flags.items))) (open_after seen self.old.outputs.flags.items) self.old.left self.new.place self.new.left result }
+    {
+        self.go(seen, yields);
+        self.ask()
+    }
+
+    // The walk after an event.
+    #[inline(always)]
+    fn go(&mut self, seen: Seen, yields: bool)
         ensures flags { self.new.outputs.flags.items ≡ open_after seen self.old.outputs.flags.items }
         ensures connected { self.new.outputs.connected ≡ self.old.outputs.connected }
         ensures left { self.new.left ≡ self.old.left }
@@ -45,7 +78,8 @@ impl Walk {
     }
 
     // What it asks for where it stands.
-    pub(crate) fn ask(&mut self) -> Want
+    #[inline(always)]
+    fn ask(&mut self) -> Want
         ensures flags { self.new.outputs.flags.items ≡ self.old.outputs.flags.items }
         ensures connected { self.new.outputs.connected ≡ self.old.outputs.connected }
         ensures asks { AsksFrom self.old.place self.old.outputs.flags.items self.old.left self.new.place self.new.left result }
@@ -60,6 +94,7 @@ impl Walk {
         }
     }
 
+    #[inline(always)]
     fn ask_pair(&mut self) -> Want
         requires { self.old.place ≡ Place.Writing }
         ensures flags { self.new.outputs.flags.items ≡ self.old.outputs.flags.items }

@@ -10,17 +10,17 @@ use Rattle.core_machine.proofs.Plays.{looks_of, looks_same}
 use Rattle.core_machine.proofs.Sounds.{asks_early, inside, sound_ready, place, can_home, came, came_early, sound_home}
 use Rattle.core_machine.proofs.core_state.Core.come_home.Goals as goal
 
-pub bring_home-requires-clause-can : goal.bring_home-requires-clause-can
-bring_home-requires-clause-can g c =
+pub come_back-requires-clause-can : goal.come_back-requires-clause-can
+come_back-requires-clause-can g c =
     let i = c.self.inside in
     let v : ◌≡◌ {A = Machine} (record { net = i.net; budget = i.budget; looking = looks_of i.actors.items; journal = i.journal.items; out = i.out.items; is_broken = i.is_broken }) c.args.self.now = c.self.view_is in
     let among : is_among c.args.place i.out.items ≡ true = subst (λ (z : Machine). is_among c.args.place z.out ≡ true) (sym v) c.requires.among in
     let done : DoneStands g.S.Stage.stands g.S.Stage.is_looking i.net (looks_of i.actors.items) (take c.args.place i.journal.items) c.args.strand c.args.place c.args.stage c.args.want =
     subst (λ (z : Machine). DoneStands g.S.Stage.stands g.S.Stage.is_looking z.net z.looking (take c.args.place z.journal) c.args.strand c.args.place c.args.stage c.args.want) (sym v) c.requires.stands in
-    can_home g.S.Stage.stands g.S.Stage.is_looking i.net i.budget i.journal.items i.out.items i.actors.items i.desk i.pool i.ready c.self.invariant.0 c.args.strand c.args.place c.args.stage c.args.want among done
+    λ going. can_home g.S.Stage.stands g.S.Stage.is_looking i.net i.budget i.journal.items i.out.items i.actors.items i.desk i.pool i.ready c.self.invariant.0 c.args.strand c.args.place c.args.stage c.args.want among done (sym c.has_ended-has_ended.ensures ∙ going)
 
-pub bring_home-requires-clause-strand : goal.bring_home-requires-clause-strand
-bring_home-requires-clause-strand g c =
+pub come_back-requires-clause-strand : goal.come_back-requires-clause-strand
+come_back-requires-clause-strand g c =
     let i = c.self.inside in
     let v : ◌≡◌ {A = Machine} (record { net = i.net; budget = i.budget; looking = looks_of i.actors.items; journal = i.journal.items; out = i.out.items; is_broken = i.is_broken }) c.args.self.now = c.self.view_is in
     let among : is_among c.args.place i.out.items ≡ true = subst (λ (z : Machine). is_among c.args.place z.out ≡ true) (sym v) c.requires.among in
@@ -28,8 +28,8 @@ bring_home-requires-clause-strand g c =
     subst (λ (z : Machine). DoneStands g.S.Stage.stands g.S.Stage.is_looking z.net z.looking (take c.args.place z.journal) c.args.strand c.args.place c.args.stage c.args.want) (sym v) c.requires.stands in
     subst (λ n. c.args.strand < n) (sym c.self.invariant.0.size) (place g.S.Stage.stands g.S.Stage.is_looking i.net i.budget i.journal.items i.out.items i.actors.items i.desk i.pool i.ready c.self.invariant.0 c.args.strand c.args.place c.args.stage c.args.want among done)
 
-pub bring_home-requires-clause-links : goal.bring_home-requires-clause-links
-bring_home-requires-clause-links g c =
+pub come_back-requires-clause-links : goal.come_back-requires-clause-links
+come_back-requires-clause-links g c =
     let i = c.self.inside in
     subst (λ l. AreInside l i.ready.size) (sym c.as_slice.ensures) (inside g.S.Stage.stands g.S.Stage.is_looking i.net i.budget i.journal.items i.out.items i.actors.items i.desk i.pool i.ready c.self.invariant.0)
 
@@ -37,12 +37,12 @@ pub invariant_of-self : goal.invariant_of-self
 invariant_of-self g c =
     let i = c.self.inside in
     let old = c.self.invariant.0 in
-    let same = c.in_err-bring_home.ensures in
-    let kept = c.bring_home.ensures.covers i.net (bytes_at i.pool) (play i.net i.journal.items) (left_by i.journal.items i.out.items) (sym c.as_slice.ensures) (sym old.size) old.formed old.run.kept in
-    let covers : IsCovering i.desk c.bring_home.new.ready = subst (λ x. IsCovering x c.bring_home.new.ready) same.err (kept (subst AsksEarly (sym same.err) (asks_early g.S.Stage.stands g.S.Stage.is_looking i.net i.budget i.journal.items i.out.items i.actors.items i.desk i.pool i.ready c.self.invariant.0)) old.covers) in
-    let sound = sound_ready g.S.Stage.stands g.S.Stage.is_looking i.net i.budget i.journal.items i.out.items i.actors.items i.desk i.pool i.ready c.self.invariant.0 c.bring_home.new.ready c.bring_home.ensures.size covers in (
-      subst (λ x. IsSound g.S.Stage.stands g.S.Stage.is_looking i.net i.budget i.journal.items i.out.items i.actors.items x c.bring_home.new.pool c.bring_home.new.ready) (sym same.err)
-          (subst (λ x. IsSound g.S.Stage.stands g.S.Stage.is_looking i.net i.budget i.journal.items i.out.items i.actors.items i.desk x c.bring_home.new.ready) (sym same.err_pool) sound),
+    let same = c.in_err-come_back.ensures in
+    let kept = c.come_back.ensures.covers i.net (bytes_at i.pool) (play i.net i.journal.items) (left_by i.journal.items i.out.items) (sym c.as_slice.ensures) (sym old.size) old.formed old.run.kept in
+    let covers : IsCovering i.desk c.come_back.new.ready = subst (λ x. IsCovering x c.come_back.new.ready) same.err (kept (subst AsksEarly (sym same.err) (asks_early g.S.Stage.stands g.S.Stage.is_looking i.net i.budget i.journal.items i.out.items i.actors.items i.desk i.pool i.ready c.self.invariant.0)) old.covers) in
+    let sound = sound_ready g.S.Stage.stands g.S.Stage.is_looking i.net i.budget i.journal.items i.out.items i.actors.items i.desk i.pool i.ready c.self.invariant.0 c.come_back.new.ready c.come_back.ensures.size covers in (
+      subst (λ x. IsSound g.S.Stage.stands g.S.Stage.is_looking i.net i.budget i.journal.items i.out.items i.actors.items x c.come_back.new.pool c.come_back.new.ready) (sym same.err)
+          (subst (λ x. IsSound g.S.Stage.stands g.S.Stage.is_looking i.net i.budget i.journal.items i.out.items i.actors.items i.desk x c.come_back.new.ready) (sym same.err_pool) sound),
       c.self.invariant.1,
       c.self.invariant.2,
     )
@@ -66,12 +66,12 @@ invariant_of-self-2 g c =
     let done : DoneStands g.S.Stage.stands g.S.Stage.is_looking i.net (looks_of i.actors.items) (take c.args.place i.journal.items) c.args.strand c.args.place c.args.stage c.args.want =
     subst (λ (z : Machine). DoneStands g.S.Stage.stands g.S.Stage.is_looking z.net z.looking (take c.args.place z.journal) c.args.strand c.args.place c.args.stage c.args.want) (sym v) c.requires.stands in
     let old = c.self.invariant.0 in
-    let back = c.bring_home.new in
-    let home = c.in_ok-bring_home.ensures.home in
-    let kept = c.bring_home.ensures.covers i.net (bytes_at i.pool) (play i.net i.journal.items) (left_by i.journal.items i.out.items) (sym c.as_slice.ensures) (sym old.size) old.formed old.run.kept in
+    let back = c.come_back.new in
+    let home = c.in_ok-come_back.ensures.home in
+    let kept = c.come_back.ensures.covers i.net (bytes_at i.pool) (play i.net i.journal.items) (left_by i.journal.items i.out.items) (sym c.as_slice.ensures) (sym old.size) old.formed old.run.kept in
     let covers = kept (came_early g.S.Stage.stands g.S.Stage.is_looking i.net i.budget i.journal.items i.out.items i.actors.items i.desk i.pool i.ready c.self.invariant.0 c.args.strand c.args.place c.args.stage c.args.want among done back.desk back.pool home) old.covers in
     let taken = c.take_back.ensures in
-    let sound = sound_home g.S.Stage.stands g.S.Stage.is_looking i.net i.budget i.journal.items i.out.items i.actors.items i.desk i.pool i.ready c.self.invariant.0 c.args.strand c.args.place c.args.stage c.args.want among done back.desk back.pool back.ready taken.0 taken.1 (came g.S.Stage.stands g.S.Stage.is_looking i.net i.budget i.journal.items i.out.items i.actors.items i.desk i.pool i.ready c.self.invariant.0 c.args.strand c.args.place c.args.stage c.args.want among done back.desk back.pool home) c.bring_home.ensures.size covers in (
+    let sound = sound_home g.S.Stage.stands g.S.Stage.is_looking i.net i.budget i.journal.items i.out.items i.actors.items i.desk i.pool i.ready c.self.invariant.0 c.args.strand c.args.place c.args.stage c.args.want among done back.desk back.pool back.ready taken.0 taken.1 (came g.S.Stage.stands g.S.Stage.is_looking i.net i.budget i.journal.items i.out.items i.actors.items i.desk i.pool i.ready c.self.invariant.0 c.args.strand c.args.place c.args.stage c.args.want among done back.desk back.pool home) c.come_back.ensures.size covers in (
       subst (λ o. IsSound g.S.Stage.stands g.S.Stage.is_looking i.net i.budget i.journal.items o c.take_back.new.actors.items back.desk back.pool back.ready) (sym c.remove.ensures.items)
           (subst (λ l. IsSound g.S.Stage.stands g.S.Stage.is_looking i.net i.budget i.journal.items (without c.args.place i.out.items) l back.desk back.pool back.ready) (sym (taken.2 ∙ ap (λ w. slice_set i.actors.items c.args.strand (come_back c.args.stage w taken.0)) c.bare.ensures)) sound),
       c.self.invariant.1,

@@ -1,0 +1,101 @@
+//! Who is at the other ends of a strand's links is woken.
+ghost use Rattle.std.specs.Prelude.{◌≡◌, ◌<◌, true};
+ghost use Rattle.run_desk.specs.Kept.{link_through};
+ghost use Rattle.core_machine.specs.Members.{is_member};
+ghost use Rattle.core_machine.specs.Woken.{AreInside, IsLarger, IsProducerIn, IsConsumerIn, OfDoors, AreEndsIn, IsReaderIn};
+
+use crate::ready::Ready;
+use pipe_model::{Link, Seen, Want};
+use run_desk::Desk;
+
+// Wakes the strands at the other ends of the links that what was told concerns: of a record that was taken its
+// producer, of one that was put its consumer, and at an end all.
+#[inline(always)]
+pub(crate) fn wake_ends(ready: &mut Ready, desk: &Desk, links: &[Link], strand: u32, seen: Seen)
+    requires { AreInside links.now ready.old.size }
+    ensures larger { IsLarger ready.old ready.new }
+    ensures ends { AreEndsIn desk.now links.now strand seen ready.new }
+{
+    match seen {
+        Seen::Took(i) => wake_producer(ready, links, desk.in_door(strand, i)),
+        Seen::Put(o) => wake_consumer(ready, links, desk.out_door(strand, o)),
+        Seen::Ended(_) => {
+            wake_consumers(ready, links, desk.outputs(strand));
+            wake_producers(ready, links, desk.inputs(strand));
+        }
+        _ => {}
+    }
+}
+
+// Wakes a strand that comes home, and the one that may see what it writes.
+#[inline(always)]
+pub(crate) fn wake_reader(ready: &mut Ready, desk: &Desk, links: &[Link], strand: u32, want: &Want)
+    requires strand { strand < ready.old.size }
+    requires links { AreInside links.now ready.old.size }
+    ensures larger { IsLarger ready.old ready.new }
+    ensures here { is_member ready.new strand ≡ true }
+    ensures reader { IsReaderIn desk.now links.now strand want.now ready.new }
+{
+    wake(ready, strand);
+    if let Want::Write(o, _) = want {
+        wake_consumer(ready, links, desk.out_door(strand, *o));
+    }
+}
+
+/// Wakes a strand that is mostly in the set already.
+pub(crate) fn wake(ready: &mut Ready, strand: u32)
+    requires { strand < ready.old.size }
+    ensures larger { IsLarger ready.old ready.new }
+    ensures here { is_member ready.new strand ≡ true }
+{
+    if !ready.has(strand) {
+        ready.insert(strand);
+    }
+}
+
+fn wake_producer(ready: &mut Ready, links: &[Link], door: Option<u32>)
+    requires { AreInside links.now ready.old.size }
+    ensures larger { IsLarger ready.old ready.new }
+    ensures end { IsProducerIn links.now ready.new door }
+{
+    if let Some(link) = link_at(links, door) {
+        ready.insert(link.from);
+    }
+}
+
+/// Wakes the strand that reads behind a door.
+pub(crate) fn wake_consumer(ready: &mut Ready, links: &[Link], door: Option<u32>)
+    requires { AreInside links.now ready.old.size }
+    ensures larger { IsLarger ready.old ready.new }
+    ensures end { IsConsumerIn links.now ready.new door }
+{
+    if let Some(link) = link_at(links, door) {
+        ready.insert(link.to);
+    }
+}
+
+fn wake_producers(ready: &mut Ready, links: &[Link], doors: &[Option<u32>])
+    requires { AreInside links.now ready.old.size }
+    ensures larger { IsLarger ready.old ready.new }
+    ensures ends { OfDoors (IsProducerIn links.now ready.new) doors.now }
+{
+    for door in doors {
+        wake_producer(ready, links, *door);
+    }
+}
+
+fn wake_consumers(ready: &mut Ready, links: &[Link], doors: &[Option<u32>])
+    requires { AreInside links.now ready.old.size }
+    ensures larger { IsLarger ready.old ready.new }
+    ensures ends { OfDoors (IsConsumerIn links.now ready.new) doors.now }
+{
+    for door in doors {
+        wake_consumer(ready, links, *door);
+    }
+}
+
+fn link_at(links: &[Link], door: Option<u32>) -> Option<Link>
+    ensures { result ≡ link_through links.now door }
+{
+    links.get(door? as usize).copied()
+}
