@@ -41,7 +41,7 @@ pub enum Turned<S: Stage> {
 }
 
 /// How a run ended.
-#[derive(Clone, Copy)]
+#[derive(Clone, Copy, Debug, PartialEq, Eq)]
 pub enum RunEnd {
     /// No strand may have an event.
     Complete,
@@ -77,5 +77,45 @@ impl<S: Stage> Job<S> {
             stage,
             want,
         }
+    }
+
+    pub fn strand(&self) -> u32
+        ensures { result ≡ self.now.strand }
+    {
+        self.strand
+    }
+
+    pub fn place(&self) -> u64
+        ensures { result ≡ self.now.place }
+    {
+        self.place
+    }
+
+    pub fn seen(&self) -> Seen
+        ensures { result ≡ self.now.seen }
+    {
+        self.seen
+    }
+}
+
+impl<S: Stage> Finished<S> {
+    ghost use Rattle.std.specs.Prelude.{◌≡◌};
+
+    pub fn strand(&self) -> u32
+        ensures { result ≡ self.now.strand }
+    {
+        self.strand
+    }
+
+    pub fn place(&self) -> u64
+        ensures { result ≡ self.now.place }
+    {
+        self.place
+    }
+
+    pub fn seen(&self) -> Seen
+        ensures { result ≡ self.now.seen }
+    {
+        self.seen
     }
 }

@@ -128,7 +128,7 @@ fn a_run_keeps_what_is_selected(rt: HostRuntime) -> Result<(), Fail> {
     assert_eq!(rt; core.ready_stream(1), Some(0));
     assert!(rt; !core.is_complete());
     let end = core.run_one_thread(alloc, &OpenGate)?;
-    assert!(rt; matches!(end, RunEnd::Complete));
+    assert_eq!(rt; end, RunEnd::Complete);
     assert_eq!(rt; core.len(), 26);
     assert!(rt; core.kept(2) == b"ab\nb\n".as_slice());
     assert_eq!(rt;
@@ -141,13 +141,13 @@ fn a_run_keeps_what_is_selected(rt: HostRuntime) -> Result<(), Fail> {
     Ok(())
 }
 
-// Whether a run of these many entries at most ends complete, and how many it has.
-fn run_within(alloc: Global, budget: u64) -> Result<(bool, u64), NoMemory>
+// How a run of these many entries at most ends, and how many it has.
+fn run_within(alloc: Global, budget: u64) -> Result<(RunEnd, u64), NoMemory>
     requires { budget ≤ 50000000 }
 {
     let mut core = filtering_core(alloc, budget)?;
     let end = core.run_one_thread(alloc, &OpenGate)?;
-    Ok((matches!(end, RunEnd::Complete), core.len()))
+    Ok((end, core.len()))
 }
 
 #[test]
@@ -155,7 +155,7 @@ fn a_budget_of_all_entries_is_enough(rt: HostRuntime) -> Result<(), Fail> {
     let alloc = rt.alloc();
     assert_eq!(rt;
         [run_within(alloc, 26)?, run_within(alloc, 25)?],
-        [(true, 26), (false, 25)]
+        [(RunEnd::Complete, 26), (RunEnd::Spent, 25)]
     );
     Ok(())
 }
@@ -173,7 +173,7 @@ fn work(
     let Turned::NotReady = core.turn(strand, 0, &mut Vec::new(alloc)) else {
         return Ok(None);
     };
-    let seen = job.seen;
+    let seen = job.seen();
     let done = job.run(alloc, room);
     core.finish(done)?;
     Ok(Some(seen))
