@@ -15,6 +15,7 @@ pub mod OneRanges
 pub mod OneSpellings
 pub mod OneStrings
 pub mod Outcomes
+pub mod PartExamples
 pub mod Passed
 pub mod RangeFronts
 pub mod RowApart
