@@ -47,6 +47,12 @@ last_gives (Asked.Range ∷ (next ∷ parts)) part asked is some stands = last_g
 last_gives (Asked.String ∷ (next ∷ parts)) part asked is some stands = last_gives (next ∷ parts) part asked is (omega arith) (λ other.
     let later : length (Asked.String ∷ (next ∷ parts)) - 1 ≡ suc (length (next ∷ parts) - 1) = omega arith in
     stands other ∙ ap (λ at. get_or (Asked.String ∷ (next ∷ parts)) at other) later)
+last_gives (Asked.Number least most ∷ (next ∷ parts)) part asked is some stands = last_gives (next ∷ parts) part asked is (omega arith) (λ other.
+    let later : length (Asked.Number least most ∷ (next ∷ parts)) - 1 ≡ suc (length (next ∷ parts) - 1) = omega arith in
+    stands other ∙ ap (λ at. get_or (Asked.Number least most ∷ (next ∷ parts)) at other) later)
+last_gives (Asked.Byte ∷ (next ∷ parts)) part asked is some stands = last_gives (next ∷ parts) part asked is (omega arith) (λ other.
+    let later : length (Asked.Byte ∷ (next ∷ parts)) - 1 ≡ suc (length (next ∷ parts) - 1) = omega arith in
+    stands other ∙ ap (λ at. get_or (Asked.Byte ∷ (next ∷ parts)) at other) later)
 
 -- where one part may come, it is that part
 pub only_part : (asked part : Part) → Contains (asked ∷ []) part → asked ≡ part

@@ -1,10 +1,12 @@
 pub mod Blanks
+pub mod ByteParts
 pub mod Choices
 pub mod Delimiters
 pub mod Examples
 pub mod FirstWords
 pub mod Letters
 pub mod Misfits
+pub mod NumberParts
 pub mod Numerals
 pub mod OneFronts
 pub mod OneKinds
@@ -13,10 +15,13 @@ pub mod OneRanges
 pub mod OneSpellings
 pub mod OneStrings
 pub mod Outcomes
+pub mod PartExamples
 pub mod Passed
 pub mod RangeFronts
+pub mod RowApart
 pub mod RowExamples
 pub mod RowSteps
 pub mod Spellings
 pub mod StringParts
 pub mod WordExamples
+pub mod WordFronts

@@ -20,7 +20,7 @@ pub spelling_filled : (word : List ℕ) (spelling : Spelling) → IsSpelling wor
 spelling_filled word spelling spelled = omega (arith, spelled.counts.some, ap length spelled.spells, length-append spelled.number spelled.after)
 
 -- digits have one value
-one_value : (digits other : List ℕ) (a b : ℕ) → digits ≡ other → IsNumber digits a → IsNumber other b → a ≡ b
+pub one_value : (digits other : List ℕ) (a b : ℕ) → digits ≡ other → IsNumber digits a → IsNumber other b → a ≡ b
 one_value digits other a b same first second = first.worth ∙ ap decimal same ∙ sym second.worth
 
 -- an asterisk is no number

@@ -41,14 +41,14 @@ word_at word rest is stops = record { spells = refl; whole = no_blank word is; s
 pub one_blank : (front : List ℕ) → ¬ (get_or front 0 0 ≡ 32) → IsUnblanked (32 ∷ front) front
 one_blank front other = record { blanks = 1; spells = refl; other = other }
 
-number_5 : IsNumber (codes "5") 5
+pub number_5 : IsNumber (codes "5") 5
 number_5 = record { some = omega arith; few = omega arith; digits = refl; worth = refl }
 
 number_3 : IsNumber (codes "3") 3
 number_3 = record { some = omega arith; few = omega arith; digits = refl; worth = refl }
 
 -- a letter between slashes
-delimited : (byte : ℕ) (rest : List ℕ) → ¬ (byte ≡ 47) → IsDelimited (47 ∷ byte ∷ 47 ∷ rest) (byte ∷ []) rest
+pub delimited : (byte : ℕ) (rest : List ℕ) → ¬ (byte ≡ 47) → IsDelimited (47 ∷ byte ∷ 47 ∷ rest) (byte ∷ []) rest
 delimited byte rest other = record {
   delimiter = 47;
   chosen = refl;

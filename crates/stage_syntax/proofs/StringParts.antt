@@ -14,6 +14,8 @@ module _ (text : List ℕ) where
   no_string_of_word : IsOtherWord text → (value : Value) (rest : List ℕ) → ¬ IsPart Asked.String text value rest
   no_string_of_word other (Read.Range range) rest is = is
   no_string_of_word other (Read.String string) rest is = no_fault text string rest UnknownWord is other
+  no_string_of_word other (Read.Number value) rest is = is
+  no_string_of_word other (Read.Byte byte) rest is = is
 
   -- another word has no fault that a string has whatever else may come
   no_fault_of_word : IsOtherWord text → (kind : FaultKind) → IsOfStrings kind → ¬ IsNoString text kind

@@ -1,7 +1,9 @@
 pub mod Arg
 pub mod Bounds
+pub mod Bytes
 pub mod Fault
 pub mod Kinds
+pub mod NumberWords
 pub mod Numbers
 pub mod Parts
 pub mod PlainRanges

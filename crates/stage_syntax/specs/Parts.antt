@@ -8,6 +8,8 @@ use Rattle.stage_syntax.specs.declared.part.Part.TheVariants as Asked
 use Rattle.stage_syntax.specs.declared.part.Value.{Value}
 use Rattle.stage_syntax.specs.declared.part.Value.TheVariants as Read
 use Rattle.stage_syntax.specs.declared.part.TextFault.{TextFault}
+use Rattle.stage_syntax.specs.Bytes.{IsByte, IsLengthFault}
+use Rattle.stage_syntax.specs.NumberWords.{IsNumberIn, IsNumberMisfit}
 use Rattle.stage_syntax.specs.RangeWords.{IsRange, IsRangeMisfit}
 use Rattle.stage_syntax.specs.Strings.{IsString, IsNoString}
 use Rattle.stage_syntax.specs.Words.{IsUnblanked}
@@ -16,17 +18,35 @@ use Rattle.stage_syntax.specs.Words.{IsUnblanked}
 abbrev pub IsPart : Part → List ℕ → Value → List ℕ → Type 0
 IsPart Asked.Range text (Read.Range range) rest = IsRange text range rest
 IsPart Asked.Range text (Read.String string) rest = ⊥
+IsPart Asked.Range text (Read.Number value) rest = ⊥
+IsPart Asked.Range text (Read.Byte byte) rest = ⊥
 IsPart Asked.String text (Read.Range range) rest = ⊥
 IsPart Asked.String text (Read.String string) rest = IsString text string rest
+IsPart Asked.String text (Read.Number value) rest = ⊥
+IsPart Asked.String text (Read.Byte byte) rest = ⊥
+IsPart (Asked.Number least most) text (Read.Range range) rest = ⊥
+IsPart (Asked.Number least most) text (Read.String string) rest = ⊥
+IsPart (Asked.Number least most) text (Read.Number value) rest = IsNumberIn text least most value rest
+IsPart (Asked.Number least most) text (Read.Byte byte) rest = ⊥
+IsPart Asked.Byte text (Read.Range range) rest = ⊥
+IsPart Asked.Byte text (Read.String string) rest = ⊥
+IsPart Asked.Byte text (Read.Number value) rest = ⊥
+IsPart Asked.Byte text (Read.Byte byte) rest = IsByte text byte rest
 
 -- a string has this fault whatever else may come there
 abbrev pub IsOfStrings : FaultKind → Type 0
 IsOfStrings kind = (kind ≡ Unclosed) ⊎ ((kind ≡ EmptyString) ⊎ (kind ≡ BadHex))
 
+-- the text has this fault of a string, at its front, whatever else may come there
+abbrev pub IsStringMisfit : List ℕ → TextFault → Type 0
+IsStringMisfit text fault = (fault.left ≡ length text) × IsOfStrings fault.kind × IsNoString text fault.kind
+
 -- the text begins as the part does and isn't one, for this reason, whatever else may come there
 abbrev pub IsPartMisfit : Part → List ℕ → TextFault → Type 0
 IsPartMisfit Asked.Range text fault = IsRangeMisfit text fault
-IsPartMisfit Asked.String text fault = (fault.left ≡ length text) × IsOfStrings fault.kind × IsNoString text fault.kind
+IsPartMisfit Asked.String text fault = IsStringMisfit text fault
+IsPartMisfit (Asked.Number least most) text fault = IsNumberMisfit text least most fault
+IsPartMisfit Asked.Byte text fault = IsStringMisfit text fault ⊎ IsLengthFault text fault
 
 -- the text isn't the part, and doesn't begin as it does
 pub record IsNoPart (part : Part) (text : List ℕ) : Type 0 where
@@ -38,6 +58,8 @@ abbrev pub fault_of_last : List Part → FaultKind
 fault_of_last [] = Extra
 fault_of_last (Asked.Range ∷ []) = NotANumber
 fault_of_last (Asked.String ∷ []) = UnknownWord
+fault_of_last (Asked.Number least most ∷ []) = NotANumber
+fault_of_last (Asked.Byte ∷ []) = UnknownWord
 fault_of_last (part ∷ (next ∷ parts)) = fault_of_last (next ∷ parts)
 
 -- the text is no part of these, and begins as none

@@ -3,10 +3,12 @@
 
 mod arg;
 mod bounds;
+mod bytes;
 mod digits;
 mod fault;
 mod laws;
 mod next;
+mod number_words;
 mod part;
 mod range_words;
 mod ranges;
@@ -22,10 +24,12 @@ mod words;
 
 pub use arg::Arg;
 pub use bounds::{Misfit, no_misfit, range_of};
+pub use bytes::{SpelledByte, byte};
 pub use digits::{first_digits, first_others, number};
 pub use fault::{ArgFault, FaultKind, KindFault};
 pub use laws::{no_kind_fault, one_fault, one_kind};
 pub use next::{Taken, close, next_part, next_string};
+pub use number_words::{SpelledNumber, number_in};
 pub use part::{Part, TextFault, Value};
 pub use range_words::{SpelledRange, range};
 pub use ranges::{Ending, Spelling, read_spelling};

@@ -4,7 +4,9 @@ ghost use Rattle.stage_syntax.specs.declared.part.Value.TheVariants as Read;
 ghost use Rattle.stage_syntax.specs.Parts.{IsAtEnd, IsMisfitOf, IsNext, IsNoNext, IsNoPart, IsPart, IsPartMisfit, IsPartOf, fault_of_last};
 ghost use Rattle.stage_syntax.specs.Refusals.{Refuses};
 
+use crate::bytes::byte;
 use crate::fault::FaultKind;
+use crate::number_words::number_in;
 use crate::part::{Part, TextFault, Value};
 use crate::range_words::range;
 use crate::refusal::Refusal;
@@ -48,7 +50,7 @@ pub fn next_string(alloc: Global, text: &[u8]) -> Result<Option<Spelled>, Refusa
     };
     match value {
         Value::String(string) => Ok(Some(Spelled { string, len })),
-        Value::Range(_) => unreachable!(),
+        _ => unreachable!(),
     }
 }
 
@@ -91,6 +93,8 @@ fn last_fault(parts: &[Part]) -> FaultKind
         None => FaultKind::Extra,
         Some(Part::Range) => FaultKind::NotANumber,
         Some(Part::String) => FaultKind::UnknownWord,
+        Some(Part::Number { .. }) => FaultKind::NotANumber,
+        Some(Part::Byte) => FaultKind::UnknownWord,
     }
 }
 
@@ -104,6 +108,8 @@ fn part_at(alloc: Global, part: Part, text: &[u8]) -> Result<Option<Taken>, Refu
     match part {
         Part::Range => range_at(text),
         Part::String => string_at(alloc, text),
+        Part::Number { least, most } => number_at(text, least, most),
+        Part::Byte => byte_at(alloc, text),
     }
 }
 
@@ -132,6 +138,45 @@ fn string_at(alloc: Global, text: &[u8]) -> Result<Option<Taken>, Refusal>
     match string(alloc, text) {
         Ok(spelled) => Ok(Some(Taken {
             value: Value::String(spelled.string),
+            len: spelled.len,
+        })),
+        Err(
+            Refusal::Fault(
+                TextFault {
+                    kind: FaultKind::UnknownWord,
+                    ..
+                },
+            ),
+        ) => Ok(None),
+        Err(refusal) => Err(refusal),
+    }
+}
+
+// The number at the front of a text, or None where the text doesn't begin with a number.
+fn number_at(text: &[u8], least: u64, most: u64) -> Result<Option<Taken>, Refusal>
+    ensures within { IfOk result (λ found. IfSome found (λ taken. taken.len ≤ length text.now)) }
+    ensures read { IfOk result (λ found. MatchOption found (IsNoPart (Asked.Number least most) text.now) (λ taken. IsPart (Asked.Number least most) text.now taken.value (drop taken.len text.now))) }
+    ensures refused { IfErr result (Refuses (IsPartMisfit (Asked.Number least most) text.now)) }
+{
+    match number_in(text, least, most)? {
+        Some(spelled) => Ok(Some(Taken {
+            value: Value::Number(spelled.value),
+            len: spelled.len,
+        })),
+        None => Ok(None),
+    }
+}
+
+// The byte at the front of a text, or None where the text begins with a word that other parts may fit.
+fn byte_at(alloc: Global, text: &[u8]) -> Result<Option<Taken>, Refusal>
+    requires begins { get_or text.now 0 32 ≢ 32 }
+    ensures within { IfOk result (λ found. IfSome found (λ taken. taken.len ≤ length text.now)) }
+    ensures read { IfOk result (λ found. MatchOption found (IsNoPart Asked.Byte text.now) (λ taken. IsPart Asked.Byte text.now taken.value (drop taken.len text.now))) }
+    ensures refused { IfErr result (Refuses (IsPartMisfit Asked.Byte text.now)) }
+{
+    match byte(alloc, text) {
+        Ok(spelled) => Ok(Some(Taken {
+            value: Value::Byte(spelled.byte),
             len: spelled.len,
         })),
         Err(

@@ -6,6 +6,10 @@ use pipe_model::{Range, Rec};
 pub enum Part {
     Range,
     String,
+    /// A number that isn't less than `least` nor greater than `most`.
+    Number { least: u64, most: u64 },
+    /// A string of length 1.
+    Byte,
 }
 
 /// An argument that was read.
@@ -13,6 +17,8 @@ pub enum Part {
 pub enum Value {
     Range(Range),
     String(Rec),
+    Number(u64),
+    Byte(u8),
 }
 
 /// A fault in a text, where so many bytes are left of it.

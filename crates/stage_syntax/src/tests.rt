@@ -72,6 +72,70 @@ fn names_and_arguments_have_their_kinds(rt: HostRuntime) -> Result<(), Fail> {
     Ok(())
 }
 
+// What may come next, a text, and what was read with how many bytes spell it, or a fault's number and how many bytes are left
+// at it. A number is 1 to 10.
+const NEXT_CASES: &str = "\
+number|5|number 5 of 1\n\
+number|  10 /a/|number 10 of 4\n\
+number|11|4 before 2\n\
+number| 0 1|4 before 3\n\
+number|00000000001|3 before 11\n\
+number|x|3 before 1\n\
+number|5x|3 before 2\n\
+number|  |end\n\
+byte|/a/|byte 97 of 3\n\
+byte|/ab/|4 before 4\n\
+byte|//|6 before 2\n\
+byte|x41|byte 65 of 3\n\
+byte|x4142|4 before 5\n\
+byte|/a|5 before 2\n\
+byte|5|7 before 1\n\
+either|7|number 7 of 1\n\
+either| ,b,c|byte 98 of 4\n\
+either|11|4 before 2\n\
+either|q|7 before 1\n\
+either|x4|8 before 2";
+
+#[test]
+fn numbers_and_bytes_are_read(rt: HostRuntime) -> Result<(), Fail> {
+    let alloc = rt.alloc();
+    let number = Part::Number { least: 1, most: 10 };
+    for case in NEXT_CASES.split('\n') {
+        let mut cells = case.split('|');
+        let asked = cells.next().unwrap_or("");
+        let text = cells.next().unwrap_or("").as_bytes();
+        let expected = cells.next().unwrap_or("");
+        let next = match asked {
+            "number" => next_part(alloc, &[number], text),
+            "byte" => next_part(alloc, &[Part::Byte], text),
+            _ => next_part(alloc, &[number, Part::Byte], text),
+        };
+        assert_eq!(rt; next_shown(alloc, &next)?.as_str(), expected, "{case}");
+    }
+    Ok(())
+}
+
+// What comes next, as a case shows it.
+fn next_shown(alloc: Global, next: &Result<Option<Taken>, Refusal>) -> Result<String, Fail> {
+    Ok(match next {
+        Ok(None) => format!(in alloc; "end")?,
+        Ok(Some(taken)) => {
+            let len = taken.len;
+            match &taken.value {
+                Value::Number(value) => format!(in alloc; "number {value} of {len}")?,
+                Value::Byte(byte) => format!(in alloc; "byte {byte} of {len}")?,
+                _ => format!(in alloc; "another value")?,
+            }
+        }
+        Err(Refusal::Fault(fault)) => {
+            let number = fault.kind.number();
+            let left = fault.left;
+            format!(in alloc; "{number} before {left}")?
+        }
+        Err(Refusal::NoMemory) => format!(in alloc; "no memory")?,
+    })
+}
+
 // The argument of these bytes, each plain and two places after the one before it.
 fn spaced(alloc: Global, bytes: &[u8]) -> Result<Arg, Fail> {
     let mut plain = Vec::new(alloc);
