@@ -36,10 +36,14 @@ locate_first : (values : List Value) (kind : Kind) → locate_kind values ≡ So
 locate_first [] kind is = cc
 locate_first (Read.Range range ∷ []) kind is = first_as (Locate range None) kind is tt
 locate_first (Read.Range range ∷ (Read.Range other ∷ rest)) kind is = cc
+locate_first (Read.Range range ∷ (Read.Number number ∷ rest)) kind is = cc
+locate_first (Read.Range range ∷ (Read.Byte byte ∷ rest)) kind is = cc
 locate_first (Read.Range range ∷ (Read.String string ∷ [])) kind is = first_as (Locate range (Some string)) kind is tt
 locate_first (Read.Range range ∷ (Read.String string ∷ (value ∷ rest))) kind is = cc
 locate_first (Read.String string ∷ []) kind is = first_as (Locate all_columns (Some string)) kind is tt
 locate_first (Read.String string ∷ (value ∷ rest)) kind is = cc
+locate_first (Read.Number number ∷ rest) kind is = cc
+locate_first (Read.Byte byte ∷ rest) kind is = cc
 
 -- each row makes such kinds
 row_first : (a b first : Bool) (row : Row) (read : List Value) (kind : Kind) → cond a (Some (console_row first)) (cond b (Some locate_row) None) ≡ Some row → row.kind read ≡ Some kind → IsFirstKind kind
