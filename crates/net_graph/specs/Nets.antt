@@ -1,7 +1,7 @@
 -- The net of a specification whose pieces are read.
-use Rattle.std.specs.Prelude.{◌≡◌, ◌≢◌, ℕ, suc, ◌+◌, ◌==◌, ◌&&◌, Bool, true, false, if◌then◌else◌, min, List, [], ◌∷◌, ◌++◌, length, map, Ok, Err, ⊤}
+use Rattle.std.specs.Prelude.{◌≢◌, ℕ, suc, ◌==◌, ◌&&◌, Bool, false, if◌then◌else◌, min, List, [], ◌∷◌, ◌++◌, map, Ok, Err, ⊤}
 use Rattle.std.specs.declared.result.Result.{Result}
-use Rattle.std.specs.List.{flat_map, list_any, range_with_len}
+use Rattle.std.specs.List.{list_any, range_with_len}
 use Rattle.std.specs.declared.option.Option.{Option}
 use Rattle.std.specs.declared.option.Option.TheVariants.{Some, None}
 use Rattle.pipe_model.specs.declared.kind.Kind.{Kind}

@@ -1,7 +1,6 @@
 -- The pieces of a specification where they stand in their pipelines, and the stages that they use.
-use Rattle.std.specs.Prelude.{ℕ, suc, ◌+◌, ◌==◌, ◌&&◌, Bool, true, false, List, [], ◌∷◌, ◌++◌, filter, length, option_map}
+use Rattle.std.specs.Prelude.{ℕ, suc, ◌==◌, ◌&&◌, Bool, true, false, List, [], ◌∷◌, filter, option_map}
 use Rattle.std.specs.List.{count_by, flat_map, position}
-use Rattle.std.specs.Option.{option_map_or}
 use Rattle.std.specs.declared.option.Option.{Option}
 use Rattle.std.specs.declared.option.Option.TheVariants.{Some, None}
 use Rattle.spec_scanner.specs.declared.piece.Piece.{Piece}

@@ -1,13 +1,13 @@
 -- No fault of a text is one of an argument.
 use Rattle.std.proofs.Common.{◌≡◌, ℕ, suc, zero, ◌+◌, ◌<◌, ◌&&◌, Bool, true, false, not, if◌then◌else◌, List, [], ◌∷◌, ◌++◌, length, get_or, take, drop, refl, ap, sym, ◌∙◌, subst, arith, Option, Some, None, inl, inr}
 use Rattle.std.specs.Bool.{⊤}
-use Rattle.std.specs.List.{Contains, flat_map, list_any}
+use Rattle.std.specs.List.{flat_map}
 use Rattle.spec_scanner.specs.declared.fault.Fault.{Fault}
 use Rattle.spec_scanner.specs.declared.item.Item.{Item}
 use Rattle.spec_scanner.specs.declared.piece.Piece.{Piece}
 use Rattle.spec_scanner.specs.declared.signs.Choice.{Choice}
 use Rattle.spec_scanner.specs.declared.signs.OptionName.{OptionName}
-use Rattle.spec_scanner.specs.Faults.{IsLeast, fault}
+use Rattle.spec_scanner.specs.Faults.{fault}
 use Rattle.spec_scanner.specs.Options.{BeginsAs, Outset, Pair, Word, clash, clashes, in_force, is_choice, is_new, must_choose, option_of, pair_faults, pairs_of, value_faults, word_faults}
 use Rattle.spec_scanner.specs.Labels.{Label, bad_label, define, good_label, labelled, number_of, read_pipelines, read_stage, read_stages, read_text, refer}
 use Rattle.spec_scanner.specs.Pieces.{bytes_of, colon_of, end_of, is_good_label, place_of}

@@ -1,9 +1,9 @@
 -- Texts that read as they should, by computation.
-use Rattle.std.proofs.Common.{◌≡◌, ℕ, suc, ◌+◌, ◌==◌, Bool, true, false, if◌then◌else◌, List, [], ◌∷◌, length, map, codes, refl, Some, None, Option}
+use Rattle.std.proofs.Common.{◌≡◌, ℕ, suc, ◌==◌, if◌then◌else◌, List, [], ◌∷◌, length, map, codes, refl, Some, None}
 use Rattle.spec_scanner.specs.declared.item.Item.{Item}
-use Rattle.spec_scanner.specs.declared.item.Reading.TheVariants.{Plain, Literal, Separator, End}
+use Rattle.spec_scanner.specs.declared.item.Reading.TheVariants.{Plain, Separator, End}
 use Rattle.spec_scanner.specs.declared.piece.Piece.{Piece}
-use Rattle.spec_scanner.specs.declared.piece.PieceKind.TheVariants.{Stage, Reference, Connector}
+use Rattle.spec_scanner.specs.declared.piece.PieceKind.TheVariants.{Stage, Connector}
 use Rattle.spec_scanner.specs.declared.fault.Fault.{Fault}
 use Rattle.spec_scanner.specs.Faults.{fault}
 use Rattle.spec_scanner.specs.Labels.{Read}

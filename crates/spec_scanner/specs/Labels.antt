@@ -1,5 +1,5 @@
 -- The pieces of stage texts from the left, with the labels that are defined further left.
-use Rattle.std.specs.Prelude.{ℕ, suc, ◌+◌, Bool, true, false, if◌then◌else◌, List, [], ◌∷◌, ◌++◌, length, take, drop, slice_get, slice_set, is_some}
+use Rattle.std.specs.Prelude.{ℕ, suc, if◌then◌else◌, List, [], ◌∷◌, ◌++◌, length, take, drop, slice_get, slice_set}
 use Rattle.std.specs.Str.{bytes_eq}
 use Rattle.std.specs.List.{position}
 use Rattle.std.specs.Option.{option_map_or}
@@ -8,10 +8,10 @@ use Rattle.std.specs.declared.option.Option.TheVariants.{Some, None}
 use Rattle.spec_scanner.specs.declared.fault.Fault.{Fault}
 use Rattle.spec_scanner.specs.declared.item.Item.{Item}
 use Rattle.spec_scanner.specs.declared.piece.Piece.{Piece}
-use Rattle.spec_scanner.specs.declared.piece.PieceKind.TheVariants.{Stage, Reference, Connector}
+use Rattle.spec_scanner.specs.declared.piece.PieceKind.TheVariants.{Stage}
 use Rattle.spec_scanner.specs.Faults.{fault}
 use Rattle.spec_scanner.specs.Pieces.{bytes_of, colon_of, end_of, is_good_label, named_piece, place_of, plain_piece, reference_piece}
-use Rattle.spec_scanner.specs.Stretches.{Stretch, cut, is_end, is_ignored, is_separator, trimmed, without_front}
+use Rattle.spec_scanner.specs.Stretches.{Stretch, cut, is_ignored, is_separator, trimmed, without_front}
 
 -- a label that is defined, and how many later uses it has so far
 pub record Label : Type 0 where

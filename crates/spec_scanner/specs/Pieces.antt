@@ -1,16 +1,16 @@
 -- A stage's text as a label, a name and an argument.
-use Rattle.std.specs.Prelude.{ℕ, ◌+◌, ◌-◌, ◌<◌, ◌==◌, ◌&&◌, ◌||◌, Bool, true, false, not, if◌then◌else◌, List, [], ◌∷◌, ◌++◌, length, map, take, drop, get_or, slice_get, option_map, nat_lt}
+use Rattle.std.specs.Prelude.{ℕ, ◌+◌, ◌==◌, ◌&&◌, Bool, false, not, if◌then◌else◌, List, [], length, map, drop, slice_get, option_map, nat_lt}
 use Rattle.std.specs.Char.{is_ascii_alphanumeric}
 use Rattle.std.specs.List.{list_all, last_or, position, prefix_len, take_while}
 use Rattle.std.specs.Option.{option_map_or}
 use Rattle.std.specs.declared.option.Option.{Option}
-use Rattle.std.specs.declared.option.Option.TheVariants.{Some, None}
+use Rattle.std.specs.declared.option.Option.TheVariants.{None}
 use Rattle.stage_syntax.specs.Arg.{ArgText}
 use Rattle.spec_scanner.specs.declared.item.Item.{Item}
 use Rattle.spec_scanner.specs.declared.piece.Piece.{Piece}
 use Rattle.spec_scanner.specs.declared.piece.PieceKind.{PieceKind}
 use Rattle.spec_scanner.specs.declared.piece.PieceKind.TheVariants.{Stage, Reference, Connector}
-use Rattle.spec_scanner.specs.Stretches.{is_plain, without_front}
+use Rattle.spec_scanner.specs.Stretches.{is_plain}
 
 -- a blank, escaped or not
 abbrev pub is_blank : Item → Bool

@@ -16,12 +16,6 @@ pub record IsConsole (part : List ℕ) : Type 0 where
   pub names : str_to_ascii_lowercase name ≡ codes "console"
   pub spells : part ≡ blanks before ++ (name ++ blanks after)
 
--- the operand is the string between two slashes; the string isn't empty and has no slash
-pub record IsDelimited (operand string : List ℕ) : Type 0 where
-  pub filled : 0 < length string
-  pub whole : ¬ Contains string 47
-  pub spells : operand ≡ 47 ∷ string ++ (47 ∷ [])
-
 -- the part is `locate`, in any case, one or more blanks and the string between two slashes, between any number of blanks;
 -- the string isn't empty and has no slash
 pub record IsLocate (part string : List ℕ) : Type 0 where

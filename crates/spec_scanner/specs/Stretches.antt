@@ -3,7 +3,7 @@ use Rattle.std.specs.Prelude.{ℕ, ◌-◌, ◌==◌, ◌&&◌, Bool, true, fals
 use Rattle.std.specs.List.{list_all, prefix_len, suffix_len}
 use Rattle.spec_scanner.specs.declared.item.Item.{Item}
 use Rattle.spec_scanner.specs.declared.item.Reading.{Reading}
-use Rattle.spec_scanner.specs.declared.item.Reading.TheVariants.{Plain, Literal, Separator, End}
+use Rattle.spec_scanner.specs.declared.item.Reading.TheVariants.{Plain, Separator, End}
 
 abbrev pub is_end : Item → Bool
 is_end item = ends item.reading where
