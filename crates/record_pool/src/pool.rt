@@ -6,6 +6,7 @@ ghost use Rattle.record_pool.specs.Kept.{IsKept};
 use pipe_model::{NoMemory, Rec};
 use std::alloc::Global;
 use std::marker::Model;
+use std::mem;
 
 /// One hold on a record, seen as the number of the record's place. It is used only with the pool that made it, and
 /// is given back to it.
@@ -75,14 +76,25 @@ impl Pool {
         ensures put { IfOk result (λ grip. self.new ≡ with_record self.old grip (Some (fresh bytes.now))) }
         ensures err { OnErr result (self.new ≡ self.old) }
     {
-        let Some(blocks) = self.blocks.checked_add(count_blocks(bytes.len())) else {
+        let mut rec = Rec::from_slice(self.alloc, bytes)?;
+        self.take_in(&mut rec)
+    }
+
+    /// Takes a record into the pool, at a place that was empty, and doesn't copy it: an empty one is left for it, after
+    /// want of memory too. It wants memory too where the count of blocks would pass 64 bits.
+    pub fn take_in(&mut self, rec: &mut Rec) -> Result<Grip, NoMemory>
+        ensures vacant { IfOk result (λ grip. record_at self.old grip ≡ None) }
+        ensures held { IfOk result (λ grip. record_at self.new grip ≡ Some (fresh rec.old)) }
+        ensures others { IfOk result (λ grip. OthersStay self.old self.new grip) }
+        ensures put { IfOk result (λ grip. self.new ≡ with_record self.old grip (Some (fresh rec.old))) }
+        ensures err { OnErr result (self.new ≡ self.old) }
+        ensures left { rec.new ≡ [] }
+    {
+        let bytes = mem::replace(rec, Rec::from_vec(Vec::new(self.alloc)));
+        let Some(blocks) = self.blocks.checked_add(count_blocks(bytes.bytes().len())) else {
             return Err(NoMemory);
         };
-        let held = Held {
-            bytes: Rec::from_slice(self.alloc, bytes)?,
-            holders: 1,
-        };
-        let place = fill(&mut self.places, &mut self.free, held)?;
+        let place = fill(&mut self.places, &mut self.free, Held { bytes, holders: 1 })?;
         self.blocks = blocks;
         Ok(Grip { place })
     }

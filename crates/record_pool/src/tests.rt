@@ -1,4 +1,5 @@
 use crate::Pool;
+use pipe_model::Rec;
 use std::test::Fail;
 
 // The blocks in use after a record was put, shared, given once and given again.
@@ -27,14 +28,15 @@ fn counts_holders_and_blocks(rt: HostRuntime) -> Result<(), Fail> {
     Ok(())
 }
 
-// Two records lie apart, and a place that was left is used again.
+// A record that is copied and one that is moved lie apart, and a place that was left is used again.
 #[test]
 fn keeps_the_bytes_of_each(rt: HostRuntime) -> Result<(), Fail> {
     let mut pool = Pool::new(rt.alloc());
     for (first, second) in [("one", "two"), ("", "other"), ("again", "")] {
         let mut room = Vec::with_capacity(rt.alloc(), second.len())?;
+        let mut moved = Rec::from_slice(rt.alloc(), second.as_bytes())?;
         let grip = pool.put(first.as_bytes())?;
-        let Ok(other) = pool.put(second.as_bytes()) else {
+        let Ok(other) = pool.take_in(&mut moved) else {
             pool.give(grip);
             return Err("no memory")?;
         };
@@ -45,6 +47,7 @@ fn keeps_the_bytes_of_each(rt: HostRuntime) -> Result<(), Fail> {
         pool.give(grip);
         assert_eq!(rt; pool.bytes_of(&other), second.as_bytes());
         pool.give(other);
+        assert!(rt; moved.bytes().is_empty());
     }
     Ok(())
 }

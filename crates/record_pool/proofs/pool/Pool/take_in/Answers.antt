@@ -5,18 +5,18 @@ use Rattle.record_pool.specs.Blocks.{blocks_of}
 use Rattle.record_pool.specs.Places.{record_at, fresh}
 use Rattle.record_pool.proofs.Places.{changed_here, others_stay}
 use Rattle.record_pool.proofs.Keeps.{blocks_put}
-use Rattle.record_pool.proofs.pool.Pool.put.Goals as goal
+use Rattle.record_pool.proofs.pool.Pool.take_in.Goals as goal
 
 pub invariant_of-self-2 : goal.invariant_of-self-2
 invariant_of-self-2 c =
     let put = blocks_put _ _ _ _ c.in_ok-place.ensures.vacant c.in_ok-place.ensures.put in (
       c.in_ok-place.ensures.kept,
-      omega (arith, put, c.in-Some.ensures, c.count_blocks.ensures, c.self.invariant.1, ap (λ (bytes : List ℕ). blocks_of (length bytes)) c.in_ok-from_slice.ensures),
+      omega (arith, put, c.in-Some.ensures, c.count_blocks.ensures, c.self.invariant.1, ap (λ (bytes : List ℕ). blocks_of (length bytes)) c.bytes-2.ensures),
     )
 
 pub returns-clause-held : goal.returns-clause-held
 returns-clause-held c =
-    changed_here _ _ _ _ c.in_ok-place.ensures.put ∙ ap (λ (bytes : List ℕ). Some (fresh bytes)) c.in_ok-from_slice.ensures
+    changed_here _ _ _ _ c.in_ok-place.ensures.put ∙ ap (λ (bytes : List ℕ). Some (fresh bytes)) c.replace-bytes.ensures.value
 
 pub returns-clause-others : goal.returns-clause-others
 returns-clause-others c =
