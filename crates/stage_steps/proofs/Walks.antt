@@ -6,6 +6,7 @@ use Rattle.std.specs.Ordering.{int_eq}
 use Rattle.std.proofs.lemmas.Bool.Decides.{nat_tests, Decides-int_eq}
 use Rattle.pipe_model.specs.declared.net.Strand.{Strand}
 use Rattle.pipe_model.specs.declared.step.Seen.{Seen}
+use Rattle.pipe_model.specs.declared.step.Seen.TheVariants.{Saw as Sees}
 use Rattle.pipe_model.specs.declared.step.Want.{Want as Asked}
 use Rattle.pipe_model.specs.declared.step.Want.TheVariants as Ask
 use Rattle.pipe_model.specs.Event.{Event, Want, answers, has_ended, last_seen_on, taken_from}
@@ -27,7 +28,7 @@ use Rattle.stage_steps.specs.Kept.{kept_after}
 use Rattle.stage_steps.specs.Outputs.{open_after, open_from, live, none_left}
 use Rattle.stage_steps.specs.Place.{place_after}
 use Rattle.stage_steps.specs.Walk.{each_row, gives_up, meant, rest_of, PlaceIs, AsksFrom}
-use Rattle.stage_steps.specs.Through.{Gives, GivesAt, AllIs, KeptIs, past_of, ThroughIs}
+use Rattle.stage_steps.specs.Through.{Gives, AllIs, KeptIs, past_of, ThroughIs}
 use Rattle.stage_steps.proofs.Flags.{closed_open, flag_open, refused_is}
 
 pub same_number : (a b : ℕ) → (a == b) ≡ true → a ≡ b
@@ -89,6 +90,11 @@ rest_refused outputs refused q sight left =
     ∙ ap (λ l. writes (map (meant sight) l) ++ Takes 0 ∷ []) (live_twice (open_from 0 outputs refused) (open_from 0 outputs (q ∷ refused)) (fewer_open outputs refused q) left)
 
 -- One event
+
+-- where the event is the sight of a record its pairs are given, and else nothing changes
+abbrev pub GivesAt : {L : Type 0} → (L → (List RowPair → List RowPair) → List RowPair → Type 0) → Bool → L → L → Seen → List ℕ → List Pair → List Pair → Type 0
+GivesAt gives looks x y (Sees i) bytes left left' = Gives gives looks x y bytes left'
+GivesAt gives looks x y _ bytes left left' = (y ≡ x) × (left' ≡ left)
 
 -- the event is one that a walk is told in this place
 abbrev pub takes : Place → Event → Bool
@@ -377,30 +383,30 @@ module _ {L : Type 0} (gives : L → (List RowPair → List RowPair) → List Ro
       wants_it y (place_after place (told e) Looking (gives_up (told e) (is_none kept) connected (open_after (told e) flags))) place' left' left'' connected (open_after (told e) flags) (option_map (kept_after (told e) bytes) kept) asked s (e ∷ h)
       (goes x y place bytes left left' connected flags kept s h e is answer came given) asks (going s h e answer).0
 
-  module _ (x y : L) (seen : Seen) (bytes : List ℕ) (place place1 place2 : Place) (left left0 left1 left2 : List Pair) (connected connected1 connected2 : Bool) (flags flags1 flags2 : List Bool)
-      (kept kept1 : Option KeptText) (yields : Bool) (asked : Asked) (s : Strand) (h : List Event) (e : Event)
+  -- an event that isn't the sight of a record gives no pairs
+  pub none_given : (x : L) (seen : Seen) (bytes : List ℕ) (left : List Pair) → ((i : ℕ) → seen ≡ Sees i → ⊥) → GivesAt gives looks x x seen bytes left left
+  none_given x (Sees i) bytes left unseen = absurd (unseen i refl)
+  none_given x _ bytes left unseen = (refl, refl)
+
+  module _ (x y : L) (seen : Seen) (bytes : List ℕ) (place place' : Place) (left pairs left' : List Pair) (connected connected' : Bool) (flags flags' : List Bool)
+      (kept kept' : Option KeptText) (yields : Bool) (asked : Asked) (s : Strand) (h : List Event) (e : Event)
       (is : ThroughIs gives looks true x place left connected flags kept s h) (answer : answers (next s h) e ≡ true) (seen_is : told e ≡ seen) (came : bytes_with looks e ≡ bytes)
-      (given : GivesAt gives looks x y seen bytes left left0)
-      (left_is : left1 ≡ left0) (yields_is : yields ≡ is_none kept) (connected_is : connected1 ≡ connected) (flags_are : flags1 ≡ open_after seen flags)
-      (place_is : place1 ≡ place_after place seen Looking (gives_up seen yields connected1 flags1)) (kept_is : kept1 ≡ option_map (kept_after seen bytes) kept)
-      (connected_stays : connected2 ≡ connected1) (flags_stay : flags2 ≡ flags1) (asks : AsksFrom place1 flags1 left1 place2 left2 asked) where
+      (given : GivesAt gives looks x y seen bytes left pairs) (yields_is : yields ≡ is_none kept) (kept_is : kept' ≡ option_map (kept_after seen bytes) kept)
+      (connected_is : connected' ≡ connected) (flags_are : flags' ≡ open_after seen flags)
+      (asks : AsksFrom (place_after place seen Looking (gives_up seen yields connected (open_after seen flags))) (open_after seen flags) pairs place' left' asked) where
     -- the driver's one step, from what its parts do
-    pub steps : ThroughIs gives looks true y place2 left2 connected2 flags2 kept1 s (e ∷ h) × (Some (meaning asked (last_seen (e ∷ h))) ≡ owed s (e ∷ h))
+    pub steps : ThroughIs gives looks true y place' left' connected' flags' kept' s (e ∷ h) × (Some (meaning asked (last_seen (e ∷ h))) ≡ owed s (e ∷ h))
     steps =
-        let now : flags1 ≡ open_after (told e) flags = flags_are ∙ ap (λ z. open_after z flags) (sym seen_is) in
-        let at : place1 ≡ place_after place (told e) Looking (gives_up (told e) (is_none kept) connected (open_after (told e) flags)) =
-        place_is ∙ ap (λ z. place_after place z Looking (gives_up z yields connected1 flags1)) (sym seen_is)
-        ∙ ap (λ z. place_after place (told e) Looking (gives_up (told e) z connected1 flags1)) yields_is
-        ∙ ap (λ z. place_after place (told e) Looking (gives_up (told e) (is_none kept) z flags1)) connected_is
-        ∙ ap (λ z. place_after place (told e) Looking (gives_up (told e) (is_none kept) connected z)) now in
-        let wants : AsksFrom (place_after place (told e) Looking (gives_up (told e) (is_none kept) connected (open_after (told e) flags))) (open_after (told e) flags) left0 place2 left2 asked =
-        subst (λ z. AsksFrom z (open_after (told e) flags) left0 place2 left2 asked) at (subst (λ z. AsksFrom place1 z left0 place2 left2 asked) now (subst (λ z. AsksFrom place1 flags1 z place2 left2 asked) left_is asks)) in
-        let gave : GivesAt gives looks x y (told e) bytes left left0 = subst (λ z. GivesAt gives looks x y z bytes left left0) (sym seen_is) given in
-        let holds : kept1 ≡ option_map (kept_after (told e) bytes) kept = kept_is ∙ ap (λ z. option_map (kept_after z bytes) kept) (sym seen_is) in
-        let new = asks_it y (place_after place (told e) Looking (gives_up (told e) (is_none kept) connected (open_after (told e) flags))) place2 left0 left2 connected (open_after (told e) flags)
-        (option_map (kept_after (told e) bytes) kept) asked s (e ∷ h) (goes x y place bytes left left0 connected flags kept s h e is answer came gave) wants in (
-          subst (λ z. ThroughIs gives looks true y place2 left2 z flags2 kept1 s (e ∷ h)) (sym (connected_stays ∙ connected_is))
-              (subst (λ z. ThroughIs gives looks true y place2 left2 connected z kept1 s (e ∷ h)) (sym (flags_stay ∙ now))
-              (subst (λ z. ThroughIs gives looks true y place2 left2 connected (open_after (told e) flags) z s (e ∷ h)) (sym holds) new)),
-          owes x y place place2 bytes left left0 left2 connected flags kept asked s h e is answer came gave wants,
+        let wants : AsksFrom (place_after place (told e) Looking (gives_up (told e) (is_none kept) connected (open_after (told e) flags))) (open_after (told e) flags) pairs place' left' asked =
+        subst (λ z. AsksFrom (place_after place (told e) Looking (gives_up (told e) z connected (open_after (told e) flags))) (open_after (told e) flags) pairs place' left' asked) yields_is
+        (subst (λ z. AsksFrom (place_after place z Looking (gives_up z yields connected (open_after z flags))) (open_after z flags) pairs place' left' asked) (sym seen_is) asks) in
+        let gave : GivesAt gives looks x y (told e) bytes left pairs = subst (λ z. GivesAt gives looks x y z bytes left pairs) (sym seen_is) given in
+        let holds : kept' ≡ option_map (kept_after (told e) bytes) kept = kept_is ∙ ap (λ z. option_map (kept_after z bytes) kept) (sym seen_is) in
+        let now : flags' ≡ open_after (told e) flags = flags_are ∙ ap (λ z. open_after z flags) (sym seen_is) in
+        let new = asks_it y (place_after place (told e) Looking (gives_up (told e) (is_none kept) connected (open_after (told e) flags))) place' pairs left' connected (open_after (told e) flags)
+        (option_map (kept_after (told e) bytes) kept) asked s (e ∷ h) (goes x y place bytes left pairs connected flags kept s h e is answer came gave) wants in (
+          subst (λ z. ThroughIs gives looks true y place' left' z flags' kept' s (e ∷ h)) (sym connected_is)
+              (subst (λ z. ThroughIs gives looks true y place' left' connected z kept' s (e ∷ h)) (sym now)
+              (subst (λ z. ThroughIs gives looks true y place' left' connected (open_after (told e) flags) z s (e ∷ h)) (sym holds) new)),
+          owes x y place place' bytes left pairs left' connected flags kept asked s h e is answer came gave wants,
         )

@@ -4,8 +4,6 @@ use Rattle.std.specs.List.{list_any}
 use Rattle.std.specs.declared.option.Option.{Option}
 use Rattle.std.specs.declared.option.Option.TheVariants.{Some, None}
 use Rattle.pipe_model.specs.declared.net.Strand.{Strand}
-use Rattle.pipe_model.specs.declared.step.Seen.{Seen}
-use Rattle.pipe_model.specs.declared.step.Seen.TheVariants.{Saw}
 use Rattle.pipe_model.specs.Event.{Event, has_ended, last_seen_on, taken_from}
 use Rattle.pipe_model.specs.Event.Event.{Saw as Sees}
 use Rattle.pipe_model.specs.Row.{Pair as RowPair}
@@ -25,11 +23,6 @@ abbrev pub Gives : {L : Type 0} → (L → (List RowPair → List RowPair) → L
 Gives gives looks x y bytes pairs = (outs : List RowPair → List RowPair) (seen : List RowPair) (rec : List ℕ) (h : List Event) →
     gives x outs seen → bytes_with looks (Sees 0 rec) ≡ bytes →
     gives y outs (seen ++ (0, rec) ∷ []) × (map (meant (last_seen (Sees 0 rec ∷ h))) pairs ≡ outs (seen ++ (0, rec) ∷ []))
-
--- the same where the event is the sight of a record, and else nothing changes
-abbrev pub GivesAt : {L : Type 0} → (L → (List RowPair → List RowPair) → List RowPair → Type 0) → Bool → L → L → Seen → List ℕ → List Pair → List Pair → Type 0
-GivesAt gives looks x y (Saw i) bytes left left' = Gives gives looks x y bytes left'
-GivesAt gives looks x y _ bytes left left' = (y ≡ x) × (left' ≡ left)
 
 -- all text that is kept: that of the records taken, and while one is at hand that record too
 abbrev pub AllIs : Place → List ℕ → List Event → Type 0

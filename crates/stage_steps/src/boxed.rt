@@ -5,9 +5,6 @@ use std::alloc::Global;
 /// A stage in a box is the stage. A coroutine that goes out with a job is moved, and a box is moved at the cost of a
 /// pointer.
 impl<T: Stage> Stage for Box<T> {
-    ghost use Rattle.std.specs.Prelude.{◌≡◌, IfOk};
-    ghost use Rattle.stage_steps.specs.Coroutine.{Resumes};
-
     ghost stands = { λ x s h. T.stands x.value s h };
 
     ghost is_looking = { λ x. T.is_looking x.value };

@@ -34,26 +34,20 @@ impl Kept {
         }
     }
 
-    // Adds a record that is seen, and counts it as taken when it is.
-    fn note(&mut self, seen: Seen, bytes: &[u8]) -> Result<(), NoMemory>
-        ensures { IfOk result (λ _. self.new ≡ kept_after seen bytes.now self.old) }
-    {
-        match seen {
-            Seen::Saw(_) => self.add(bytes),
-            Seen::Took(_) => {
-                self.taken = self.bytes.len();
-                Ok(())
-            }
-            _ => Ok(()),
-        }
-    }
-
+    // Adds a record that is seen.
     fn add(&mut self, bytes: &[u8]) -> Result<(), NoMemory>
         ensures { IfOk result (λ _. self.new ≡ kept_after (Seen.Saw 0) bytes.now self.old) }
     {
         self.bytes.extend_from_slice(bytes)?;
         self.bytes.push(b'\n')?;
         Ok(())
+    }
+
+    // Counts all records that were seen as taken.
+    fn take_all(&mut self)
+        ensures { self.new ≡ kept_after (Seen.Took 0) [] self.old }
+    {
+        self.taken = self.bytes.len();
     }
 
     // The text of the records that were taken.
@@ -65,11 +59,21 @@ impl Kept {
 }
 
 // What is kept after an event, where something is.
+#[inline(always)]
 pub(crate) fn note_kept(kept: &mut Option<Kept>, seen: Seen, bytes: &[u8]) -> Result<(), NoMemory>
     ensures { IfOk result (λ _. kept.new ≡ option_map (kept_after seen bytes.now) kept.old) }
 {
-    match kept {
-        Some(kept) => kept.note(seen, bytes),
-        None => Ok(()),
+    match seen {
+        Seen::Saw(_) => match kept {
+            Some(kept) => kept.add(bytes),
+            None => Ok(()),
+        },
+        Seen::Took(_) => {
+            if let Some(kept) = kept {
+                kept.take_all();
+            }
+            Ok(())
+        }
+        _ => Ok(()),
     }
 }

@@ -1,4 +1,4 @@
-ghost use Rattle.std.specs.Prelude.{◌≡◌, ◌++◌, ◌∷◌, [], IfOk, OnOk, MatchOption};
+ghost use Rattle.std.specs.Prelude.{◌≡◌, ◌==◌, ◌++◌, ◌∷◌, [], length, IfOk, OnOk, MatchOption};
 ghost use Rattle.std.specs.List.{list_any};
 ghost use Rattle.stage_steps.specs.Outputs.{live};
 
@@ -6,6 +6,7 @@ use pipe_model::{NoMemory, Out, Seen};
 use std::alloc::Global;
 use std::collections::VecDeque;
 use std::marker::Model;
+use std::mem;
 
 /// A record to write, and the output to write it on.
 #[derive(Drop)]
@@ -17,19 +18,21 @@ pub struct Pair {
 /// Pairs in order, seen as a list.
 #[derive(Drop)]
 pub struct Pairs {
-    // the first pair, if there was none when it came
+    // the first pair, where there is one
     first: Option<Pair>,
     rest: VecDeque<Pair>,
 }
 
 impl Model for Pairs {
-    ghost use Rattle.std.specs.Prelude.{List};
+    ghost use Rattle.std.specs.Prelude.{◌≡◌, List, [], None};
     ghost use Rattle.stage_steps.specs.declared.outputs.Pair.{Pair};
     ghost use Rattle.stage_steps.specs.Outputs.{joined};
 
     ghost Value = { List Pair };
 
     ghost view = { λ pairs. joined pairs.first pairs.rest.items };
+
+    ghost invariant = { λ pairs. pairs.first ≡ None → pairs.rest.items ≡ [] };
 }
 
 impl Pairs {
@@ -48,19 +51,20 @@ impl Pairs {
     pub fn push(&mut self, pair: Pair) -> Result<(), NoMemory>
         ensures { OnOk result (self.new ≡ self.old ++ pair ∷ []) }
     {
-        if self.first.is_none() && self.rest.is_empty() {
+        if self.first.is_none() {
             self.first = Some(pair);
             return Ok(());
         }
-        self.push_behind(pair)
+        let none = VecDeque::new(*self.rest.allocator());
+        self.rest = push_behind(mem::replace(&mut self.rest, none), pair)?;
+        Ok(())
     }
 
-    #[inline(never)]
-    fn push_behind(&mut self, pair: Pair) -> Result<(), NoMemory>
-        ensures { OnOk result (self.new ≡ self.old ++ pair ∷ []) }
+    // Whether there is no pair.
+    pub(crate) fn is_empty(&self) -> bool
+        ensures { result ≡ (length self.now == 0) }
     {
-        self.rest.push_back(pair)?;
-        Ok(())
+        self.first.is_none()
     }
 
     // Takes the first pair.
@@ -68,10 +72,8 @@ impl Pairs {
     fn pop(&mut self) -> Option<Pair>
         ensures { MatchOption result ((self.old ≡ []) × (self.new ≡ [])) (λ p. self.old ≡ p ∷ self.new) }
     {
-        if self.first.is_none() {
-            return self.rest.pop_front();
-        }
-        self.first.take()
+        let next = self.rest.pop_front();
+        mem::replace(&mut self.first, next)
     }
 
     // Drops all pairs.
@@ -81,9 +83,19 @@ impl Pairs {
     {
         if self.first.is_some() {
             self.first = None;
+            self.rest.clear();
         }
-        self.rest.clear();
     }
+}
+
+// The pairs with one more at the end. They are handed over and back, so that pairs of which no address is taken can stay
+// out of memory.
+#[inline(never)]
+fn push_behind(mut rest: VecDeque<Pair>, pair: Pair) -> Result<VecDeque<Pair>, NoMemory>
+    ensures { IfOk result (λ longer. longer.items ≡ rest.items ++ pair ∷ []) }
+{
+    rest.push_back(pair)?;
+    Ok(rest)
 }
 
 // Takes the first pair whose output is open from the front of the pairs, with those before it.

@@ -1,4 +1,4 @@
-ghost use Rattle.std.specs.Prelude.{◌≡◌, ◌==◌, ◌+◌, ◌-◌, ◌≤◌, ◌<◌, Option, ℕ, List, drop, take, length, not};
+ghost use Rattle.std.specs.Prelude.{◌≡◌, ◌==◌, ◌+◌, ◌-◌, ◌<◌, Option, ℕ, List, drop, take, not};
 ghost use Rattle.std.specs.List.{slice_split, join_with_byte, position, position_or_len};
 ghost use Rattle.pipe_model.specs.Ranges.{between, cut_by, words_from, words_spanned};
 ghost use Rattle.pipe_model.specs.declared.kind.Span.TheVariants.{Words, Fields};

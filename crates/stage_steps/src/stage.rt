@@ -1,4 +1,4 @@
-ghost use Rattle.std.specs.Prelude.{◌≡◌, ℕ, List, [], Bool, IfOk, Some};
+ghost use Rattle.std.specs.Prelude.{◌≡◌, List, [], Bool, IfOk, Some};
 ghost use Rattle.pipe_model.specs.declared.net.Strand.{Strand};
 ghost use Rattle.pipe_model.specs.Event.{Event};
 ghost use Rattle.pipe_model.specs.Next.{next};

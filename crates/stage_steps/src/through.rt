@@ -1,6 +1,3 @@
-ghost use Rattle.std.specs.Prelude.{◌≡◌, IfOk};
-ghost use Rattle.stage_steps.specs.Through.{GivesAt};
-
 use crate::kept::{Kept, note_kept};
 use crate::lists::Lists;
 use crate::outputs::{Outputs, Pairs};
@@ -51,26 +48,6 @@ impl<L: Lists> Through<L> {
     }
 }
 
-// Fills the pairs that are left with those of a record that is seen.
-fn give<L: Lists>(
-    lists: &mut L,
-    alloc: Global,
-    seen: Seen,
-    bytes: &[u8],
-    left: &mut Pairs,
-) -> Result<(), NoMemory>
-    ensures looks_same { L.is_looking lists.new ≡ L.is_looking lists.old }
-    ensures gives { IfOk result (λ _. GivesAt L.gives (L.is_looking lists.old) lists.old lists.new seen bytes.now left.old left.new) }
-{
-    match seen {
-        Seen::Saw(_) => {
-            left.clear();
-            lists.outs(alloc, bytes, left)
-        }
-        _ => Ok(()),
-    }
-}
-
 impl<L: Lists> Stage for Through<L> {
     ghost use Rattle.stage_steps.specs.Coroutine.{Resumes};
     ghost use Rattle.std.specs.Prelude.{◌≡◌, IfOk, true};
@@ -89,10 +66,19 @@ impl<L: Lists> Stage for Through<L> {
         ensures looks_same { L.is_looking self.new.lists ≡ L.is_looking self.old.lists }
         ensures resumes { IfOk result (λ asked. Resumes (λ x s h. ThroughIs L.gives (L.is_looking x.lists) true x.lists x.walk.place x.walk.left x.walk.outputs.connected x.walk.outputs.flags.items x.kept s h) (L.is_looking self.old.lists) self.old self.new seen bytes.now asked) }
     {
-        give(&mut self.lists, alloc, seen, bytes, &mut self.walk.left)?;
         let yields = self.kept.is_none();
-        note_kept(&mut self.kept, seen, bytes)?;
-        Ok(self.walk.answer(seen, yields))
+        match seen {
+            Seen::Saw(_) => {
+                note_kept(&mut self.kept, seen, bytes)?;
+                let mut pairs = Pairs::new(alloc);
+                self.lists.outs(alloc, bytes, &mut pairs)?;
+                Ok(self.walk.look(pairs))
+            }
+            _ => {
+                note_kept(&mut self.kept, seen, bytes)?;
+                Ok(self.walk.answer(seen, yields))
+            }
+        }
     }
 
     fn looks(&self) -> bool {

@@ -1,4 +1,3 @@
-ghost use Rattle.std.specs.Prelude.{◌≡◌, IfOk};
 ghost use Rattle.stage_steps.specs.First.{IsFirstKind};
 
 use crate::first::FirstStage;
