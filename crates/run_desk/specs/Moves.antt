@@ -234,6 +234,15 @@ abbrev pub CanCome : DeskState → List (Option Held) → ℕ → Want → Type 
 CanCome d places s (want.Write o out) = CanAsk d s (Write o) × CanHold d places s out
 CanCome d places s w = CanAsk d s (ask_for w)
 
+-- what is written, and the want, where a new record has been moved out of it
+abbrev pub bare_out : Out → Out
+bare_out (Fresh bytes) = Fresh []
+bare_out out = out
+
+abbrev pub bare : Want → Want
+bare (want.Write o out) = want.Write o (bare_out out)
+bare w = w
+
 -- the desk and the pool after the strand came home with this want
 abbrev pub HasCome : DeskState → List (Option Held) → ℕ → Want → DeskState → List (Option Held) → Type 0
 HasCome d places s (want.Write o out) new after = (grip : ℕ) × IsHold d places s out grip after × (new ≡ home_writing d s o grip)

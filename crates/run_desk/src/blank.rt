@@ -1,5 +1,5 @@
 //! The desk of a net before the first step.
-ghost use Rattle.std.specs.Prelude.{◌≡◌, ◌<◌, ◌≤◌, ◌++◌, ◌∷◌, [], ℕ, false, length, replicate, slice_get, Some, None, IfOk};
+ghost use Rattle.std.specs.Prelude.{◌≡◌, ◌<◌, ◌≤◌, [], ℕ, false, length, replicate, slice_get, Some, None, IfOk};
 ghost use Rattle.pipe_model.specs.declared.net.Link.{Link};
 ghost use Rattle.pipe_model.specs.State.{nothing_yet};
 ghost use Rattle.pipe_model.specs.WellFormed.{IsWellFormed};

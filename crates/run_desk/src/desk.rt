@@ -1,6 +1,6 @@
 ghost use Rattle.std.specs.Prelude.{◌≡◌, ◌<◌, ◌&&◌, ◌||◌, ◌==◌, length, slice_get, true, Some, is_some, ℕ, IfOk, OnErr};
 ghost use Rattle.run_desk.specs.declared.seat.Ask.TheVariants as Now;
-ghost use Rattle.run_desk.specs.Moves.{made, moved, pool_moved, CanMove, closed, ended, CanForget, pool_without, home, home_writing, unit_home, CanAsk, CanHold, IsHold, CanCome, HasCome};
+ghost use Rattle.run_desk.specs.Moves.{made, moved, pool_moved, CanMove, closed, ended, CanForget, pool_without, home, home_writing, unit_home, CanAsk, CanHold, IsHold, CanCome, HasCome, bare, bare_out};
 ghost use Rattle.commit_levels.specs.UnitState.{IsLive};
 ghost use Rattle.run_desk.specs.Pure as Pure;
 
@@ -118,11 +118,18 @@ impl Desk {
     }
 
     /// A strand comes home with what it wants next. Where it writes, it offers the record that it saw last on an
-    /// input, which is empty where it saw none, or new bytes. Out of memory leaves all as it was.
+    /// input, which is empty where it saw none, or the new one, which is moved out of the want. Out of memory leaves the
+    /// desk and the pool as they were.
     #[inline(always)]
-    pub fn come_home(&mut self, pool: &mut Pool, strand: u32, want: &Want) -> Result<(), NoMemory>
-        requires { CanCome self.old pool.old strand want.now }
-        ensures home { IfOk result (λ done. HasCome self.old pool.old strand want.now self.new pool.new) }
+    pub fn come_home(
+        &mut self,
+        pool: &mut Pool,
+        strand: u32,
+        want: &mut Want,
+    ) -> Result<(), NoMemory>
+        requires { CanCome self.old pool.old strand want.old }
+        ensures home { IfOk result (λ done. HasCome self.old pool.old strand want.old self.new pool.new) }
+        ensures bare { want.new ≡ bare want.old }
         ensures err { OnErr result (self.new ≡ self.old) }
         ensures err_pool { OnErr result (pool.new ≡ pool.old) }
     {
@@ -153,10 +160,11 @@ impl Desk {
 
     // One that writes a record on an output.
     #[inline(always)]
-    fn write(&mut self, pool: &mut Pool, strand: u32, o: u16, out: &Out) -> Result<(), NoMemory>
+    fn write(&mut self, pool: &mut Pool, strand: u32, o: u16, out: &mut Out) -> Result<(), NoMemory>
         requires ask { CanAsk self.old strand (Now.Write o) }
-        requires hold { CanHold self.old pool.old strand out.now }
-        ensures ok { IfOk result (λ done. (grip : ℕ) × IsHold self.old pool.old strand out.now grip pool.new × (self.new ≡ home_writing self.old strand o grip)) }
+        requires hold { CanHold self.old pool.old strand out.old }
+        ensures ok { IfOk result (λ done. (grip : ℕ) × IsHold self.old pool.old strand out.old grip pool.new × (self.new ≡ home_writing self.old strand o grip)) }
+        ensures bare { out.new ≡ bare_out out.old }
         ensures err { OnErr result (self.new ≡ self.old) }
         ensures err_pool { OnErr result (pool.new ≡ pool.old) }
     {
@@ -164,20 +172,22 @@ impl Desk {
         self.write_at(pool, strand, o, out, door)
     }
 
-    /// A strand comes home to write, through the door of the output. Out of memory leaves all as it was.
+    /// A strand comes home to write, through the door of the output. A new record is moved out. Out of memory leaves the
+    /// desk and the pool as they were.
     #[inline(always)]
     pub fn write_at(
         &mut self,
         pool: &mut Pool,
         strand: u32,
         o: u16,
-        out: &Out,
+        out: &mut Out,
         door: Option<u32>,
     ) -> Result<(), NoMemory>
         requires door { door ≡ Pure.out_door self.old strand o }
         requires ask { CanAsk self.old strand (Now.Write o) }
-        requires hold { CanHold self.old pool.old strand out.now }
-        ensures ok { IfOk result (λ done. (grip : ℕ) × IsHold self.old pool.old strand out.now grip pool.new × (self.new ≡ home_writing self.old strand o grip)) }
+        requires hold { CanHold self.old pool.old strand out.old }
+        ensures ok { IfOk result (λ done. (grip : ℕ) × IsHold self.old pool.old strand out.old grip pool.new × (self.new ≡ home_writing self.old strand o grip)) }
+        ensures bare { out.new ≡ bare_out out.old }
         ensures err { OnErr result (self.new ≡ self.old) }
         ensures err_pool { OnErr result (pool.new ≡ pool.old) }
     {
@@ -194,15 +204,17 @@ impl Desk {
         self.can_put(door) || self.can_refuse(door)
     }
 
+    // A hold on what is to be written.
     #[inline(always)]
-    fn hold(&self, pool: &mut Pool, strand: u32, out: &Out) -> Result<Grip, NoMemory>
-        requires { CanHold self.now pool.old strand out.now }
-        ensures hold { IfOk result (λ grip. IsHold self.now pool.old strand out.now grip pool.new) }
+    fn hold(&self, pool: &mut Pool, strand: u32, out: &mut Out) -> Result<Grip, NoMemory>
+        requires { CanHold self.now pool.old strand out.old }
+        ensures hold { IfOk result (λ grip. IsHold self.now pool.old strand out.old grip pool.new) }
+        ensures bare { out.new ≡ bare_out out.old }
         ensures err { OnErr result (pool.new ≡ pool.old) }
     {
         match out {
             Out::Same(i) => hold_of(&self.sights, pool, self.in_door(strand, *i)),
-            Out::Fresh(rec) => pool.put(rec.bytes()),
+            Out::Fresh(rec) => pool.take_in(rec),
         }
     }
 

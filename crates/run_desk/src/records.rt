@@ -1,5 +1,5 @@
 //! What a desk tells of records, of the end of a strand, and what is given back at the end of a run.
-ghost use Rattle.std.specs.Prelude.{◌≡◌, ◌<◌, ◌↔◌, ℕ, true, [], length, slice_get, Some};
+ghost use Rattle.std.specs.Prelude.{◌≡◌, ◌<◌, [], length, slice_get, Some};
 ghost use Rattle.std.specs.Option.{option_map_or};
 ghost use Rattle.record_pool.specs.Places.{bytes_at};
 ghost use Rattle.record_pool.specs.Blocks.{blocks_in};
@@ -10,7 +10,7 @@ ghost use Rattle.run_desk.specs.Order.{IsPooled};
 ghost use Rattle.run_desk.specs.Pure as Pure;
 
 use crate::desk::Desk;
-use crate::seat::{Ask, Seat};
+use crate::seat::Ask;
 use connectors::Wire;
 use record_pool::{Grip, Pool};
 

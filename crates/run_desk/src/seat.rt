@@ -53,16 +53,23 @@ pub(crate) fn change_seat(seats: &mut Vec<Seat>, strand: u32, seen: Seen)
     ensures { seats.new.items ≡ changed seats.old.items (seat_after seen) (Some strand) }
 {
     if let Some(seat) = seats.get_mut(strand as usize) {
-        *seat = seat_after(seen, *seat);
+        seat.note(seen);
     }
 }
 
-fn seat_after(seen: Seen, seat: Seat) -> Seat
-    ensures { result ≡ seat_after seen seat }
-{
-    Seat {
-        ask: Ask::Nothing,
-        has_ended: seat.has_ended || matches!(seen, Seen::Ended(_)),
-        has_seen: seat.has_seen || matches!(seen, Seen::Saw(_)),
+impl Seat {
+    ghost use Rattle.std.specs.Prelude.{◌≡◌};
+    ghost use Rattle.run_desk.specs.Moves.{seat_after};
+
+    // The strand is told this, and asks for nothing.
+    fn note(&mut self, seen: Seen)
+        ensures { self.new ≡ seat_after seen self.old }
+    {
+        self.ask = Ask::Nothing;
+        match seen {
+            Seen::Saw(_) => self.has_seen = true,
+            Seen::Ended(_) => self.has_ended = true,
+            _ => {}
+        }
     }
 }

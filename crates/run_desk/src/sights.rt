@@ -9,6 +9,7 @@ use pipe_model::NoMemory;
 use record_pool::{Grip, Pool};
 
 // The record at hand behind a door is seen: a hold on it takes the place of the one on the record seen before.
+#[inline(always)]
 pub(crate) fn see_at(
     wires: &[Wire],
     sights: &mut Vec<Option<Grip>>,
@@ -73,6 +74,7 @@ fn forget_at(sights: &mut Vec<Option<Grip>>, pool: &mut Pool, door: Option<u32>)
 }
 
 // A hold on the record that is to be written: the one in sight, or an empty one where nothing was seen, or new bytes.
+#[inline(always)]
 pub(crate) fn hold_of(
     sights: &[Option<Grip>],
     pool: &mut Pool,

@@ -141,7 +141,7 @@ fn a_strand_goes_out_and_comes_home(rt: HostRuntime) -> Result<(), Fail> {
     let first = desk.seen_at(0, 0);
     desk.make(&mut pool, 0, Seen::SawEnd(0));
     let out = desk.seen_at(0, 0);
-    let came = desk.come_home(&mut pool, 0, &Want::Done(4));
+    let came = desk.come_home(&mut pool, 0, &mut Want::Done(4));
     let home = desk.seen_at(0, 0);
     let (wires, sights) = desk.into_holders();
     wires.destroy_empty();

@@ -1,5 +1,4 @@
-ghost use Rattle.std.specs.Prelude.{◌≡◌, ◌+◌, ◌-◌, ◌<◌, ◌^◌, ℕ, Some, None, IsSome, false};
-ghost use Rattle.record_pool.specs.Places.{IsHeld, holders_at};
+ghost use Rattle.std.specs.Prelude.{◌≡◌, ◌+◌, ◌-◌, ◌<◌, ◌^◌, Some, None, IsSome, false};
 ghost use Rattle.connectors.specs.WireState.{WireState, IsHeldIn, at_hand, taken, settled, cleared, offered, given_in};
 ghost use Rattle.run_desk.specs.Pure.{through};
 ghost use Rattle.run_desk.specs.Moves.{offers, changed, offer_on, out_shut, in_shut, all_changed};
