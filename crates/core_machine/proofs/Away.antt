@@ -27,7 +27,7 @@ pub get_end : {A : Type 0} (xs : List A) (x : A) → slice_get (xs ++ x ∷ []) 
 get_end [] x = refl
 get_end (y ∷ ys) x = get_end ys x
 
-neither : (a b : Bool) → (a || b) ≡ false → (a ≡ false) × (b ≡ false)
+pub neither : (a b : Bool) → (a || b) ≡ false → (a ≡ false) × (b ≡ false)
 neither true b z = cc
 neither false b z = (refl, z)
 

@@ -14,12 +14,12 @@ use Rattle.pipe_model.specs.Play.{play}
 use Rattle.record_pool.specs.declared.pool.Held.{Held}
 use Rattle.stage_steps.specs.Coroutine.{told, bytes_with, CanResume, Resumes}
 use Rattle.run_desk.specs.Desk.{DeskState}
-use Rattle.run_desk.specs.Moves.{made, pool_moved, sight_through, CanCome, ends}
+use Rattle.run_desk.specs.Moves.{made, pool_moved, sight_through, CanCome, bare, ends}
 use Rattle.run_desk.specs.Pure as Pure
 use Rattle.connectors.specs.WireState.{IsHeldIn}
 use Rattle.confluence_laws.proofs.Basics.{test_same, at_some}
 use Rattle.core_machine.specs.declared.actor.Actor.{Actor}
-use Rattle.core_machine.specs.Actors.{is_end, gone_out, gone_on, given_up, asking_for, bare, bytes_told}
+use Rattle.core_machine.specs.Actors.{is_end, gone_out, gone_on, given_up, asking_for, bytes_told}
 use Rattle.core_machine.specs.Jobs.{JobStands, DoneStands}
 use Rattle.core_machine.specs.Machine.{left_by, without, is_among, looks_at}
 use Rattle.core_machine.specs.Members.{Members}
@@ -124,6 +124,19 @@ module _ {S : Type 0} (stands : S → Strand → List Event → Type 0) (is_look
         subst (λ (x : Actor S). IsSound stands is_looking net budget longer (out ++ here ∷ []) (slice_set stayed s (given_up x)) d' places' ready') b_is
         (subst (λ (l : List (Actor S)). IsSound stands is_looking net budget longer (out ++ here ∷ []) l d' places' ready') (sym (set_set actors s on off)) lost)
 
+    -- what is kept of it where it asks for something else
+    pub asking : (b : Actor S) → slice_get stayed s ≡ Some b → (shown : Asked) → slice_set stayed s (asking_for shown b) ≡ slice_set actors s (gone_on seen next shown a)
+    asking b at shown =
+        let one : Some on ≡ Some b = sym (get_set_same actors s on a there) ∙ at in
+        let b_is : on ≡ b = cc in
+        subst (λ (x : Actor S). slice_set stayed s (asking_for shown x) ≡ slice_set actors s (gone_on seen next shown a)) b_is (set_set actors s on (gone_on seen next shown a))
+
+    pub asked_last : (b : Actor S) → slice_get stayed s ≡ Some b → asked ≡ b.asked
+    asked_last b at =
+        let one : Some on ≡ Some b = sym (get_set_same actors s on a there) ∙ at in
+        let b_is : on ≡ b = cc in
+        ap (λ (x : Actor S). x.asked) b_is
+
     module _ (alone : out ≡ []) (bytes : List ℕ) (bytes_are : bytes ≡ bytes_told (looks_at (looks_of actors) s) d' places' s seen) (same_look : is_looking next ≡ is_looking stage) (resumed : Resumes stands (is_looking stage) stage next seen bytes asked) where
       abbrev out' : List ℕ
       out' = out ++ here ∷ []
@@ -151,15 +164,13 @@ module _ {S : Type 0} (stands : S → Strand → List Event → Type 0) (is_look
       home_early = came_early stands is_looking net budget longer out' (slice_set actors s off) d' places' ready' lost s here next asked among done
 
       -- and its strand came home
-      pub went_home : (b : Actor S) → slice_get stayed s ≡ Some b → (d2 : DeskState) (places2 : List (Option Held)) (ready2 : Members) → HasReturned d' places' s asked d2 places2 → ready2.size ≡ ready'.size → IsCovering d2 ready2 →
-          IsSound stands is_looking net budget longer [] (slice_set stayed s (asking_for (bare b.asked) b)) d2 places2 ready2
-      went_home b at d2 places2 ready2 returned size2 covers2 =
-          let one : Some on ≡ Some b = sym (get_set_same actors s on a there) ∙ at in
-          let b_is : on ≡ b = cc in
-          let new : Actor S = asking_for (bare asked) on in
+      pub went_home : (shown : Asked) → (Pure.ended_at d' s ≡ false → shown ≡ bare asked) →
+          (d2 : DeskState) (places2 : List (Option Held)) (ready2 : Members) → HasReturned d' places' s asked d2 places2 → ready2.size ≡ ready'.size → IsCovering d2 ready2 →
+          IsSound stands is_looking net budget longer [] (slice_set actors s (gone_on seen next shown a)) d2 places2 ready2
+      went_home shown bared d2 places2 ready2 returned size2 covers2 =
+          let new : Actor S = gone_on seen next shown a in
           let home = sound_home stands is_looking net budget longer out' (slice_set actors s off) d' places' ready' lost s here next asked among done d2 places2 ready2 off (get_set_same actors s off a there)
-          (came stands is_looking net budget longer out' (slice_set actors s off) d' places' ready' lost s here next asked among done d2 places2 returned) size2 covers2 in
+          (came stands is_looking net budget longer out' (slice_set actors s off) d' places' ready' lost s here next asked among done d2 places2 returned) size2 covers2 shown bared in
           let none : without here out' ≡ [] = ap (without here) out_is ∙ none_without here in
-          subst (λ (x : Actor S). IsSound stands is_looking net budget longer [] (slice_set stayed s (asking_for (bare x.asked) x)) d2 places2 ready2) b_is
-          (subst (λ (l : List (Actor S)). IsSound stands is_looking net budget longer [] l d2 places2 ready2) (set_set actors s off new ∙ sym (set_set actors s on new))
-          (subst (λ o. IsSound stands is_looking net budget longer o (slice_set (slice_set actors s off) s new) d2 places2 ready2) none home))
+          subst (λ (l : List (Actor S)). IsSound stands is_looking net budget longer [] l d2 places2 ready2) (set_set actors s off new)
+          (subst (λ o. IsSound stands is_looking net budget longer o (slice_set (slice_set actors s off) s new) d2 places2 ready2) none home)

@@ -3,6 +3,7 @@ use Rattle.std.proofs.Common.{◌≡◌, ◌⊎◌, inl, ℕ, ◌<◌, Bool, tru
 use Rattle.std.specs.Option.{option_map}
 use Rattle.pipe_model.specs.declared.net.Net.{Net}
 use Rattle.pipe_model.specs.declared.net.Link.{Link}
+use Rattle.pipe_model.specs.declared.step.Out.{Out}
 use Rattle.pipe_model.specs.declared.step.Want.{Want}
 use Rattle.pipe_model.specs.declared.step.Want.TheVariants as want
 use Rattle.pipe_model.specs.State.{State}
@@ -82,6 +83,34 @@ more_readers d links s (want.Issue text) set more larger reader = reader
 more_readers d links s (want.Join unit) set more larger reader = reader
 more_readers d links s (want.Cut i) set more larger reader = reader
 more_readers d links s (want.Done code) set more larger reader = reader
+
+-- nobody reads what isn't written
+pub no_reader : (d : DeskState) (links : List Link) (s : ℕ) (w : Want) (set : Members) → ((o : ℕ) (out : Out) → w ≡ want.Write o out → ⊥) → IsReaderIn d links s w set
+no_reader d links s (want.Write o out) set other = absurd (other o out refl)
+no_reader d links s (want.Commit l) set other = tt
+no_reader d links s (want.Read i) set other = tt
+no_reader d links s want.Any set other = tt
+no_reader d links s want.Gate set other = tt
+no_reader d links s (want.Take i) set other = tt
+no_reader d links s want.Primed set other = tt
+no_reader d links s (want.Issue text) set other = tt
+no_reader d links s (want.Join unit) set other = tt
+no_reader d links s (want.Cut i) set other = tt
+no_reader d links s (want.Done code) set other = tt
+
+-- nothing but the want of a commit level commits
+pub no_commit : (w : Want) → ((l : ℤ) → w ≡ want.Commit l → ⊥) → commits w ≡ false
+no_commit (want.Write o out) other = refl
+no_commit (want.Commit l) other = absurd (other l refl)
+no_commit (want.Read i) other = refl
+no_commit want.Any other = refl
+no_commit want.Gate other = refl
+no_commit (want.Take i) other = refl
+no_commit want.Primed other = refl
+no_commit (want.Issue text) other = refl
+no_commit (want.Join unit) other = refl
+no_commit (want.Cut i) other = refl
+no_commit (want.Done code) other = refl
 
 -- after a strand came home the set covers the strands that may go on, where it, who reads what it writes and those for whom it settled something were woken
 pub covers_home : (net : Net) (texts : ℕ → List ℕ) (st : State) (left : Left) (d n : DeskState) (links : List Link) → net.links ≡ links → IsWellFormed net → IsKept net texts st left d → AsksEarly n →

@@ -1,12 +1,13 @@
 -- Whom a turn concerns is woken by it.
-use Rattle.std.proofs.Common.{◌≡◌, ◌≢◌, ◌⊎◌, inl, inr, ℕ, ◌+◌, ◌<◌, Bool, true, false, cond, ◌&&◌, ◌||◌, not, ◌==◌, List, length, refl, sym, ◌∙◌, ap, subst, arith, Option, Some, None, is_some, slice_get, ℤ, pos, negsuc}
+use Rattle.std.proofs.Common.{◌≡◌, ◌≢◌, ◌⊎◌, ℕ, ◌+◌, ◌<◌, Bool, true, false, cond, ◌&&◌, ◌||◌, not, ◌==◌, List, length, refl, sym, ◌∙◌, ap, subst, arith, Option, Some, None, is_some, slice_get, ℤ, pos, negsuc}
 use Rattle.std.specs.Prelude.{IsSome}
 use Rattle.std.specs.Option.{option_map}
 use Rattle.pipe_model.specs.declared.net.Net.{Net}
 use Rattle.pipe_model.specs.declared.net.Link.{Link}
 use Rattle.pipe_model.specs.declared.step.Seen.{Seen}
 use Rattle.pipe_model.specs.declared.step.Seen.TheVariants.{Up, Saw, SawEnd, SawAllEnd, Took, Put, Refused, Cut, Primed, Opened, Joined, Ended}
-use Rattle.pipe_model.specs.State.{State}
+use Rattle.pipe_model.specs.Event.{has_ended}
+use Rattle.pipe_model.specs.State.{State, past}
 use Rattle.pipe_model.specs.Licence.{Left}
 use Rattle.pipe_model.specs.WellFormed.{IsWellFormed}
 use Rattle.confluence_laws.proofs.Basics.{and_false, test_apart, same_number}
@@ -14,11 +15,11 @@ use Rattle.record_pool.specs.declared.pool.Held.{Held}
 use Rattle.connectors.specs.WireState.{WireState, at_hand, taken, settled, cleared}
 use Rattle.run_desk.specs.declared.seat.Seat.{Seat}
 use Rattle.run_desk.specs.Desk.{DeskState}
-use Rattle.run_desk.specs.Kept.{IsLaid, IsKept, link_through}
+use Rattle.run_desk.specs.Kept.{IsKept, link_through}
 use Rattle.run_desk.specs.Moves.{made, CanMove, seat_after, out_shut, in_shut, ends, sees}
 use Rattle.run_desk.specs.Pure as Pure
 use Rattle.core_machine.specs.Members.{Members, is_member}
-use Rattle.core_machine.specs.Woken.{IsCovering, AsksEarly, IsWhole, IsLarger, IsStageIn, AreEndsIn, primes}
+use Rattle.core_machine.specs.Woken.{IsCovering, AsksEarly, IsWhole, IsLarger, IsStageIn, AreEndsIn, may_settle}
 use Rattle.core_machine.proofs.Fulls.{reached_code, same_code}
 use Rattle.core_machine.proofs.Stills.{IsStill, Reads, still_same, still_changed, still_closed, leads_from, changed_here, changed_there}
 use Rattle.core_machine.proofs.Wakes.{IsAround, clash, covers_on, full_levels}
@@ -46,13 +47,21 @@ taken_reads wire some = (λ p. no_hand p, λ p. no_over p)
     no_over : (wire.out_closed && wire.puts == wire.tooks + 1) ≡ true → Pure.is_over (Some wire) ≡ true
     no_over p = let z : false ≡ true = sym (ap (λ b. wire.out_closed && b) odd ∙ and_false wire.out_closed) ∙ p in cc
 
--- nor where its offer was withdrawn
+-- nor where there is no offer
+hidden : {A : Type 0} (b : Bool) → is_some (cond {A = Option ℕ} b None None) ≡ true → A
+hidden true p = cc
+hidden false p = cc
+
+-- as where it was withdrawn
 cleared_reads : (wire : WireState) → Reads (Some wire) (Some (cleared wire))
-cleared_reads wire = (λ p. nothing (wire.puts == wire.tooks) p, λ p. p)
+cleared_reads wire = (λ p. hidden (wire.puts == wire.tooks) p, λ p. p)
+
+-- or put by who may write more
+settled_reads : (wire : WireState) → wire.out_closed ≡ false → Reads (Some wire) (Some (settled wire))
+settled_reads wire writes = (λ p. hidden (wire.puts + 1 == wire.tooks) p, λ p. no_over p)
   where
-    nothing : (b : Bool) → is_some (cond {A = Option ℕ} b None None) ≡ true → Pure.shows (Some wire) ≡ true
-    nothing true p = cc
-    nothing false p = cc
+    no_over : (wire.out_closed && wire.puts + 1 == wire.tooks) ≡ true → Pure.is_over (Some wire) ≡ true
+    no_over p = let z : false ≡ true = sym (ap (λ b. b && wire.puts + 1 == wire.tooks) writes) ∙ p in cc
 
 -- Seats
 
@@ -61,34 +70,38 @@ asks_nothing : (seen : Seen) (x : Option Seat) → Pure.ask_of (option_map (seat
 asks_nothing seen None = refl
 asks_nothing seen (Some seat) = refl
 
--- what neither shows a record nor ends the strand settles nothing for its stage
-plain_seat : (seen : Seen) → sees seen ≡ false → ends seen ≡ false → (x : Option Seat) → is_some (Pure.primed_of (option_map (seat_after seen) x)) ≡ true → is_some (Pure.primed_of x) ≡ true
-plain_seat seen blind live None p = p
-plain_seat seen blind live (Some seat) p =
-    go seat.has_seen seat.has_ended
-    (ap (λ z. is_some (cond (seat.has_seen || false) (Some true) (cond (seat.has_ended || z) (Some false) None))) (sym live)
-    ∙ ap (λ z. is_some (cond (seat.has_seen || z) (Some true) (cond (seat.has_ended || ends seen) (Some false) None))) (sym blind) ∙ p)
+-- where nothing may be settled, what is settled for the stage of a seat was before
+settled_seat : (seen : Seen) (x : Option Seat) → (ends seen || (sees seen && not (is_some (Pure.primed_of x)))) ≡ false →
+    is_some (Pure.primed_of (option_map (seat_after seen) x)) ≡ true → is_some (Pure.primed_of x) ≡ true
+settled_seat seen None nothing p = p
+settled_seat seen (Some seat) nothing p = go seat.has_seen seat.has_ended (ends seen) (sees seen) nothing p
   where
-    go : (a b : Bool) → is_some (cond (a || false) (Some true) (cond (b || false) (Some false) None)) ≡ true → is_some (cond a (Some true) (cond b (Some false) None)) ≡ true
-    go true b p = refl
-    go false true p = refl
-    go false false p = cc
+    go : (seen ended ends sees : Bool) → (ends || (sees && not (is_some (cond seen (Some true) (cond ended (Some false) None))))) ≡ false →
+        is_some (cond (seen || sees) (Some true) (cond (ended || ends) (Some false) None)) ≡ true → is_some (cond seen (Some true) (cond ended (Some false) None)) ≡ true
+    go true ended ends sees nothing p = refl
+    go false true ends sees nothing p = refl
+    go false false true sees nothing p = cc
+    go false false false true nothing p = cc
+    go false false false false nothing p = cc
 
-primes_or_plain : (seen : Seen) → (primes seen ≡ true) ⊎ ((sees seen ≡ false) × (ends seen ≡ false))
-primes_or_plain (Saw i) = inl refl
-primes_or_plain (Ended c) = inl refl
-primes_or_plain (Up l c) = inr (refl, refl)
-primes_or_plain (SawEnd i) = inr (refl, refl)
-primes_or_plain SawAllEnd = inr (refl, refl)
-primes_or_plain (Took i) = inr (refl, refl)
-primes_or_plain (Put o) = inr (refl, refl)
-primes_or_plain (Refused o) = inr (refl, refl)
-primes_or_plain (Cut i) = inr (refl, refl)
-primes_or_plain (Primed b) = inr (refl, refl)
-primes_or_plain (Opened k) = inr (refl, refl)
-primes_or_plain (Joined k c) = inr (refl, refl)
+-- and of a strand
+pub was_settled : (d : DeskState) (s : ℕ) (seen : Seen) → may_settle d s seen ≡ false →
+    is_some (Pure.primed_of (slice_get (made d s seen).seats s)) ≡ true → is_some (Pure.primed_of (slice_get d.seats s)) ≡ true
+was_settled d s seen nothing p = settled_seat seen (slice_get d.seats s) nothing (ap (λ z. is_some (Pure.primed_of z)) (sym (changed_here d.seats (seat_after seen) s)) ∙ p)
 
-module _ (net : Net) (st : State) (d : DeskState) (laid : IsLaid net st d) (places : List (Option Held)) (s : ℕ) (new : Members) where
+-- who hasn't ended may write more on each of its outputs
+module _ (net : Net) (texts : ℕ → List ℕ) (st : State) (left : Left) (d : DeskState) (kept : IsKept net texts st left d) (s : ℕ) (live : Pure.ended_at d s ≡ false) where
+  going : has_ended (past st s) ≡ false
+  going = go (slice_get d.seats s) refl
+    where
+      go : (x : Option Seat) → slice_get d.seats s ≡ x → has_ended (past st s) ≡ false
+      go None at = ap has_ended (kept.nobody s at)
+      go (Some seat) at = sym (kept.seats s seat at).ended ∙ ap Pure.ended_of (sym at) ∙ live
+
+  still_open : (o j : ℕ) (link : Link) (wire : WireState) → Pure.out_door d s o ≡ Some j → slice_get net.links j ≡ Some link → slice_get d.wires j ≡ Some wire → wire.out_closed ≡ false
+  still_open o j link wire door l at = (kept.wires j link wire l at).out_closed ∙ ap (λ z. has_ended (past st z)) (leads_from net st d kept.laid s o j link door l) ∙ going
+
+module _ (net : Net) (texts : ℕ → List ℕ) (st : State) (left : Left) (d : DeskState) (kept : IsKept net texts st left d) (places : List (Option Held)) (s : ℕ) (live : Pure.ended_at d s ≡ false) (new : Members) where
   module _ (u : ℕ) (apart : u ≢ s) (off : is_member new u ≡ false) where
     -- a strand that wasn't woken sees no more on the wires
     still_made : (seen : Seen) → CanMove d places s seen → AreEndsIn d net.links s seen new → IsStill net.links u d.wires (made d s seen).wires
@@ -96,8 +109,8 @@ module _ (net : Net) (st : State) (d : DeskState) (laid : IsLaid net st d) (plac
         (λ j link wire door l to at. taken_reads wire (can.0 wire (ap (Pure.through d.wires) door ∙ at)))
         (λ j link wire door l from at. clash new u (ap (is_member new) (sym from) ∙ woken link (ap (link_through net.links) door ∙ l)) off)
     still_made (Put o) can woken = still_changed net.links u d.wires settled (Pure.out_door d s o)
-        (λ j link wire door l to at. clash new u (ap (is_member new) (sym to) ∙ woken link (ap (link_through net.links) door ∙ l)) off)
-        (λ j link wire door l from at. absurd (apart (sym from ∙ leads_from net st d laid s o j link door l)))
+        (λ j link wire door l to at. settled_reads wire (still_open net texts st left d kept s live o j link wire door l at))
+        (λ j link wire door l from at. absurd (apart (sym from ∙ leads_from net st d kept.laid s o j link door l)))
     still_made (Refused o) can woken = still_changed net.links u d.wires cleared (Pure.out_door d s o)
         (λ j link wire door l to at. cleared_reads wire)
         (λ j link wire door l from at. (λ p. p, λ p. p))
@@ -128,8 +141,8 @@ module _ (net : Net) (st : State) (d : DeskState) (laid : IsLaid net st d) (plac
   same_doors (Joined k c) = refl
   same_doors (Ended c) = refl
 
-  -- what was settled before, and what was woken where it is settled now
-  module _ (primer low zero : Bool) where
+  -- which levels were full before, and what was woken where they are now
+  module _ (low zero : Bool) where
     levels_made : (seen : Seen) → CanMove d places s seen →
         low ≡ (not (ends seen) || is_some (Pure.level_code d (negsuc 0))) → zero ≡ (not (ends seen) || is_some (Pure.level_code d (pos 0))) →
         (low ≡ false → is_some (Pure.level_code (made d s seen) (negsuc 0)) ≡ true → IsWhole new) → (zero ≡ false → is_some (Pure.level_code (made d s seen) (pos 0)) ≡ true → IsWhole new) →
@@ -161,39 +174,25 @@ module _ (net : Net) (st : State) (d : DeskState) (laid : IsLaid net st d) (plac
           subst (λ z. is_some (Pure.seen_by n s k z) ≡ true) (ap Pure.ask_of seat_here ∙ asks_nothing seen (slice_get d.seats s)) p in
           absurd (let r : ⊥ = cc in r)
 
-      primer_made : primer ≡ (not (primes seen) || is_some (Pure.primed_of (slice_get d.seats s))) →
-          (primer ≡ false → is_some (Pure.primed_of (slice_get n.seats s)) ≡ true → IsStageIn n s new) →
-          is_some (Pure.primed_of (slice_get n.seats s)) ≡ true → (is_some (Pure.primed_of (slice_get d.seats s)) ≡ true) ⊎ IsStageIn n s new
-      primer_made is stage now = by (primes_or_plain seen)
-        where
-          go : (b : Bool) → is_some (Pure.primed_of (slice_get d.seats s)) ≡ b → primes seen ≡ true → (is_some (Pure.primed_of (slice_get d.seats s)) ≡ true) ⊎ IsStageIn n s new
-          go true was primed = inl was
-          go false was primed = inr (stage (is ∙ ap (λ z. not z || is_some (Pure.primed_of (slice_get d.seats s))) primed ∙ was) now)
-
-          by : (primes seen ≡ true) ⊎ ((sees seen ≡ false) × (ends seen ≡ false)) → (is_some (Pure.primed_of (slice_get d.seats s)) ≡ true) ⊎ IsStageIn n s new
-          by (inl primed) = go (is_some (Pure.primed_of (slice_get d.seats s))) refl primed
-          by (inr plain) = inl (plain_seat seen plain.0 plain.1 (slice_get d.seats s) (ap (λ z. is_some (Pure.primed_of z)) (sym seat_here) ∙ now))
-
       -- the desk after a turn differs by what happened at the strand
       around_made : CanMove d places s seen → AreEndsIn d net.links s seen new →
-          primer ≡ (not (primes seen) || is_some (Pure.primed_of (slice_get d.seats s))) →
           low ≡ (not (ends seen) || is_some (Pure.level_code d (negsuc 0))) → zero ≡ (not (ends seen) || is_some (Pure.level_code d (pos 0))) →
-          (primer ≡ false → is_some (Pure.primed_of (slice_get n.seats s)) ≡ true → IsStageIn n s new) →
+          (is_some (Pure.primed_of (slice_get n.seats s)) ≡ true → (is_some (Pure.primed_of (slice_get d.seats s)) ≡ true) ⊎ IsStageIn n s new) →
           (low ≡ false → is_some (Pure.level_code n (negsuc 0)) ≡ true → IsWhole new) → (zero ≡ false → is_some (Pure.level_code n (pos 0)) ≡ true → IsWhole new) →
           IsAround net d n s new
-      around_made can woken primer_is low_is zero_is stage fills_low fills_zero = record {
+      around_made can woken low_is zero_is stage fills_low fills_zero = record {
         seats = λ u apart. changed_there d.seats (seat_after seen) s u apart;
         doors = same_doors seen;
         still = λ u apart off. still_made u apart off seen can woken;
         levels = levels_made seen can low_is zero_is fills_low fills_zero;
-        primer = primer_made primer_is stage;
+        primer = stage;
         here = nobody_here;
       }
 
 -- who was woken stays in a larger set
 more_ends : (d : DeskState) (links : List Link) (s : ℕ) (seen : Seen) (set more : Members) → ((t : ℕ) → is_member set t ≡ true → is_member more t ≡ true) → AreEndsIn d links s seen set → AreEndsIn d links s seen more
 more_ends d links s (Took i) set more larger woken = λ link l. larger link.from (woken link l)
-more_ends d links s (Put o) set more larger woken = λ link l. larger link.to (woken link l)
+more_ends d links s (Put o) set more larger woken = woken
 more_ends d links s (Ended c) set more larger woken = (λ place door at link l. larger link.to (woken.0 place door at link l), λ place door at link l. larger link.from (woken.1 place door at link l))
 more_ends d links s (Up l c) set more larger woken = woken
 more_ends d links s (Saw i) set more larger woken = woken
@@ -207,15 +206,14 @@ more_ends d links s (Joined k c) set more larger woken = woken
 
 -- after a turn the set covers the strands that may go on, where those next to it and those for whom it settled something were woken
 pub covers_out : (net : Net) (texts : ℕ → List ℕ) (st : State) (left : Left) (d : DeskState) (links : List Link) → net.links ≡ links → IsWellFormed net → IsKept net texts st left d → AsksEarly d →
-    (places : List (Option Held)) (s : ℕ) (seen : Seen) (old set new : Members) (primer low zero : Bool) → length net.strands ≡ old.size → CanMove d places s seen →
+    (places : List (Option Held)) (s : ℕ) (seen : Seen) (old set new : Members) (low zero : Bool) → length net.strands ≡ old.size → CanMove d places s seen → Pure.ended_at d s ≡ false →
     IsLarger old set → AreEndsIn d links s seen set → IsLarger set new →
-    primer ≡ (not (primes seen) || is_some (Pure.primed_of (slice_get d.seats s))) →
     low ≡ (not (ends seen) || is_some (Pure.level_code d (negsuc 0))) → zero ≡ (not (ends seen) || is_some (Pure.level_code d (pos 0))) →
-    (primer ≡ false → is_some (Pure.primed_of (slice_get (made d s seen).seats s)) ≡ true → IsStageIn (made d s seen) s new) →
+    (is_some (Pure.primed_of (slice_get (made d s seen).seats s)) ≡ true → (is_some (Pure.primed_of (slice_get d.seats s)) ≡ true) ⊎ IsStageIn (made d s seen) s new) →
     (low ≡ false → is_some (Pure.level_code (made d s seen) (negsuc 0)) ≡ true → IsWhole new) → (zero ≡ false → is_some (Pure.level_code (made d s seen) (pos 0)) ≡ true → IsWhole new) →
     IsCovering d old → IsCovering (made d s seen) new
-covers_out net texts st left d links same formed kept early places s seen old set new primer low zero size can larger woken larger' primer_is low_is zero_is stage fills_low fills_zero covers =
+covers_out net texts st left d links same formed kept early places s seen old set new low zero size can live larger woken larger' low_is zero_is stage fills_low fills_zero covers =
     covers_on net st formed d (made d s seen) kept.laid s new (larger'.0 ∙ larger.0 ∙ sym size)
-    (around_made net st d kept.laid places s new primer low zero seen can (more_ends d net.links s seen set new larger'.1 (subst (λ z. AreEndsIn d z s seen set) (sym same) woken))
-    primer_is low_is zero_is stage fills_low fills_zero)
+    (around_made net texts st left d kept places s live new low zero seen can (more_ends d net.links s seen set new larger'.1 (subst (λ z. AreEndsIn d z s seen set) (sym same) woken))
+    low_is zero_is stage fills_low fills_zero)
     old (λ t held. larger'.1 t (larger.1 t held)) covers (λ u apart level asks. early u level asks)

@@ -23,7 +23,8 @@ use Rattle.run_desk.proofs.Early.{wants_early}
 use Rattle.run_desk.proofs.Sees.{ask_is}
 use Rattle.confluence_laws.proofs.Basics.{at_place}
 use Rattle.core_machine.specs.declared.actor.Actor.{Actor}
-use Rattle.core_machine.specs.Actors.{is_end, bare}
+use Rattle.run_desk.specs.Moves.{bare}
+use Rattle.core_machine.specs.Actors.{is_end}
 use Rattle.core_machine.specs.Answered.{Shows}
 use Rattle.core_machine.specs.Machine.{looks_at}
 use Rattle.core_machine.specs.Woken.{AsksEarly, AreInside}

@@ -20,7 +20,7 @@ use Rattle.record_pool.specs.Places.{bytes_at}
 use Rattle.stage_steps.specs.Coroutine.{told, bytes_with, meaning, last_seen}
 use Rattle.run_desk.specs.Desk.{DeskState}
 use Rattle.run_desk.specs.Kept.{left_out, left_in}
-use Rattle.run_desk.specs.Moves.{made, pool_moved, CanMove, CanCome, hand_on, sight_through}
+use Rattle.run_desk.specs.Moves.{made, pool_moved, CanMove, CanCome, bare, hand_on, sight_through}
 use Rattle.connectors.specs.WireState.{IsHeldIn}
 use Rattle.run_desk.specs.Order.{IsRun}
 use Rattle.run_desk.specs.Pure as Pure
@@ -35,7 +35,7 @@ use Rattle.confluence_laws.proofs.Basics.{equal_or_not, at_same, at_other, test_
 use Rattle.confluence_laws.proofs.Braids.{play_reached}
 use Rattle.confluence_laws.proofs.LeftOut.{licensed_too}
 use Rattle.core_machine.specs.declared.actor.Actor.{Actor}
-use Rattle.core_machine.specs.Actors.{is_end, come_back, bare, bytes_told}
+use Rattle.core_machine.specs.Actors.{is_end, come_back, bytes_told}
 use Rattle.core_machine.specs.Answered.{LeastReady, LeastEvent, Shows}
 use Rattle.core_machine.specs.Jobs.{JobStands, DoneStands}
 use Rattle.core_machine.specs.Machine.{is_of, is_at, left_by, without, is_among, looks_at, IsLawful}
@@ -98,6 +98,11 @@ module _ {S : Type 0} (stands : S → Strand → List Event → Type 0) (is_look
 
   pub asks_early : AsksEarly d
   asks_early = early_on net st sound.formed own (bytes_at places) left d sound.run.kept
+
+  pub ended_here : (s : Who) → s < length net.strands → Pure.ended_at d s ≡ has_ended (past st s)
+  ended_here s place =
+      let a = at_some d.seats s (subst (λ n. s < n) (sym sound.run.kept.laid.seat_count) place) in
+      ap Pure.ended_of a.1 ∙ (sound.run.kept.seats s a.0 a.1).ended
 
   -- the same with another set of strands that may be ready
   pub sound_ready : (ready' : Members) → ready'.size ≡ ready.size → IsCovering d ready' → IsSound stands is_looking net budget journal out actors d places ready'
@@ -250,6 +255,9 @@ module _ {S : Type 0} (stands : S → Strand → List Event → Type 0) (is_look
     pub goes_on : has_ended (past st s) ≡ false
     goes_on = goes net st left s k e may
 
+    pub is_live : Pure.ended_at d s ≡ false
+    is_live = ended_here s in_range ∙ goes_on
+
     pub lawful_turned : length journal < budget → (looking : List Bool) (b : Bool) → IsLawful (record { net = net; budget = budget; looking = looking; journal = journal ++ entry ∷ []; out = out ++ suc (length journal) ∷ []; is_broken = b })
     lawful_turned space looking b = record {
       legal = legal_one net nothing_yet journal entry sound.legal (ap is_some may_all);
@@ -393,9 +401,7 @@ module _ {S : Type 0} (stands : S → Strand → List Event → Type 0) (is_look
     asks going = subst (λ h. has_ended h ≡ false → Some (meaning want (last_seen h)) ≡ next strand.0 h) (sym home_past) (done.asks strand.0 strand.1) going
 
     pub ended_is : Pure.ended_at d s ≡ has_ended (past st s)
-    ended_is =
-        let a = at_some d.seats s (subst (λ n. s < n) (sym sound.run.kept.laid.seat_count) place) in
-        ap Pure.ended_of a.1 ∙ (sound.run.kept.seats s a.0 a.1).ended
+    ended_is = ended_here s place
 
     pub can_home : Pure.ended_at d s ≡ false → CanCome d places s want
     can_home not_ended = run_can_come net st left d places sound.formed own sound.few sound.run s strand.0 want away strand.1 (sym ended_is ∙ not_ended) (asks (sym ended_is ∙ not_ended))
@@ -412,9 +418,10 @@ module _ {S : Type 0} (stands : S → Strand → List Event → Type 0) (is_look
     left_now : left_by journal (without p out) ≡ left_in left s
     left_now = left_home net journal s p its out sound.apart among
 
-    module _ (d' : DeskState) (places' : List (Option Held)) (ready' : Members) (a : Actor S) (there : slice_get actors s ≡ Some a) (run : IsRun net st (left_in left s) d' places') (size : ready'.size ≡ ready.size) (covers : IsCovering d' ready') where
+    module _ (d' : DeskState) (places' : List (Option Held)) (ready' : Members) (a : Actor S) (there : slice_get actors s ≡ Some a) (run : IsRun net st (left_in left s) d' places') (size : ready'.size ≡ ready.size) (covers : IsCovering d' ready')
+        (asked : Asked) (bared : Pure.ended_at d s ≡ false → asked ≡ bare want) where
       abbrev new : Actor S
-      new = come_back stage (bare want) a
+      new = come_back stage asked a
 
       want_stays : (u : Who) → u ≢ s → want_at net st (left_by journal (without p out)) u ≡ want_at net st left u
       want_stays u apart = ap (λ l. want_at net st l u) left_now
@@ -443,12 +450,15 @@ module _ {S : Type 0} (stands : S → Strand → List Event → Type 0) (is_look
         ];
       }
         where
-          shown : (w : Want) → next strand.0 (past st s) ≡ Some w → Shows (past st s) (bare want) w
-          shown w is = shows_bare (past st s) want w (go (has_ended (past st s)) refl)
+          shown : (w : Want) → next strand.0 (past st s) ≡ Some w → Shows (past st s) asked w
+          shown w is = go (has_ended (past st s)) refl
             where
-              go : (b : Bool) → has_ended (past st s) ≡ b → w ≡ meaning want (last_seen (past st s))
-              go true ended = let none : next strand.0 (past st s) ≡ None = ap (λ b. cond b None (wanted_by (form strand.0).row strand.0.ports.has_output (past st s))) ended in cc
-              go false going = let m : Some (meaning want (last_seen (past st s))) ≡ Some w = asks going ∙ is in cc
+              go : (b : Bool) → has_ended (past st s) ≡ b → Shows (past st s) asked w
+              go true ended = let none : next strand.0 (past st s) ≡ None = ap (λ b. cond b None (wanted_by (form strand.0).row strand.0.ports.has_output (past st s))) ended in absurd (let q : ⊥ = cc in q)
+              go false going =
+                  let m : Some (meaning want (last_seen (past st s))) ≡ Some w = asks going ∙ is in
+                  let w_is : w ≡ meaning want (last_seen (past st s)) = cc in
+                  subst (λ x. Shows (past st s) x w) (sym (bared (ended_is ∙ going))) (shows_bare (past st s) want w w_is)
 
           here : (u : Who) (q : Strand) (x : Actor S) → u ≡ s → strand_at net st u ≡ Some q → slice_get (slice_set actors s new) u ≡ Some x →
               IsActor stands is_looking (past st u) (want_at net st (left_by journal (without p out)) u) q x

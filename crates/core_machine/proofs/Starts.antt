@@ -18,14 +18,14 @@ use Rattle.record_pool.specs.Places.{bytes_at}
 use Rattle.stage_steps.specs.Coroutine.{told, meaning, last_seen}
 use Rattle.run_desk.specs.Desk.{DeskState}
 use Rattle.run_desk.specs.Kept.{left_in}
-use Rattle.run_desk.specs.Moves.{CanCome, HasCome}
+use Rattle.run_desk.specs.Moves.{CanCome, HasCome, bare}
 use Rattle.run_desk.specs.Order.{IsRun, out_from}
 use Rattle.run_desk.specs.Pure as Pure
 use Rattle.run_desk.proofs.Runs.{run_can_come, run_home}
 use Rattle.run_desk.proofs.Sees.{seen_is}
 use Rattle.confluence_laws.proofs.Basics.{equal_or_not, test_same, test_apart, at_some, at_place}
 use Rattle.core_machine.specs.declared.actor.Actor.{Actor}
-use Rattle.core_machine.specs.Actors.{asking_for, bare}
+use Rattle.core_machine.specs.Actors.{asking_for}
 use Rattle.core_machine.specs.Members.{Members}
 use Rattle.core_machine.specs.Sound.{IsActor, IsSound}
 use Rattle.core_machine.specs.Start.{AreFresh, IsCalled, new_actor}

@@ -1,11 +1,9 @@
 -- How what is kept of a strand changes when its coroutine goes out, comes back, or goes on in place.
 use Rattle.std.specs.Prelude.{◌||◌, Bool, true, false, ◌==◌, ℕ, List, [], Option, Some, None}
 use Rattle.std.specs.Option.{option_map_or}
-use Rattle.pipe_model.specs.declared.step.Out.TheVariants.{Fresh}
 use Rattle.pipe_model.specs.declared.step.Seen.{Seen}
 use Rattle.pipe_model.specs.declared.step.Seen.TheVariants.{Saw, SawEnd}
 use Rattle.pipe_model.specs.declared.step.Want.{Want}
-use Rattle.pipe_model.specs.declared.step.Want.TheVariants.{Write}
 use Rattle.record_pool.specs.declared.pool.Held.{Held}
 use Rattle.record_pool.specs.Places.{bytes_at}
 use Rattle.run_desk.specs.Desk.{DeskState}
@@ -35,11 +33,6 @@ given_up actor = record { stage = None; asked = actor.asked; looks = actor.looks
 -- it asks for this
 abbrev pub asking_for : {S : Type 0} → Want → Actor S → Actor S
 asking_for asked actor = record { stage = actor.stage; asked = asked; looks = actor.looks; saw_end = actor.saw_end }
-
--- the want, in which a new record is empty
-abbrev pub bare : Want → Want
-bare (Write o (Fresh rec)) = Write o (Fresh [])
-bare want = want
 
 -- the bytes that go with what a strand was told last: those of the record that it saw, where it looks
 abbrev pub bytes_told : Bool → DeskState → List (Option Held) → ℕ → Seen → List ℕ

@@ -36,6 +36,11 @@ TurnedAs stands is_looking m s k room (Work job) n bytes =
     × (job.strand ≡ s) × JobStands stands is_looking n.net n.looking n.journal job.strand job.place job.seen job.stage
     × ((e : Event) × (licence_of m s k ≡ Some e) × (bytes ≡ bytes_with (looks_at m.looking s) e))
 
+-- the turn gives no job
+abbrev pub IsRefusal : {S : Type 0} → Turned S → Type 0
+IsRefusal (Work job) = ⊥
+IsRefusal _ = Unit {0}
+
 -- the least strand that may have an event, with its least stream, or there is none
 abbrev pub LeastReady : Machine → Option (ℕ × ℕ) → Type 0
 LeastReady m None = (s k : ℕ) → licence_of m s k ≡ None

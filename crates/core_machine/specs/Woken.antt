@@ -1,15 +1,15 @@
 -- Every strand that may go on is in the set, and maybe others: who is woken by what happens at a strand.
-use Rattle.std.specs.Prelude.{◌≡◌, ◌<◌, ◌≤◌, ◌⊎◌, ℕ, ℤ, pos, negsuc, Bool, true, false, List, Option, Some, None, slice_get, is_some}
+use Rattle.std.specs.Prelude.{◌≡◌, ◌<◌, ◌≤◌, ◌⊎◌, ℕ, ℤ, pos, negsuc, Bool, true, false, ◌&&◌, ◌||◌, not, List, Option, Some, None, slice_get, is_some}
 use Rattle.pipe_model.specs.declared.net.Link.{Link}
 use Rattle.pipe_model.specs.declared.step.Seen.{Seen}
-use Rattle.pipe_model.specs.declared.step.Seen.TheVariants.{Saw, Took, Put, Ended}
+use Rattle.pipe_model.specs.declared.step.Seen.TheVariants.{Took, Ended}
 use Rattle.pipe_model.specs.declared.step.Want.{Want}
 use Rattle.pipe_model.specs.declared.step.Want.TheVariants as want
 use Rattle.run_desk.specs.declared.seat.Ask.TheVariants as Ask
 use Rattle.run_desk.specs.Desk.{DeskState}
 use Rattle.record_pool.specs.declared.pool.Held.{Held}
 use Rattle.run_desk.specs.Kept.{link_through}
-use Rattle.run_desk.specs.Moves.{HasCome}
+use Rattle.run_desk.specs.Moves.{HasCome, ends, sees}
 use Rattle.run_desk.specs.Pure as Pure
 use Rattle.core_machine.specs.Members.{Members, is_member}
 
@@ -64,7 +64,6 @@ OfDoors P doors = (place : ℕ) (door : Option ℕ) → slice_get doors place �
 -- the strands at the other ends of a strand's links are in the set, where what it was told concerns them
 abbrev pub AreEndsIn : DeskState → List Link → ℕ → Seen → Members → Type 0
 AreEndsIn d links s (Took i) set = IsProducerIn links set (Pure.in_door d s i)
-AreEndsIn d links s (Put o) set = IsConsumerIn links set (Pure.out_door d s o)
 AreEndsIn d links s (Ended code) set =
     OfDoors (IsConsumerIn links set) (Pure.outputs_of (slice_get d.doors s)) × OfDoors (IsProducerIn links set) (Pure.inputs_of (slice_get d.doors s))
 AreEndsIn d links s _ set = Unit {0}
@@ -80,11 +79,9 @@ IsStageIn d s set = (u : ℕ) → s < u → u < set.size → ((t : ℕ) → s < 
 
 -- What one event may settle for many
 
--- what is told may settle what those see that wait for a stage's first strand
-abbrev pub primes : Seen → Bool
-primes (Saw i) = true
-primes (Ended code) = true
-primes _ = false
+-- what is told may settle something: the strand's end, or the first record that it sees
+abbrev pub may_settle : DeskState → ℕ → Seen → Bool
+may_settle d s seen = ends seen || (sees seen && not (is_some (Pure.primed_of (slice_get d.seats s))))
 
 -- the want may fill a commit level
 abbrev pub commits : Want → Bool

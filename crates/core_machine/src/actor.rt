@@ -4,11 +4,11 @@ ghost use Rattle.pipe_model.specs.declared.step.Want.{Want as Asked};
 ghost use Rattle.run_desk.specs.Moves.{sight_through};
 ghost use Rattle.run_desk.specs.Pure.{in_door};
 ghost use Rattle.stage_steps.specs.Coroutine.{CanResume, Resumes};
-ghost use Rattle.core_machine.specs.Actors.{is_end, gone_out, come_back, gone_on, given_up, asking_for, bare, bytes_told};
+ghost use Rattle.core_machine.specs.Actors.{is_end, gone_out, come_back, gone_on, given_up, bytes_told};
 ghost use Rattle.core_machine.specs.Machine.{looks_at};
 ghost use Rattle.core_machine.specs.declared.actor.Actor.{Actor as ActorIs};
 
-use pipe_model::{NoMemory, Out, Rec, Seen, Want};
+use pipe_model::{NoMemory, Seen, Want};
 use record_pool::Pool;
 use run_desk::Desk;
 use stage_steps::Stage;
@@ -99,24 +99,6 @@ pub(crate) fn give_up<S: Stage>(
     out.push_reserved(place);
 }
 
-/// What the strand asked for last.
-pub(crate) fn asked_by<S: Stage>(actors: &[Actor<S>], strand: usize) -> &Want
-    requires { strand < length actors.now }
-    ensures { (a : ActorIs S) → slice_get actors.now strand ≡ Some a → result.now ≡ a.asked }
-{
-    &actors[strand].asked
-}
-
-/// Empties a new record that the strand asked to write.
-pub(crate) fn bare_at<S: Stage>(actors: &mut Vec<Actor<S>>, strand: usize, alloc: Global)
-    requires { strand < length actors.old.items }
-    ensures { (a : ActorIs S) × (slice_get actors.old.items strand ≡ Some a) × (actors.new.items ≡ slice_set actors.old.items strand (asking_for (bare a.asked) a)) }
-{
-    if let Want::Write(_, Out::Fresh(rec)) = &mut actors[strand].asked {
-        *rec = Rec::from_vec(Vec::new(alloc));
-    }
-}
-
 /// Whether the strand is given the bytes of what it sees.
 pub(crate) fn looks<S: Stage>(actors: &[Actor<S>], strand: u32) -> bool
     ensures { result ≡ looks_at (map (λ (actor : ActorIs S). actor.looks) actors.now) strand }
@@ -141,15 +123,5 @@ pub(crate) fn bytes_told<'a>(
     match seen {
         Seen::Saw(i) if looks => desk.seen_bytes(pool, strand, i),
         _ => &[],
-    }
-}
-
-/// The want, in which a new record is empty.
-pub(crate) fn bare(alloc: Global, want: Want) -> Want
-    ensures { result ≡ bare want }
-{
-    match want {
-        Want::Write(o, Out::Fresh(_)) => Want::Write(o, Out::Fresh(Rec::from_vec(Vec::new(alloc)))),
-        _ => want,
     }
 }

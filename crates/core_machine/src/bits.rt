@@ -1,4 +1,4 @@
-ghost use Rattle.std.specs.Prelude.{◌≡◌, ◌≢◌, ◌<◌, ◌≤◌, ◌-◌, ◌^◌, ◌/◌, ◌*◌, ◌==◌, ℕ, length, replicate, MatchOption, IfSome, IfOk};
+ghost use Rattle.std.specs.Prelude.{◌≡◌, ◌≢◌, ◌<◌, ◌≤◌, ◌-◌, ◌^◌, ◌/◌, ◌*◌, ℕ, length, replicate, MatchOption, IfSome, IfOk};
 ghost use Rattle.core_machine.specs.Members.{has, word_at, low_word, IsLeastBit};
 
 use pipe_model::NoMemory;
@@ -87,13 +87,6 @@ impl Bits {
             self.words[k] = low_word((count as u64).saturating_sub(64 * k as u64));
             k += 1;
         }
-    }
-
-    /// Whether a number is in.
-    pub fn has(&self, s: u32) -> bool
-        ensures { result ≡ (has self.now s == 1) }
-    {
-        self.word((s / 64) as usize) >> (s % 64) & 1 == 1
     }
 
     /// The least number, by a walk along the words.

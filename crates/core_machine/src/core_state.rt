@@ -1,7 +1,8 @@
 ghost use Rattle.std.specs.Prelude.{◌≡◌, ◌≤◌, length, vec_capacity};
 ghost use Rattle.core_machine.specs.Machine.{without};
 
-use crate::actor::{Actor, bare, bytes_told, looks, send_out, take_back};
+use crate::actor::{Actor, bytes_told, looks, send_out, take_back};
+use crate::far_ends::wake;
 use crate::home::come_back;
 use crate::job::{Finished, Job, Turned};
 use crate::ready::Ready;
@@ -10,13 +11,11 @@ use pipe_model::{Entry, Net, NoMemory, Seen, Want};
 use record_pool::Pool;
 use run_desk::Desk;
 use stage_steps::Stage;
-use std::alloc::Global;
 use std::marker::Model;
 
 /// A net, its coroutines, and how far they are: it makes one event after another, and keeps each as an entry of its
 /// journal.
 pub struct Core<S: Stage> {
-    pub(crate) alloc: Global,
     pub(crate) net: Net,
     pub(crate) budget: u64,
     pub(crate) actors: Vec<Actor<S>>,
@@ -44,13 +43,13 @@ impl<S: Stage> Model for Core<S> {
 }
 
 impl<S: Stage> Core<S> {
-    ghost use Rattle.std.specs.Prelude.{◌≡◌, ◌<◌, ◌≤◌, ◌++◌, ◌∷◌, [], Some, None, true, false, length, IfOk, OnOk, OnErr, is_some, take, vec_capacity, ℕ, List};
+    ghost use Rattle.std.specs.Prelude.{◌≡◌, ◌<◌, ◌≤◌, ◌∷◌, Some, true, false, length, IfOk, OnOk, OnErr, is_some, take, vec_capacity, ℕ, List};
     ghost use Rattle.pipe_model.specs.Event.{Event, has_ended};
     ghost use Rattle.pipe_model.specs.State.{past};
     ghost use Rattle.stage_steps.specs.Coroutine.{told, bytes_with};
     ghost use Rattle.core_machine.specs.Machine.{licence_of, state_of, looks_at, turned, came_home, broke_down, is_among, IsLawful};
     ghost use Rattle.core_machine.specs.Jobs.{JobStands, DoneStands};
-    ghost use Rattle.core_machine.specs.Answered.{TurnedAs};
+    ghost use Rattle.core_machine.specs.Answered.{IsRefusal, TurnedAs};
 
     /// Whether a strand may have an event on a stream.
     pub fn is_ready(&self, strand: u32, stream: u16) -> bool
@@ -64,6 +63,7 @@ impl<S: Stage> Core<S> {
     /// On another answer nothing changes. It takes no memory.
     pub fn turn(&mut self, strand: u32, stream: u16, room: &mut Vec<u8>) -> Turned<S>
         ensures turned { TurnedAs S.stands S.is_looking self.old strand stream (vec_capacity room.old) result self.new room.new.items }
+        ensures room { IsRefusal result → room.new.items ≡ room.old.items }
         ensures lawful { IsLawful self.new }
     {
         if self.is_broken {
@@ -145,13 +145,20 @@ impl<S: Stage> Core<S> {
     }
 
     // The end of `finish`, where there was memory so far. Out of memory leaves all as it was.
-    fn come_home(&mut self, strand: u32, place: u64, stage: S, want: Want) -> Result<(), NoMemory>
+    fn come_home(
+        &mut self,
+        strand: u32,
+        place: u64,
+        stage: S,
+        mut want: Want,
+    ) -> Result<(), NoMemory>
         requires among { is_among place self.old.out ≡ true }
         requires stands { DoneStands S.stands S.is_looking self.old.net self.old.looking (take place self.old.journal) strand place stage want }
         ensures home { OnOk result (self.new ≡ came_home self.old place) }
         ensures err { OnErr result (self.new ≡ self.old) }
     {
         let has_ended = self.desk.has_ended(strand);
+        wake(&mut self.ready, strand);
         come_back(
             &mut self.desk,
             &mut self.pool,
@@ -159,14 +166,9 @@ impl<S: Stage> Core<S> {
             self.net.links.as_slice(),
             strand,
             has_ended,
-            &want,
+            &mut want,
         )?;
-        take_back(
-            &mut self.actors,
-            strand as usize,
-            stage,
-            bare(self.alloc, want),
-        );
+        take_back(&mut self.actors, strand as usize, stage, want);
         remove(&mut self.out, place);
         Ok(())
     }
@@ -215,7 +217,6 @@ impl<S: Stage> Drop for Core<S> {
     /// Gives up the core with its records.
     fn drop(self) {
         let Core {
-            alloc: _,
             net: _,
             budget: _,
             actors: _,

@@ -2,14 +2,14 @@
 ghost use Rattle.std.specs.Prelude.{◌≡◌, ◌<◌, true};
 ghost use Rattle.run_desk.specs.Kept.{link_through};
 ghost use Rattle.core_machine.specs.Members.{is_member};
-ghost use Rattle.core_machine.specs.Woken.{AreInside, IsLarger, IsProducerIn, IsConsumerIn, OfDoors, AreEndsIn, IsReaderIn};
+ghost use Rattle.core_machine.specs.Woken.{AreInside, IsLarger, IsProducerIn, IsConsumerIn, OfDoors, AreEndsIn};
 
 use crate::ready::Ready;
-use pipe_model::{Link, Seen, Want};
+use pipe_model::{Link, Seen};
 use run_desk::Desk;
 
 // Wakes the strands at the other ends of the links that what was told concerns: of a record that was taken its
-// producer, of one that was put its consumer, and at an end all.
+// producer, and at an end all. Where one was put its consumer took it before, and sees nothing new.
 #[inline(always)]
 pub(crate) fn wake_ends(ready: &mut Ready, desk: &Desk, links: &[Link], strand: u32, seen: Seen)
     requires { AreInside links.now ready.old.size }
@@ -18,7 +18,6 @@ pub(crate) fn wake_ends(ready: &mut Ready, desk: &Desk, links: &[Link], strand: 
 {
     match seen {
         Seen::Took(i) => wake_producer(ready, links, desk.in_door(strand, i)),
-        Seen::Put(o) => wake_consumer(ready, links, desk.out_door(strand, o)),
         Seen::Ended(_) => {
             wake_consumers(ready, links, desk.outputs(strand));
             wake_producers(ready, links, desk.inputs(strand));
@@ -27,30 +26,13 @@ pub(crate) fn wake_ends(ready: &mut Ready, desk: &Desk, links: &[Link], strand: 
     }
 }
 
-// Wakes a strand that comes home, and the one that may see what it writes.
-#[inline(always)]
-pub(crate) fn wake_reader(ready: &mut Ready, desk: &Desk, links: &[Link], strand: u32, want: &Want)
-    requires strand { strand < ready.old.size }
-    requires links { AreInside links.now ready.old.size }
-    ensures larger { IsLarger ready.old ready.new }
-    ensures here { is_member ready.new strand ≡ true }
-    ensures reader { IsReaderIn desk.now links.now strand want.now ready.new }
-{
-    wake(ready, strand);
-    if let Want::Write(o, _) = want {
-        wake_consumer(ready, links, desk.out_door(strand, *o));
-    }
-}
-
-/// Wakes a strand that is mostly in the set already.
+/// Wakes a strand.
 pub(crate) fn wake(ready: &mut Ready, strand: u32)
     requires { strand < ready.old.size }
     ensures larger { IsLarger ready.old ready.new }
     ensures here { is_member ready.new strand ≡ true }
 {
-    if !ready.has(strand) {
-        ready.insert(strand);
-    }
+    ready.insert(strand);
 }
 
 fn wake_producer(ready: &mut Ready, links: &[Link], door: Option<u32>)

@@ -82,13 +82,6 @@ impl Ready {
         }
     }
 
-    /// Whether a strand is in the set.
-    pub fn has(&self, strand: u32) -> bool
-        ensures { result ≡ is_member self.now strand }
-    {
-        self.members.has(strand)
-    }
-
     /// The least strand of the set: a look along the summary, then at one word.
     pub fn least(&self) -> Option<u32>
         ensures inside { IfSome result (λ strand. strand < self.now.size) }

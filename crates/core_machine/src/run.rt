@@ -1,6 +1,6 @@
-use crate::actor::{asked_by, bare_at, bytes_told, give_up, looks, resume_at};
+use crate::actor::{bytes_told, give_up, looks, resume_at};
 use crate::core_state::Core;
-use crate::home::come_back;
+use crate::home::bring_back;
 use crate::job::RunEnd;
 use crate::wake::{ends, least_awake, move_out};
 use outside::Gate;
@@ -89,14 +89,14 @@ impl<S: Stage> Core<S> {
             self.is_broken = true; // its coroutine isn't resumed again
             return Err(NoMemory);
         };
-        let Ok(()) = come_back(
+        let Ok(()) = bring_back(
+            &mut self.actors,
             &mut self.desk,
             &mut self.pool,
             &mut self.ready,
             self.net.links.as_slice(),
             strand,
             ends(seen),
-            asked_by(&self.actors, at),
         ) else {
             give_up(
                 &mut self.actors,
@@ -107,7 +107,6 @@ impl<S: Stage> Core<S> {
             self.is_broken = true;
             return Err(NoMemory);
         };
-        bare_at(&mut self.actors, at, self.alloc);
         Ok(())
     }
 

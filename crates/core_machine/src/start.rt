@@ -9,8 +9,9 @@ ghost use Rattle.core_machine.specs.declared.actor.Actor.{Actor as ActorIs};
 ghost use Rattle.core_machine.specs.Actors.{asking_for};
 ghost use Rattle.core_machine.specs.Start.{IsCalled, new_actor};
 
-use crate::actor::{Actor, bare};
+use crate::actor::Actor;
 use crate::core_state::Core;
+use crate::far_ends::wake;
 use crate::home::move_home;
 use crate::ready::Ready;
 use pipe_model::{Net, NoMemory, Want};
@@ -45,13 +46,12 @@ impl<S: Stage> Core<S> {
         let mut ready = Ready::new(alloc, strands as u32)?;
         let mut pool = Pool::new(alloc);
         let mut desk = Desk::blank(alloc, &net)?;
-        let called = call_all(alloc, &net, &mut desk, &mut pool, &mut ready, &mut actors);
+        let called = call_all(&net, &mut desk, &mut pool, &mut ready, &mut actors);
         if called.is_err() {
             desk.drain(&mut pool);
             return Err(NoMemory);
         }
         Ok(Core {
-            alloc,
             net,
             budget,
             actors,
@@ -90,7 +90,6 @@ fn new_actor<S: Stage>(stage: S) -> Actor<S>
 
 // Each strand comes home with its first want.
 fn call_all<S: Stage>(
-    alloc: Global,
     net: &Net,
     desk: &mut Desk,
     pool: &mut Pool,
@@ -106,7 +105,7 @@ fn call_all<S: Stage>(
     let count = actors.len() as u32;
     let mut strand = 0;
     while strand < count {
-        call(alloc, net, desk, pool, ready, actors, strand)?;
+        call(net, desk, pool, ready, actors, strand)?;
         strand += 1;
     }
     Ok(())
@@ -114,7 +113,6 @@ fn call_all<S: Stage>(
 
 // A strand comes home with its first want.
 fn call<S: Stage>(
-    alloc: Global,
     net: &Net,
     desk: &mut Desk,
     pool: &mut Pool,
@@ -129,9 +127,10 @@ fn call<S: Stage>(
     ensures pooled { OnErr result (IsPooled desk.new.wires desk.new.sights pool.new) }
     ensures looks { map (λ (actor : ActorIs S). actor.looks) actors.new.items ≡ map (λ (actor : ActorIs S). actor.looks) actors.old.items }
 {
-    let want = first_want(actors, strand as usize);
-    move_home(desk, pool, ready, net.links.as_slice(), strand, &want)?;
-    set_asked(actors, strand as usize, bare(alloc, want));
+    let mut want = first_want(actors, strand as usize);
+    wake(ready, strand);
+    move_home(desk, pool, ready, net.links.as_slice(), strand, &mut want)?;
+    set_asked(actors, strand as usize, want);
     Ok(())
 }
 

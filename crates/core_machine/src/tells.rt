@@ -3,7 +3,7 @@ use pipe_model::{Entry, Net, Want};
 use stage_steps::Stage;
 
 impl<S: Stage> Core<S> {
-    ghost use Rattle.std.specs.Prelude.{◌≡◌, ◌<◌, ◌≤◌, ◌-◌, Some, None, true, false, length, slice_get, MatchOption, ℕ};
+    ghost use Rattle.std.specs.Prelude.{◌≡◌, ◌<◌, ◌≤◌, ◌-◌, Some, None, true, false, length, slice_get, MatchOption};
     ghost use Rattle.pipe_model.specs.declared.net.Strand.{Strand as StrandIs};
     ghost use Rattle.pipe_model.specs.Event.{Want as Wanted, has_seen_end};
     ghost use Rattle.pipe_model.specs.State.{past, strand_at, nothing_yet};

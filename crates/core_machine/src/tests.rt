@@ -27,7 +27,6 @@ fn the_least_member_comes_first(rt: HostRuntime) -> Result<(), Fail> {
         [empty, first, second, ready.least()],
         [None, Some(5), Some(64), Some(699)]
     );
-    assert!(rt; ready.has(699) && !ready.has(64));
     Ok(())
 }
 
@@ -35,10 +34,11 @@ fn the_least_member_comes_first(rt: HostRuntime) -> Result<(), Fail> {
 fn all_strands_are_put_in(rt: HostRuntime) -> Result<(), Fail> {
     let mut ready = Ready::new(rt.alloc(), 130)?;
     ready.insert_all();
-    assert!(rt; ready.has(0) && ready.has(63) && ready.has(64) && ready.has(129));
-    assert!(rt; !ready.has(130));
-    ready.remove(0);
-    assert_eq!(rt; ready.least(), Some(1));
+    for strand in 0..130 {
+        assert_eq!(rt; ready.least(), Some(strand));
+        ready.remove(strand);
+    }
+    assert_eq!(rt; ready.least(), None);
     Ok(())
 }
 

@@ -6,7 +6,8 @@ ghost use Rattle.pipe_model.specs.Licence.{Left};
 ghost use Rattle.pipe_model.specs.WellFormed.{IsWellFormed};
 ghost use Rattle.run_desk.specs.Kept.{IsKept};
 ghost use Rattle.run_desk.specs.Moves.{CanMove, made, pool_moved, ends};
-ghost use Rattle.core_machine.specs.Woken.{IsCovering, AsksEarly, AreInside, LeastEventAwake, primes};
+ghost use Rattle.run_desk.specs.Pure as Pure;
+ghost use Rattle.core_machine.specs.Woken.{IsCovering, AsksEarly, AreInside, IsLarger, LeastEventAwake, may_settle};
 
 use crate::far_ends::wake_ends;
 use crate::ready::Ready;
@@ -26,15 +27,16 @@ pub(crate) fn move_out(
     seen: Seen,
 )
     requires can { CanMove desk.old pool.old strand seen }
+    requires live { Pure.ended_at desk.old strand ≡ false }
     requires strand { strand < ready.old.size }
     requires links { AreInside links.now ready.old.size }
     ensures desk { desk.new ≡ made desk.old strand seen }
     ensures pool { pool.new ≡ pool_moved desk.old pool.old strand seen }
-    ensures size { ready.new.size ≡ ready.old.size }
+    ensures larger { IsLarger ready.old ready.new }
     ensures covers { (net : NetIs) (texts : ℕ → List ℕ) (st : State) (left : Left) → net.links ≡ links.now → length net.strands ≡ ready.old.size →
         IsWellFormed net → IsKept net texts st left desk.old → AsksEarly desk.old → IsCovering desk.old ready.old → IsCovering desk.new ready.new }
 {
-    if primes(seen) {
+    if may_settle(desk, strand, seen) {
         move_settling(desk, pool, ready, links, strand, seen);
         return;
     }
@@ -65,10 +67,15 @@ pub(crate) fn least_awake(ready: &mut Ready, desk: &Desk) -> Option<(u32, u16, S
     None
 }
 
-pub(crate) fn primes(seen: Seen) -> bool
-    ensures { result ≡ primes seen }
+// Whether what is told may settle something for many.
+fn may_settle(desk: &Desk, strand: u32, seen: Seen) -> bool
+    ensures { result ≡ may_settle desk.now strand seen }
 {
-    matches!(seen, Seen::Saw(_) | Seen::Ended(_))
+    match seen {
+        Seen::Saw(_) => !desk.is_primer(strand),
+        Seen::Ended(_) => true,
+        _ => false,
+    }
 }
 
 /// Whether what is told is the strand's end.

@@ -8,7 +8,7 @@ use Rattle.core_machine.specs.Jobs.{JobStands}
 use Rattle.core_machine.specs.Sound.{IsSound}
 use Rattle.core_machine.specs.Woken.{AreInside}
 use Rattle.core_machine.proofs.Plays.{looks_of, looks_same}
-use Rattle.core_machine.proofs.Sounds.{asks_early, inside, in_range, out_room, its_stage, can_turn, sound_turned, job_turned}
+use Rattle.core_machine.proofs.Sounds.{asks_early, inside, in_range, out_room, its_stage, is_live, can_turn, sound_turned, job_turned}
 use Rattle.core_machine.proofs.core_state.Core.go_out.Goals as goal
 
 pub send_out-stage-requires : goal.send_out-stage-requires
@@ -24,6 +24,13 @@ move_out-requires-clause-can g c =
     let v : ◌≡◌ {A = Machine} (record { net = i.net; budget = i.budget; looking = looks_of i.actors.items; journal = i.journal.items; out = i.out.items; is_broken = i.is_broken }) c.args.self.now = c.self.view_is in
     let may = subst (λ (z : Machine). licence_of z c.args.strand c.args.stream ≡ Some c.requires.may.0) (sym v) c.requires.may.1 in
     can_turn g.S.Stage.stands g.S.Stage.is_looking i.net i.budget i.journal.items i.out.items i.actors.items i.desk i.pool i.ready c.self.invariant.0 c.args.strand c.args.stream c.requires.may.0 may c.args.seen c.requires.may.2
+
+pub move_out-requires-clause-live : goal.move_out-requires-clause-live
+move_out-requires-clause-live g c =
+    let i = c.self.inside in
+    let v : ◌≡◌ {A = Machine} (record { net = i.net; budget = i.budget; looking = looks_of i.actors.items; journal = i.journal.items; out = i.out.items; is_broken = i.is_broken }) c.args.self.now = c.self.view_is in
+    let may = subst (λ (z : Machine). licence_of z c.args.strand c.args.stream ≡ Some c.requires.may.0) (sym v) c.requires.may.1 in
+    is_live g.S.Stage.stands g.S.Stage.is_looking i.net i.budget i.journal.items i.out.items i.actors.items i.desk i.pool i.ready c.self.invariant.0 c.args.strand c.args.stream c.requires.may.0 may
 
 pub move_out-requires-clause-strand : goal.move_out-requires-clause-strand
 move_out-requires-clause-strand g c =
@@ -55,7 +62,7 @@ invariant_of-self g c =
     let out = c.send_out-stage.ensures in
     let old = c.self.invariant.0 in
     let covers = c.move_out.ensures.covers i.net (bytes_at i.pool) (play i.net i.journal.items) (left_by i.journal.items i.out.items) (sym c.as_slice.ensures) (sym old.size) old.formed old.run.kept (asks_early g.S.Stage.stands g.S.Stage.is_looking i.net i.budget i.journal.items i.out.items i.actors.items i.desk i.pool i.ready c.self.invariant.0) old.covers in
-    let sound = sound_turned g.S.Stage.stands g.S.Stage.is_looking i.net i.budget i.journal.items i.out.items i.actors.items i.desk i.pool i.ready c.self.invariant.0 c.args.strand c.args.stream c.requires.may.0 may out.0 c.send_out-stage.result out.1 out.2 c.args.seen c.requires.may.2 (gone_out c.args.seen out.0) refl refl refl space c.move_out.new.desk c.move_out.new.pool c.move_out.new.ready c.move_out.ensures.desk c.move_out.ensures.pool c.move_out.ensures.size covers in
+    let sound = sound_turned g.S.Stage.stands g.S.Stage.is_looking i.net i.budget i.journal.items i.out.items i.actors.items i.desk i.pool i.ready c.self.invariant.0 c.args.strand c.args.stream c.requires.may.0 may out.0 c.send_out-stage.result out.1 out.2 c.args.seen c.requires.may.2 (gone_out c.args.seen out.0) refl refl refl space c.move_out.new.desk c.move_out.new.pool c.move_out.new.ready c.move_out.ensures.desk c.move_out.ensures.pool c.move_out.ensures.larger.0 covers in
     (subst (λ z. IsSound g.S.Stage.stands g.S.Stage.is_looking i.net i.budget c.push_reserved.new.self.items c.push_reserved-2.new.self.items z c.move_out.new.desk c.move_out.new.pool c.move_out.new.ready) (sym out.3) (search (rules, sound)), search rules, search rules)
 
 pub returns-clause-job : goal.returns-clause-job
@@ -67,7 +74,7 @@ returns-clause-job g c =
     let out = c.send_out-stage.ensures in
     let old = c.self.invariant.0 in
     let covers = c.move_out.ensures.covers i.net (bytes_at i.pool) (play i.net i.journal.items) (left_by i.journal.items i.out.items) (sym c.as_slice.ensures) (sym old.size) old.formed old.run.kept (asks_early g.S.Stage.stands g.S.Stage.is_looking i.net i.budget i.journal.items i.out.items i.actors.items i.desk i.pool i.ready c.self.invariant.0) old.covers in
-    let job = job_turned g.S.Stage.stands g.S.Stage.is_looking i.net i.budget i.journal.items i.out.items i.actors.items i.desk i.pool i.ready c.self.invariant.0 c.args.strand c.args.stream c.requires.may.0 may out.0 c.send_out-stage.result out.1 out.2 c.args.seen c.requires.may.2 (gone_out c.args.seen out.0) refl refl refl space c.move_out.new.desk c.move_out.new.pool c.move_out.new.ready c.move_out.ensures.desk c.move_out.ensures.pool c.move_out.ensures.size covers in
+    let job = job_turned g.S.Stage.stands g.S.Stage.is_looking i.net i.budget i.journal.items i.out.items i.actors.items i.desk i.pool i.ready c.self.invariant.0 c.args.strand c.args.stream c.requires.may.0 may out.0 c.send_out-stage.result out.1 out.2 c.args.seen c.requires.may.2 (gone_out c.args.seen out.0) refl refl refl space c.move_out.new.desk c.move_out.new.pool c.move_out.new.ready c.move_out.ensures.desk c.move_out.ensures.pool c.move_out.ensures.larger.0 covers in
     let place : c.len-place.result ≡ suc (length i.journal.items) = search rules in
     let Stands : List Bool → List Entry → ℕ → Type 0 = λ l j p. JobStands g.S.Stage.stands g.S.Stage.is_looking i.net l j c.args.strand p c.args.seen c.send_out-stage.result in
     subst (λ l. Stands l c.push_reserved.new.self.items c.len-place.result) (ap looks_of (sym out.3))
