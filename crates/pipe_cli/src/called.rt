@@ -1,11 +1,9 @@
-ghost use Rattle.std.specs.Prelude.{◌≡◌, ◌⊎◌, ◌≤◌, ℕ, List, [], map, MatchResult, IfOk, IfErr, Some};
+ghost use Rattle.std.specs.Prelude.{◌≡◌, ◌≤◌, ℕ, map, MatchResult, IfOk, IfErr, Some};
 ghost use Rattle.std.specs.String.{string_bytes};
-ghost use Rattle.pipe_model.specs.declared.net.Net.{Net as NetIs};
 ghost use Rattle.pipe_model.specs.declared.net.Strand.{Strand as StrandIs};
 ghost use Rattle.pipe_model.specs.State.{nothing_yet, strand_at};
 ghost use Rattle.pipe_model.specs.WellFormed.{IsWellFormed};
 ghost use Rattle.stage_steps.specs.First.{IsFirstKind};
-ghost use Rattle.pipe_cli.specs.declared.status.Outcome.{Outcome as OutcomeIs};
 ghost use Rattle.pipe_cli.specs.Meaning.{IsNetOf, IsRunOf, RunsNet};
 ghost use Rattle.pipe_cli.specs.Refusals.{IsTextOutcome};
 ghost use Rattle.pipe_cli.specs.Steps.{IsUnrun, StopsWords};

@@ -1,4 +1,4 @@
-ghost use Rattle.std.specs.Prelude.{◌≡◌, ℕ, List, map};
+ghost use Rattle.std.specs.Prelude.{map};
 ghost use Rattle.std.specs.String.{string_bytes};
 ghost use Rattle.pipe_cli.specs.Devices.{device, outside};
 ghost use Rattle.pipe_cli.specs.Answer.{Answers, Decides, Reports};

@@ -1,4 +1,4 @@
-ghost use Rattle.std.specs.Prelude.{◌≡◌, ◌≤◌, ◌<◌, ◌⊎◌, ℕ, List, Bool, [], length, slice_get, IfOk, MatchResult, Some, Box as Boxed};
+ghost use Rattle.std.specs.Prelude.{◌≡◌, ◌≤◌, ◌<◌, ℕ, List, Bool, [], length, slice_get, IfOk, MatchResult, Some, Box as Boxed};
 ghost use Rattle.std.specs.declared.alloc.Global.{Global};
 ghost use Rattle.pipe_model.specs.declared.net.Strand.{Strand as StrandIs};
 ghost use Rattle.pipe_model.specs.Reply.{reply, console_from};
