@@ -21,7 +21,7 @@ use Rattle.pipe_model.specs.Next.{has, without, learned, nothing_known}
 use Rattle.pipe_model.specs.State.{nothing_yet, strand_at}
 use Rattle.pipe_model.specs.WellFormed.{IsWellFormed, places_of}
 use Rattle.confluence_laws.proofs.Basics.{same_number, test_same}
-use Rattle.confluence_laws.proofs.Facts.{Fits, IsLook, IsSound, IsThin, IsFiniteRow, IsFiniteLook, IsSoundLine, IsPrimer, ReadsOne, ReadsInTurn, LooksAtAny, NoWrites, ThinActs, NoRepeats, has_take, Allows, asking, reach_of, taken, sees, same_parting}
+use Rattle.confluence_laws.proofs.Facts.{Fits, IsLook, IsSound, IsThin, IsFiniteRow, IsFiniteLook, IsSoundLine, IsPrimer, ReadsOne, ReadsInTurn, LooksAtAny, NoWrites, ThinActs, NoRepeats, has_take, Allows, asking, reach_of, taken, sees}
 
 -- Acts
 
@@ -303,10 +303,6 @@ sound_line s = by_kind s.kind
     }
     by_kind Elastic = hold_line (each_record copied) (line_of s Elastic) refl refl refl
     by_kind Copy = hold_line (each_record copied) (line_of s Copy) refl refl refl
-
--- strands of one kind are parted alike
-pub one_parting : (s t : Strand) → s.kind ≡ t.kind → (form s).parting ≡ (form t).parting
-one_parting s t one = same_parting t s s.kind ∙ ap (λ kind. (line_of t kind).parting) one
 
 -- where a strand asks whether the first strand of its stage sees a record, that one is a primer
 pub first_primes : (s first : Strand) (kind : Kind) (k : Known) → asking s kind k Prime → first.part ≡ 0 → IsPrimer (line_of first kind).row

@@ -136,14 +136,5 @@ one_further ws k zero_now before j p = elim (equal_or_not j k) [ inl e ↦ ap (w
     strict : (a b : ℕ) → a < b + 1 → a ≢ b → a < b
     strict a b p q = grind arith
 
--- nothing is held beyond the words
-pub has_beyond : (ws : List ℕ) (t : ℕ) → 64 * length ws ≤ t → has ws t ≡ 0
-has_beyond ws t p = ap (λ y. bit_at y (t % 64)) (word ws (t / 64) (omega (arith, p))) ∙ bit_at-zero (t % 64)
-  where
-    word : (ws : List ℕ) (j : ℕ) → length ws ≤ j → word_at ws j ≡ 0
-    word [] j f = refl
-    word (x ∷ xs) zero f = absurd (omega arith)
-    word (x ∷ xs) (suc j) f = word xs j (omega (arith, f))
-
 pub low_bit : (w : ℕ) → 0 < w → w < 18446744073709551616 → trailing_zeros w64 w < 64
 low_bit w some fits = (bit_at-trailing_zeros w64 w some fits).0

@@ -16,6 +16,7 @@ use Rattle.stage_steps.specs.Coroutine.{told, bytes_with, CanResume, Resumes}
 use Rattle.run_desk.specs.Desk.{DeskState}
 use Rattle.run_desk.specs.Moves.{made, pool_moved, sight_through, CanCome, bare, ends}
 use Rattle.run_desk.specs.Pure as Pure
+use Rattle.run_desk.proofs.Lists.{get_set_same}
 use Rattle.connectors.specs.WireState.{IsHeldIn}
 use Rattle.confluence_laws.proofs.Basics.{test_same, at_some}
 use Rattle.core_machine.specs.declared.actor.Actor.{Actor}
@@ -26,7 +27,7 @@ use Rattle.core_machine.specs.Members.{Members}
 use Rattle.core_machine.specs.Sound.{IsSound}
 use Rattle.core_machine.specs.Woken.{IsCovering, AsksEarly, HasReturned}
 use Rattle.core_machine.proofs.Jobs.{can_run, done_take}
-use Rattle.core_machine.proofs.Plays.{get_set_same, looks_of, looks_here}
+use Rattle.core_machine.proofs.Plays.{looks_of, looks_here}
 use Rattle.core_machine.proofs.Sounds.{sight_held, told_are, can_home, ended_is, came, came_early, sound_home, in_range, turned_past, goes_on, sound_turned, job_turned, job_event}
 
 -- what is set twice is set once

@@ -17,10 +17,11 @@ use Rattle.run_desk.specs.Desk.{DeskState}
 use Rattle.run_desk.specs.Kept.{IsKept, link_through}
 use Rattle.run_desk.specs.Moves.{HasCome, home, home_writing, asking, changed, offers}
 use Rattle.run_desk.specs.Pure as Pure
+use Rattle.run_desk.proofs.Lists.{changed_here, changed_there}
 use Rattle.core_machine.specs.Members.{Members, is_member}
 use Rattle.core_machine.specs.Woken.{IsCovering, AsksEarly, IsWhole, IsLarger, IsReaderIn, commits}
 use Rattle.core_machine.proofs.Fulls.{same_code}
-use Rattle.core_machine.proofs.Stills.{IsStill, still_same, still_changed, changed_here, changed_there}
+use Rattle.core_machine.proofs.Stills.{IsStill, still_same, still_changed}
 use Rattle.core_machine.proofs.Wakes.{IsAround, clash, covers_on, full_levels}
 
 -- who asks for something has seen and ended as much as before

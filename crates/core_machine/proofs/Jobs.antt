@@ -15,7 +15,6 @@ use Rattle.pipe_model.specs.Play.{play}
 use Rattle.stage_steps.specs.Coroutine.{bytes_with, meaning, last_seen, owed, IsTold, CanResume, Resumes}
 use Rattle.confluence_laws.proofs.Basics.{at_same, test_same}
 use Rattle.confluence_laws.proofs.Owns.{answers_it}
-use Rattle.run_desk.proofs.Acts.{goes}
 use Rattle.core_machine.specs.Jobs.{JobStands, DoneStands}
 use Rattle.core_machine.specs.Machine.{is_of, is_at}
 use Rattle.core_machine.proofs.Away.{get_end}
@@ -29,10 +28,6 @@ module _ {S : Type 0} (stands : S → Strand → List Event → Type 0) (is_look
       ∙ ap (λ z. past (with_some_event (play net job.before) z (licence net (play net job.before) none_left z job.entry.stream)) s) job.entry_is
       ∙ ap (λ z. past (with_some_event (play net job.before) s z) s) job.licensed
       ∙ at_same (play net job.before) s job.event
-
-  -- and it hadn't ended before
-  pub job_goes : has_ended (past (play net job.before) s) ≡ false
-  job_goes = goes net (play net job.before) none_left s job.entry.stream job.event job.licensed
 
   pub job_strand : (q : Strand) × (strand_at net nothing_yet s ≡ Some q)
   job_strand = go (strand_at net nothing_yet s) refl (answers_it net (play net job.before) s job.entry.stream job.event job.licensed)

@@ -18,10 +18,11 @@ use Rattle.run_desk.specs.Desk.{DeskState}
 use Rattle.run_desk.specs.Kept.{IsKept, link_through}
 use Rattle.run_desk.specs.Moves.{made, CanMove, seat_after, out_shut, in_shut, ends, sees}
 use Rattle.run_desk.specs.Pure as Pure
+use Rattle.run_desk.proofs.Lists.{changed_here, changed_there}
 use Rattle.core_machine.specs.Members.{Members, is_member}
 use Rattle.core_machine.specs.Woken.{IsCovering, AsksEarly, IsWhole, IsLarger, IsStageIn, AreEndsIn, may_settle}
 use Rattle.core_machine.proofs.Fulls.{reached_code, same_code}
-use Rattle.core_machine.proofs.Stills.{IsStill, Reads, still_same, still_changed, still_closed, leads_from, changed_here, changed_there}
+use Rattle.core_machine.proofs.Stills.{IsStill, Reads, still_same, still_changed, still_closed, leads_from}
 use Rattle.core_machine.proofs.Wakes.{IsAround, clash, covers_on, full_levels}
 
 -- Wires

@@ -1,5 +1,5 @@
 -- Lists of actors and plays of journals, on which a sound core rests.
-use Rattle.std.proofs.Common.{◌≡◌, ◌≢◌, ℕ, zero, suc, ◌+◌, ◌≤◌, ◌<◌, Bool, true, false, cond, ◌||◌, ◌==◌, List, [], ◌∷◌, ◌++◌, length, refl, sym, ◌∙◌, ap, arith, Option, Some, None, slice_get, slice_set, map}
+use Rattle.std.proofs.Common.{◌≡◌, ℕ, zero, suc, ◌+◌, ◌≤◌, ◌<◌, Bool, true, false, cond, ◌||◌, ◌==◌, List, [], ◌∷◌, ◌++◌, length, refl, sym, ◌∙◌, ap, arith, Option, Some, None, slice_get, slice_set, map}
 use Rattle.std.specs.Prelude.{take}
 use Rattle.pipe_model.specs.declared.net.Net.{Net}
 use Rattle.pipe_model.specs.declared.net.Strand.{Strand}
@@ -30,18 +30,6 @@ use Rattle.core_machine.specs.Machine.{looks_at}
 use Rattle.core_machine.specs.Woken.{AsksEarly, AreInside}
 
 -- Lists
-
-pub get_set_same : {A : Type 0} (xs : List A) (i : ℕ) (x y : A) → slice_get xs i ≡ Some y → slice_get (slice_set xs i x) i ≡ Some x
-get_set_same [] i x y at = cc
-get_set_same (z ∷ zs) zero x y at = refl
-get_set_same (z ∷ zs) (suc i) x y at = get_set_same zs i x y at
-
-pub get_set_other : {A : Type 0} (xs : List A) (i k : ℕ) (x : A) → k ≢ i → slice_get (slice_set xs i x) k ≡ slice_get xs k
-get_set_other [] i k x apart = refl
-get_set_other (z ∷ zs) zero zero x apart = absurd (apart refl)
-get_set_other (z ∷ zs) zero (suc k) x apart = refl
-get_set_other (z ∷ zs) (suc i) zero x apart = refl
-get_set_other (z ∷ zs) (suc i) (suc k) x apart = get_set_other zs i k x (λ e. apart (ap suc e))
 
 pub get_take : {A : Type 0} (xs : List A) (q : ℕ) → slice_get (take (suc q) xs) q ≡ slice_get xs q
 get_take [] q = refl

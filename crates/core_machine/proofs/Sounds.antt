@@ -31,6 +31,7 @@ use Rattle.run_desk.proofs.Limits.{sights_held}
 use Rattle.run_desk.proofs.Offers.{sight_text}
 use Rattle.run_desk.proofs.Shown.{shows_it}
 use Rattle.run_desk.proofs.Sees.{seen_is}
+use Rattle.run_desk.proofs.Lists.{get_set_same, get_set_other}
 use Rattle.confluence_laws.proofs.Basics.{equal_or_not, at_same, at_other, test_same, test_apart, at_some, at_place}
 use Rattle.confluence_laws.proofs.Braids.{play_reached}
 use Rattle.confluence_laws.proofs.LeftOut.{licensed_too}
@@ -43,7 +44,7 @@ use Rattle.core_machine.specs.Members.{Members}
 use Rattle.core_machine.specs.Sound.{IsLast, IsActor, AreActors, IsSound}
 use Rattle.core_machine.specs.Woken.{IsCovering, AsksEarly, AreInside, HasReturned, LeastAwake, LeastEventAwake}
 use Rattle.core_machine.proofs.Away.{left_turned, last_turned, apart_turned, left_home, apart_home, last_home, among_last, among_left, one_strand, fewer_out}
-use Rattle.core_machine.proofs.Plays.{get_set_same, get_set_other, get_take, end_length, looks_of, looks_same, looks_here, play_one, legal_one, play_length, end_seen, shows_bare, early_on, links_inside}
+use Rattle.core_machine.proofs.Plays.{get_take, end_length, looks_of, looks_same, looks_here, play_one, legal_one, play_length, end_seen, shows_bare, early_on, links_inside}
 
 module _ {S : Type 0} (stands : S → Strand → List Event → Type 0) (is_looking : S → Bool) (net : Net) (budget : ℕ) (journal : List Entry) (out : List ℕ) (actors : List (Actor S)) (d : DeskState) (places : List (Option Held)) (ready : Members)
     (sound : IsSound stands is_looking net budget journal out actors d places ready) where

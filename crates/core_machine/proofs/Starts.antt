@@ -23,6 +23,7 @@ use Rattle.run_desk.specs.Order.{IsRun, out_from}
 use Rattle.run_desk.specs.Pure as Pure
 use Rattle.run_desk.proofs.Runs.{run_can_come, run_home}
 use Rattle.run_desk.proofs.Sees.{seen_is}
+use Rattle.run_desk.proofs.Lists.{get_set_same, get_set_other}
 use Rattle.confluence_laws.proofs.Basics.{equal_or_not, test_same, test_apart, at_some, at_place}
 use Rattle.core_machine.specs.declared.actor.Actor.{Actor}
 use Rattle.core_machine.specs.Actors.{asking_for}
@@ -30,7 +31,7 @@ use Rattle.core_machine.specs.Members.{Members}
 use Rattle.core_machine.specs.Sound.{IsActor, IsSound}
 use Rattle.core_machine.specs.Start.{AreFresh, IsCalled, new_actor}
 use Rattle.core_machine.specs.Woken.{IsCovering, AsksEarly}
-use Rattle.core_machine.proofs.Plays.{get_set_same, get_set_other, looks_of, shows_bare, early_on}
+use Rattle.core_machine.proofs.Plays.{looks_of, shows_bare, early_on}
 
 -- before the first step every history is a strand's own
 pub own_first : (net : Net) (t : Who) (q : Strand) → strand_at net nothing_yet t ≡ Some q → IsOwn q (past nothing_yet t)

@@ -1,5 +1,5 @@
 -- What changes on wires lets a strand go on only where it is next to the change.
-use Rattle.std.proofs.Common.{◌≡◌, ◌≢◌, ◌⊎◌, inl, inr, ℕ, zero, suc, true, false, ◌&&◌, ◌==◌, List, [], ◌∷◌, length, refl, sym, ◌∙◌, ap, subst, arith, Option, Some, None, is_some, slice_get, slice_set}
+use Rattle.std.proofs.Common.{◌≡◌, ◌≢◌, ◌⊎◌, inl, inr, ℕ, zero, suc, true, false, ◌&&◌, ◌==◌, List, [], ◌∷◌, length, refl, sym, ◌∙◌, ap, subst, arith, Option, Some, None, is_some, slice_get}
 use Rattle.std.specs.Option.{option_map}
 use Rattle.pipe_model.specs.declared.net.Net.{Net}
 use Rattle.pipe_model.specs.declared.net.Link.{Link}
@@ -8,38 +8,11 @@ use Rattle.confluence_laws.proofs.Basics.{both, same_number, equal_or_not, found
 use Rattle.connectors.specs.WireState.{WireState}
 use Rattle.run_desk.specs.Desk.{DeskState}
 use Rattle.run_desk.specs.Kept.{IsLaid, link_through}
-use Rattle.run_desk.specs.Moves.{changed, placed, all_changed}
+use Rattle.run_desk.specs.Moves.{changed, all_changed}
 use Rattle.run_desk.specs.Pure as Pure
+use Rattle.run_desk.proofs.Lists.{changed_here, changed_there, map_back}
 
 -- One place of a list changed
-
-get_set_same : {A : Type 0} (xs : List A) (k : ℕ) (x y : A) → slice_get xs k ≡ Some x → slice_get (slice_set xs k y) k ≡ Some y
-get_set_same [] k x y at = cc
-get_set_same (z ∷ xs) zero x y at = refl
-get_set_same (z ∷ xs) (suc k) x y at = get_set_same xs k x y at
-
-get_set_other : {A : Type 0} (xs : List A) (k j : ℕ) (y : A) → j ≢ k → slice_get (slice_set xs k y) j ≡ slice_get xs j
-get_set_other [] k j y apart = refl
-get_set_other (z ∷ xs) zero zero y apart = absurd (apart refl)
-get_set_other (z ∷ xs) zero (suc j) y apart = refl
-get_set_other (z ∷ xs) (suc k) zero y apart = refl
-get_set_other (z ∷ xs) (suc k) (suc j) y apart = get_set_other xs k j y (λ e. apart (ap suc e))
-
--- what stands at the changed place
-pub changed_here : {A : Type 0} (xs : List A) (f : A → A) (k : ℕ) → slice_get (changed xs f (Some k)) k ≡ option_map f (slice_get xs k)
-changed_here {A} xs f k = go (slice_get xs k) refl
-  where
-    go : (x : Option A) → slice_get xs k ≡ x → slice_get (placed xs k f x) k ≡ option_map f x
-    go None at = at
-    go (Some x) at = get_set_same xs k x (f x) at
-
--- and at any other
-pub changed_there : {A : Type 0} (xs : List A) (f : A → A) (k j : ℕ) → j ≢ k → slice_get (changed xs f (Some k)) j ≡ slice_get xs j
-changed_there {A} xs f k j apart = go (slice_get xs k)
-  where
-    go : (x : Option A) → slice_get (placed xs k f x) j ≡ slice_get xs j
-    go None = refl
-    go (Some x) = get_set_other xs k j (f x) apart
 
 map_some : {A : Type 0} (f : A → A) (x : Option A) → is_some (option_map f x) ≡ is_some x
 map_some f None = refl
@@ -54,10 +27,6 @@ changed_both {A} xs f (Some k) j = go (equal_or_not j k)
     go (inl e) = ap (λ z. is_some (slice_get (changed xs f (Some k)) z)) e ∙ ap is_some (changed_here xs f k) ∙ map_some f (slice_get xs k) ∙ ap (λ z. is_some (slice_get xs z)) (sym e)
     go (inr apart) = ap is_some (changed_there xs f k j apart)
 
-mapped : {A : Type 0} (f : A → A) (x : Option A) (y : A) → option_map f x ≡ Some y → (z : A) × (x ≡ Some z) × (f z ≡ y)
-mapped f None y e = cc
-mapped f (Some z) y e = (z, refl, (let it : f z ≡ y = cc in it))
-
 -- what holds of the item at a place holds of it after a change, if it outlasts the change there
 pub changed_keeps : {A : Type 0} (P : A → Type 0) (xs : List A) (f : A → A) (door : Option ℕ) (j : ℕ) → (door ≡ Some j → (x : A) → slice_get xs j ≡ Some x → P x → P (f x)) →
     ((x : A) → slice_get xs j ≡ Some x → P x) → (y : A) → slice_get (changed xs f door) j ≡ Some y → P y
@@ -68,8 +37,8 @@ changed_keeps {A} P xs f (Some k) j step now y at = go (equal_or_not j k)
     go (inr apart) = now y (sym (changed_there xs f k j apart) ∙ at)
     go (inl e) =
         let here : option_map f (slice_get xs j) ≡ Some y = ap (λ z. option_map f (slice_get xs z)) e ∙ sym (changed_here xs f k) ∙ ap (slice_get (changed xs f (Some k))) (sym e) ∙ at in
-        let m = mapped f (slice_get xs j) y here in
-        subst P m.2 (step (ap Some (sym e)) m.0 m.1 (now m.0 m.1))
+        let m = map_back f (slice_get xs j) y here in
+        subst P (sym m.2) (step (ap Some (sym e)) m.0 m.1 (now m.0 m.1))
 
 -- and after the same change behind several doors
 all_keeps : (P : WireState → Type 0) (f : WireState → WireState) (doors : List (Option ℕ)) (xs : List WireState) (j : ℕ) →

@@ -85,7 +85,9 @@ impl<S: Stage> Core<S> {
     }
 
     /// Takes back a job that is out, after it was run, with what its strand wants now. After want of memory, in the
-    /// job or here, the core is broken: the strand stays out, and no turn is made any more.
+    /// job or here, the core is broken: the strand stays out, and no turn is made any more. It copies no record. It
+    /// looks along the places of the jobs that are out, and wakes all strands when a commit level is full; apart from
+    /// that its cost doesn't grow.
     pub fn finish(&mut self, done: Finished<S>) -> Result<(), NoMemory>
         requires among { is_among done.place self.old.out ≡ true }
         requires stands { IfOk done.want (λ want. DoneStands S.stands S.is_looking self.old.net self.old.looking (take done.place self.old.journal) done.strand done.place done.stage want) }

@@ -9,7 +9,7 @@ use Rattle.net_graph.specs.Fed.{reader_of, reads_input, with_kind}
 use Rattle.net_graph.proofs.FormedPositions.{position_finds}
 use Rattle.stage_steps.specs.First.{IsFirstKind}
 use Rattle.confluence_laws.proofs.Basics.{equal_or_not}
-use Rattle.core_machine.proofs.Plays.{get_set_same, get_set_other}
+use Rattle.net_graph.proofs.FormedLists.{get_set_same, get_set_other}
 
 -- the strand that reads is there
 pub reader_at : (net : Net) (s : ℕ) → reader_of net ≡ Some s → (p : Strand) × (slice_get net.strands s ≡ Some p) × (reads_input p.kind ≡ true)

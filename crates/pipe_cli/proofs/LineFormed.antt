@@ -13,7 +13,6 @@ use Rattle.pipe_model.specs.Alone.{is_early}
 use Rattle.pipe_model.specs.Plain.{IsPlain, IsOrdered, waits_for_first}
 use Rattle.pipe_model.specs.Settled.{Meets}
 use Rattle.pipe_model.specs.WellFormed.{IsWellFormed, TellsPorts}
-use Rattle.stage_steps.specs.First.{IsFirstKind}
 use Rattle.confluence_laws.proofs.Basics.{at_some, test_apart}
 use Rattle.confluence_laws.proofs.Formed.{AllAt, IsLone, IsLink, no_two, lone_formed}
 use Rattle.net_graph.specs.Line.{first_strand, locate_strand, last_strand, line_net}
@@ -123,10 +122,6 @@ module _ (bytes : List ℕ) (strings : List (List ℕ)) where
       let is : next_link j ≡ link = ap next_link (let e : j ≡ 0 + j = omega arith in e) ∙ sym l.0 in
       subst (λ z. IsLink net z) is (joined_link j l.1)
 
-  -- no link is a queue
-  pub line_no_queue : (j : ℕ) (link : Link) → slice_get net.links j ≡ Some link → link.queue ≡ false
-  line_no_queue j link at = (line_link j link at).no_queue
-
   -- the net of a straight line of 65,536 stages at most is well formed
   pub line_formed : length strings ≤ 65534 → IsWellFormed net
   line_formed few = lone_formed net (all_places (λ s p. IsLone net s p) net.strands lone_strand) (all_places (λ j link. IsLink net link) net.links line_link)
@@ -157,10 +152,6 @@ module _ (bytes : List ℕ) (strings : List (List ℕ)) where
     };
     finite = each_strand (λ s p. (form p).finite ≡ true) bytes strings refl (λ k string some within. refl) refl;
   }
-
-  -- each strand is of a kind that there are stages of
-  pub line_kinds : (s : Who) (p : Strand) → strand_at net nothing_yet s ≡ Some p → IsFirstKind p.kind
-  line_kinds = each_strand (λ s p. IsFirstKind p.kind) bytes strings tt (λ k string some within. tt) tt
 
   -- no strand ends before its first commit
   pub line_calm : list_any is_early net.strands ≡ false

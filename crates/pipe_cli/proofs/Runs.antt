@@ -59,14 +59,6 @@ reply_waits net st s lt waits =
     let some = waits_some st 0 s net.strands lt (subst (λ z. has_ended (past st z) ≡ false) (let e : s ≡ 0 + s = omega arith in e) waits) in
     (some.0, some.1, ap (λ z. (replied st net.strands z).waits) some.2)
 
--- where none waits, the reply has none
-pub reply_none : (net : Net) (st : State) → waits_from st 0 net.strands ≡ [] → (reply net st).waits ≡ []
-reply_none net st none = ap (λ z. (replied st net.strands z).waits) none
-
--- and the code of all
-pub reply_code : (net : Net) (st : State) → waits_from st 0 net.strands ≡ [] → (reply net st).code ≡ code_from st 0 net.strands
-reply_code net st none = ap (λ z. (replied st net.strands z).code) none
-
 -- The console
 
 -- a CONSOLE that writes keeps for the console what its stage keeps

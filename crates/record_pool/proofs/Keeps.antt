@@ -149,14 +149,6 @@ kept_emptied places free room p kept held =
     (λ q apart. omega (arith, times-push p q free, only-other q p apart))
     (omega arith) (omega (arith, kept.room)))
 
--- where a place is held, there is room to list it
-pub room_for : (places : List (Option Held)) (free : List ℕ) (room p : ℕ) → IsKept places free room → IsHeld places p → length free < room
-room_for places free room p kept held =
-    let sums : sum_by held_one (with_record places p None) + held_one (record_at places p) ≡ sum_by held_one places + 0 = sum_by-with_record held_one refl places p None in
-    let was : held_one (record_at places p) ≡ 1 = held_one-held (record_at places p) held in
-    let counts : length free + sum_by held_one places ≡ length places = kept.apart in
-    omega (arith, kept.room)
-
 same_blocks : (b : Bool) (k : ℕ) (now was : Held) → Some now ≡ (if b then Some (record was { holders = k }) else None) → blocks_at (Some now) ≡ blocks_at (Some was)
 same_blocks true k now was e = ap blocks_at e
 same_blocks false k now was e = cc

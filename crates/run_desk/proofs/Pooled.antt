@@ -17,8 +17,7 @@ use Rattle.run_desk.specs.Pure.{inputs_of, outputs_of, in_door, out_door, throug
 use Rattle.run_desk.specs.Order.{holds, offer_holds, holds_of, IsPooled}
 use Rattle.run_desk.specs.Moves.{changed, offer_on, hand_on, in_shut, out_shut, all_changed, sight_through, sights_seen, pool_seen, unseen, sights_without, pool_without, made, pool_moved, Behind, CanMove, offers, IsShare, IsHold, CanHold, CanCome, HasCome}
 use Rattle.run_desk.proofs.Counts.{hold, count_first, count_last, count_changed, count_still, count_cleared, count_outs_shut, count_ins_shut, count_unseen, count_seen}
-use Rattle.run_desk.proofs.Gives.{holders_held, holders_given, alive_given, bytes_given, holders_shared, alive_shared, bytes_shared, holders_fresh, alive_fresh, bytes_fresh}
-use Rattle.run_desk.proofs.Holds.{held_still}
+use Rattle.run_desk.proofs.Gives.{holders_held, holders_given, alive_given, bytes_given, holders_shared, alive_shared, bytes_shared, holders_fresh, alive_fresh}
 
 -- what an offer or a sight holds is held in the pool
 pub held_by : (wires : List WireState) (sights : List (Option ℕ)) (places : List (Option Held)) → IsPooled wires sights places → (grip : ℕ) → 0 < holds_of wires sights grip → IsHeld places grip
@@ -184,33 +183,11 @@ pooled_home d new places after s (want.Write o out) pooled can has =
 pooled_home d new places after s _ pooled can has =
     subst (λ (z : DeskState). IsPooled z.wires z.sights after) (sym has.0) (subst (λ (z : List (Option Held)). IsPooled d.wires d.sights z) (sym has.1) pooled)
 
-bytes_share : (places after : List (Option Held)) (x : Option ℕ) (grip other : ℕ) → IsShare places x grip after → IsHeld places other → bytes_at after other ≡ bytes_at places other
-bytes_share places after None grip other is held = ap (λ (z : List (Option Held)). bytes_at z other) is.1 ∙ bytes_fresh places [] grip other is.0 held
-bytes_share places after (Some seen) grip other is held = ap (λ (z : List (Option Held)). bytes_at z other) is.1 ∙ (bytes_shared places seen other (held_still places seen other held)).1
-
-bytes_hold : (d : DeskState) (places after : List (Option Held)) (s : ℕ) (out : Out) (grip other : ℕ) → IsHold d places s out grip after → IsHeld places other → bytes_at after other ≡ bytes_at places other
-bytes_hold d places after s (Fresh bytes) grip other is held = ap (λ (z : List (Option Held)). bytes_at z other) is.1 ∙ bytes_fresh places bytes grip other is.0 held
-bytes_hold d places after s (Same i) grip other is held = bytes_share places after (sight_through d.sights (in_door d s i)) grip other is held
-
--- and what the desk held before has its bytes
-pub texts_home : (d new : DeskState) (places after : List (Option Held)) (s : ℕ) (w : Want) → IsPooled d.wires d.sights places → HasCome d places s w new after →
-    (grip : ℕ) → 0 < holds_of d.wires d.sights grip → bytes_at after grip ≡ bytes_at places grip
-texts_home d new places after s (want.Write o out) pooled has grip some = bytes_hold d places after s out has.0 grip has.1 (held_by d.wires d.sights places pooled grip some)
-texts_home d new places after s _ pooled has grip some = ap (λ (z : List (Option Held)). bytes_at z grip) has.1
-
 -- The end of a run
-
--- where a wire goes, its offer is given back
-pub pooled_first_wire : (wire : WireState) (wires : List WireState) (sights : List (Option ℕ)) (places : List (Option Held)) → IsPooled (wire ∷ wires) sights places → IsPooled wires sights (given_in places wire.offer)
-pooled_first_wire wire wires sights places pooled = pooled_given (wire ∷ wires) wires sights sights places wire.offer pooled (λ grip. omega (arith, count_first (offer_holds grip) wire wires))
 
 -- and so it is from the end of the list
 pub pooled_last_wire : (wires : List WireState) (wire : WireState) (sights : List (Option ℕ)) (places : List (Option Held)) → IsPooled (wires ++ wire ∷ []) sights places → IsPooled wires sights (given_in places wire.offer)
 pooled_last_wire wires wire sights places pooled = pooled_given (wires ++ wire ∷ []) wires sights sights places wire.offer pooled (λ grip. omega (arith, count_last (offer_holds grip) wires wire))
-
--- and where a sight goes, it is
-pub pooled_first_sight : (wires : List WireState) (sight : Option ℕ) (sights : List (Option ℕ)) (places : List (Option Held)) → IsPooled wires (sight ∷ sights) places → IsPooled wires sights (given_in places sight)
-pooled_first_sight wires sight sights places pooled = pooled_given wires wires (sight ∷ sights) sights places sight pooled (λ grip. omega (arith, count_first (holds grip) sight sights))
 
 -- from the end of the list too
 pub pooled_last_sight : (wires : List WireState) (sights : List (Option ℕ)) (sight : Option ℕ) (places : List (Option Held)) → IsPooled wires (sights ++ sight ∷ []) places → IsPooled wires sights (given_in places sight)

@@ -111,11 +111,6 @@ item_of signs at text rest byte next found size text_is next_is is size_is =
     let told : Tells signs (byte ∷ rest) (Some found) = subst (Tells signs (byte ∷ rest)) (ap (front_of signs byte) (sym next_is) ∙ sym is) (front_tells signs byte rest) in
     rw (text_is, size_is) (item_read signs at (byte ∷ rest) told.0 found told.1)
 
--- where nothing is read, the text is a tail
-pub tail_there : (signs : Signs) (text rest : List ℕ) (byte : ℕ) (next : Option ℕ) → text ≡ byte ∷ rest → next ≡ slice_get rest 0 → None ≡ front_of signs byte next → IsTail signs text
-tail_there signs text rest byte next text_is next_is is =
-    rw text_is (subst (Tells signs (byte ∷ rest)) (ap (front_of signs byte) (sym next_is) ∙ sym is) (front_tells signs byte rest))
-
 -- a spelling has a byte
 pub spelled : (signs : Signs) (reading : Reading) (byte : ℕ) (spelling : List ℕ) → Spells signs reading byte spelling → 0 < length spelling
 spelled signs Plain byte spelling is = omega (arith, ap length is.0)

@@ -74,12 +74,3 @@ least_same found faults more first none = rw (none, append-nil) first
 abbrev pub joined : Option Fault → Option Fault → Option Fault
 joined found None = found
 joined found (Some other) = Some (least found other)
-
--- the least of two lists side by side, from that of each
-pub least_joined : (found other : Option Fault) (faults more : List Fault) → IsLeastSo found faults → IsLeastSo other more → IsLeastSo (joined found other) (faults ++ more)
-least_joined found None faults more first none = least_same found faults more first none
-least_joined found (Some other) faults more first second = least_both found other faults more first second
-
--- no fault so far
-pub least_none : IsLeastSo None []
-least_none = refl

@@ -1,7 +1,6 @@
--- The places of a body's items rise.
-use Rattle.std.proofs.Common.{◌≡◌, ℕ, zero, suc, ◌+◌, ◌<◌, ◌≤◌, List, [], ◌∷◌, get_or, length, map, arith, subst}
+-- The items of a body stand side by side.
+use Rattle.std.proofs.Common.{◌≡◌, ℕ, zero, suc, ◌+◌, ◌<◌, ◌≤◌, List, [], ◌∷◌, get_or, length, arith, subst}
 use Rattle.std.specs.List.{All}
-use Rattle.stage_syntax.specs.Arg.{Rise}
 use Rattle.spec_scanner.specs.declared.item.Item.{Item}
 use Rattle.spec_scanner.specs.declared.signs.Signs.{Signs}
 use Rattle.spec_scanner.specs.Body.{IsBody}
@@ -24,24 +23,6 @@ follow signs at text (item ∷ items) tail body =
 pub follow_within : (at : ℕ) (items : List Item) (end : ℕ) → Follow at items end → at ≤ end
 follow_within at [] end is = is
 follow_within at (item ∷ items) end is = let later = follow_within item.after items end is.2 in omega (arith, is.1, later)
-
--- places that rise from a place on rise from any before it
-rise_from : (bound lower : ℕ) (places : List ℕ) (end : ℕ) → lower ≤ bound → Rise bound places end → Rise lower places end
-rise_from bound lower [] end below is = tt
-rise_from bound lower (place ∷ places) end below is = (omega (arith, is.0), is.1, is.2)
-
--- the places rise
-pub rising_follow : (at : ℕ) (items : List Item) (end : ℕ) → Follow at items end → Rise at (map (λ (item : Item). item.place) items) end
-rising_follow at [] end is = tt
-rising_follow at (item ∷ items) end is =
-    let later = follow_within item.after items end is.2 in (
-      omega (arith, is.0),
-      omega (arith, is.0, is.1, later),
-      rise_from item.after (suc item.place) (map (λ (item : Item). item.place) items) end (omega (arith, is.0, is.1)) (rising_follow item.after items end is.2),
-    )
-
-pub rising : (signs : Signs) (at : ℕ) (text : List ℕ) (items : List Item) (tail : List ℕ) → IsBody signs at text items tail → Rise at (map (λ (item : Item). item.place) items) (at + length text)
-rising signs at text items tail body = rising_follow at items (at + length text) (follow signs at text items tail body)
 
 -- each ends within the text
 pub ends_follow : (at : ℕ) (items : List Item) (end : ℕ) → Follow at items end → All (λ (item : Item). item.after ≤ end) items

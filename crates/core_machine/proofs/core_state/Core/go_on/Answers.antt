@@ -10,7 +10,7 @@ use Rattle.core_machine.specs.Machine.{Machine, left_by, licence_of, looks_at, I
 use Rattle.core_machine.specs.Sound.{IsSound}
 use Rattle.core_machine.specs.Woken.{IsCovering, AsksEarly, AreInside, HasReturned}
 use Rattle.core_machine.proofs.GoesOn.{sights, can_go, gave_up, lost, asking, asked_last, home_ended, home_can, home_early, went_home}
-use Rattle.core_machine.proofs.Plays.{get_set_same, looks_of, looks_same}
+use Rattle.core_machine.proofs.Plays.{looks_of, looks_same}
 use Rattle.core_machine.proofs.Sounds.{asks_early, inside, in_range, seen_back, its_stage, is_live, can_turn, lawful_turned}
 use Rattle.core_machine.proofs.core_state.Core.go_on.Goals as goal
 mod GivesUp
