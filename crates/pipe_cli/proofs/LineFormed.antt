@@ -10,7 +10,7 @@ use Rattle.pipe_model.specs.Straight.{next_link, chain}
 use Rattle.pipe_model.specs.Table.{form}
 use Rattle.pipe_model.specs.Table.Meeting.{Ordered}
 use Rattle.pipe_model.specs.Alone.{is_early}
-use Rattle.pipe_model.specs.Plain.{IsPlain, IsOrdered, waits_for_first}
+use Rattle.pipe_model.specs.Plain.{IsPlain, waits_for_first}
 use Rattle.pipe_model.specs.Settled.{Meets}
 use Rattle.pipe_model.specs.WellFormed.{IsWellFormed, TellsPorts}
 use Rattle.confluence_laws.proofs.Basics.{at_some, test_apart}
@@ -130,7 +130,7 @@ module _ (bytes : List ℕ) (strings : List (List ℕ)) where
       (apart_links (λ a b. a.to == b.to && a.input == b.input) (λ j k apart. ap (λ b. b && true) (test_apart (suc j) (suc k) (λ e. apart (omega (arith, e))))) 0 (length strings + 1))
 
   -- no strand takes what comes first
-  pub line_ordered : IsOrdered net
+  pub line_ordered : (s : Who) (p : Strand) → strand_at net nothing_yet s ≡ Some p → (form p).meeting ≡ Ordered
   line_ordered = each_strand (λ s p. (form p).meeting ≡ Ordered) bytes strings refl (λ k string some within. refl) refl
 
   -- and none waits for another one of its stage

@@ -11,7 +11,8 @@ use Rattle.pipe_model.specs.State.{State, Who, past, strand_at}
 use Rattle.pipe_model.specs.Straight.{selected_by}
 use Rattle.pipe_model.specs.Licence.{licence, none_left}
 use Rattle.pipe_model.specs.Play.{play, IsLegal, IsComplete, HasEnded}
-use Rattle.pipe_model.specs.Alone.{Orders, Lists, IsBarred, IsFirstPass, IsSecondPass, IsPlainReading}
+use Rattle.pipe_model.specs.Alone.{IsPlainReading}
+use Rattle.confluence_laws.proofs.Readings.{plain_reading}
 use Rattle.pipe_model.specs.Reply.{reply, replied, console_from, files_from, code_from, waits_from}
 use Rattle.pipe_model.specs.WellFormed.{IsWellFormed}
 use Rattle.confluence_laws.proofs.Basics.{the_event, at_some, at_place}
@@ -91,7 +92,5 @@ module _ (bytes : List ℕ) (strings : List (List ℕ)) (few : length strings �
         })
 
     -- the histories are those of the plain reading
-    pub line_reads : (orders : Orders) → IsPlainReading net orders (play net es)
-    line_reads orders = subst (λ b. MatchBool b (IsBarred net (play net es)) ((lists : Lists) × IsFirstPass net orders lists × IsSecondPass net orders lists (play net es))) (sym (line_calm bytes strings))
-        (let first = first_pass net formed (line_plain bytes strings) orders (line_ordered bytes strings) in
-        (first.0, first.1, second_pass net formed (line_plain bytes strings) (line_ordered bytes strings) (early_none net.strands (line_calm bytes strings)) orders first.0 first.1 es legal line_ended))
+    pub line_reads : IsPlainReading net (play net es)
+    line_reads = plain_reading net formed (line_plain bytes strings) es legal line_ended

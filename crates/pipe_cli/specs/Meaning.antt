@@ -7,7 +7,7 @@ use Rattle.pipe_model.specs.Search.{holds}
 use Rattle.pipe_model.specs.declared.net.Net.{Net}
 use Rattle.pipe_model.specs.declared.step.Entry.{Entry}
 use Rattle.pipe_model.specs.Play.{play, IsLegal, IsLicensed, IsComplete}
-use Rattle.pipe_model.specs.Alone.{Orders, IsPlainReading}
+use Rattle.pipe_model.specs.Alone.{IsPlainReading}
 use Rattle.pipe_model.specs.Reply.{Reply, WaitLine, reply}
 use Rattle.spec_scanner.specs.declared.fault.Fault.{Fault}
 use Rattle.spec_scanner.specs.declared.piece.Piece.{Piece}
@@ -68,10 +68,10 @@ abbrev pub stalled : List ℕ → WaitLine → List WaitLine → Reply
 stalled output first rest = record { console = output; files = []; code = negsuc 4094; waits = first ∷ rest }
 
 -- a run of the straight line with LOCATEs of these strings ends unstalled with code 0, writes the lines of the input that hold every string, and its histories are
--- those of the plain reading for every order
+-- those of the plain reading
 pub record Filters (input : List ℕ) (strings : List (List ℕ)) (journal : List Entry) (answer : Reply) : Type 0 where
   pub filtered : answer ≡ ended (text (selected strings (lines input))) (pos 0)
-  pub reading : (orders : Orders) → IsPlainReading (line_net input strings) orders (play (line_net input strings) journal)
+  pub reading : IsPlainReading (line_net input strings) (play (line_net input strings) journal)
 
 -- a legal journal of the net that the words run, within the steps, is complete and has this reply
 pub record Finishes (words : List (List ℕ)) (net : Net) (input : List ℕ) (answer : Reply) : Type 0 where
