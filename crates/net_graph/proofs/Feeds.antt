@@ -7,9 +7,10 @@ use Rattle.pipe_model.specs.declared.net.Link.{Link}
 use Rattle.pipe_model.specs.declared.net.Net.{Net}
 use Rattle.pipe_model.specs.declared.net.Strand.{Strand}
 use Rattle.pipe_model.specs.State.{nothing_yet, strand_at}
-use Rattle.pipe_model.specs.Next.{flag_at}
-use Rattle.pipe_model.specs.Table.{Parting, form, line_of}
-use Rattle.pipe_model.specs.Table.Parting.{Whole}
+use Rattle.pipe_model.specs.Members.{flag_at}
+use Rattle.pipe_model.specs.Table.{form, line_of}
+use Rattle.pipe_model.specs.Form.{Parting}
+use Rattle.pipe_model.specs.Form.Parting.{Whole}
 use Rattle.pipe_model.specs.WellFormed.{IsJoined, IsOfStage, IsQueue, IsWellFormed, TellsPorts, places_of, strands_of}
 use Rattle.net_graph.specs.Fed.{fed, reader_of, reads_input, with_kind}
 use Rattle.net_graph.proofs.FormedLists.{equal_or_not, get_set_other, get_set_same}

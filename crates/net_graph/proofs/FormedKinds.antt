@@ -4,11 +4,11 @@ use Rattle.std.specs.Prelude.{codes, if◌then◌else◌, Ok}
 use Rattle.std.specs.Str.{bytes_eq, str_to_ascii_lowercase}
 use Rattle.pipe_model.specs.declared.kind.Kind.{Kind}
 use Rattle.pipe_model.specs.declared.kind.Kind.TheVariants.{Locate}
-use Rattle.pipe_model.specs.declared.kind.Range.{Range}
+use Rattle.pipe_model.specs.declared.range.Range.{Range}
 use Rattle.pipe_model.specs.declared.net.Strand.{Strand}
 use Rattle.pipe_model.specs.Straight.{all_columns}
 use Rattle.pipe_model.specs.Table.{line_of}
-use Rattle.pipe_model.specs.Table.Parting.{Whole}
+use Rattle.pipe_model.specs.Form.Parting.{Whole}
 use Rattle.stage_syntax.specs.Arg.{ArgText}
 use Rattle.stage_syntax.specs.declared.part.Value.{Value}
 use Rattle.stage_syntax.specs.declared.part.Value.TheVariants as Read

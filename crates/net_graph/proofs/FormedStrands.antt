@@ -7,7 +7,7 @@ use Rattle.std.proofs.lemmas.Option.{slice_get_past}
 use Rattle.pipe_model.specs.declared.kind.Kind.{Kind}
 use Rattle.pipe_model.specs.declared.net.Link.{Link}
 use Rattle.pipe_model.specs.declared.net.Strand.{Strand}
-use Rattle.pipe_model.specs.Next.{flag_at}
+use Rattle.pipe_model.specs.Members.{flag_at}
 use Rattle.net_graph.specs.Stands.{Stand}
 use Rattle.net_graph.specs.Nets.{strand_of, strands_from}
 

@@ -9,7 +9,7 @@ use Rattle.pipe_model.specs.State.{Who, nothing_yet, strand_at}
 use Rattle.pipe_model.specs.Licence.{licence, none_left}
 use Rattle.pipe_model.specs.Play.{play, IsLegal, IsLicensed, IsComplete}
 use Rattle.pipe_model.specs.Table.{line_of}
-use Rattle.pipe_model.specs.Table.Parting.{Queued}
+use Rattle.pipe_model.specs.Form.Parting.{Queued}
 use Rattle.pipe_model.specs.WellFormed.{IsWellFormed, IsQueue}
 use Rattle.stage_steps.specs.First.{IsFirstKind}
 use Rattle.core_machine.specs.declared.job.RunEnd.TheVariants as End

@@ -4,11 +4,11 @@ use Rattle.std.specs.List.{list_all, list_any}
 use Rattle.pipe_model.specs.declared.net.Net.{Net}
 use Rattle.pipe_model.specs.declared.net.Link.{Link}
 use Rattle.pipe_model.specs.declared.net.Strand.{Strand}
-use Rattle.pipe_model.specs.Next.{flag_at}
+use Rattle.pipe_model.specs.Members.{flag_at}
 use Rattle.pipe_model.specs.State.{Who, nothing_yet, strand_at, link_in, link_out}
 use Rattle.pipe_model.specs.Straight.{next_link, chain}
 use Rattle.pipe_model.specs.Table.{form}
-use Rattle.pipe_model.specs.Table.Meeting.{Ordered}
+use Rattle.pipe_model.specs.Form.Meeting.{Ordered}
 use Rattle.pipe_model.specs.Alone.{is_early}
 use Rattle.pipe_model.specs.Plain.{IsPlain, waits_for_first}
 use Rattle.pipe_model.specs.Settled.{Meets}

@@ -12,7 +12,8 @@ use Rattle.pipe_model.specs.declared.step.Want.{Want as Asking}
 use Rattle.pipe_model.specs.declared.step.Want.TheVariants as want
 use Rattle.pipe_model.specs.Event.{has_ended}
 use Rattle.pipe_model.specs.Event.Want.{Commit, Write}
-use Rattle.pipe_model.specs.Next.{next, flag_at, has, IsOwn}
+use Rattle.pipe_model.specs.Next.{next, IsOwn}
+use Rattle.pipe_model.specs.Members.{flag_at, has}
 use Rattle.pipe_model.specs.State.{Who, State, past, strand_at, link_out}
 use Rattle.pipe_model.specs.Licence.{Left, want_after, want_at, offered}
 use Rattle.pipe_model.specs.WellFormed.{IsWellFormed}

@@ -2,7 +2,8 @@
 use Rattle.std.proofs.Common.{◌≡◌, ◌≢◌, ℕ, zero, suc, ◌+◌, ◌<◌, ◌≤◌, Bool, true, false, ◌&&◌, ◌||◌, not, ◌==◌, List, [], ◌∷◌, length, slice_set, refl, sym, ◌∙◌, ap, arith, add-zero}
 use Rattle.std.specs.List.{list_any}
 use Rattle.std.proofs.lemmas.Bool.Decides.{nat_tests}
-use Rattle.pipe_model.specs.Next.{has, flag_at, is_open, all_refused_from, is_refused}
+use Rattle.pipe_model.specs.Next.{is_open, all_refused_from, is_refused}
+use Rattle.pipe_model.specs.Members.{has, flag_at}
 use Rattle.stage_steps.specs.Outputs.{open_from, closed_from, none_left}
 
 apart : (a b : ℕ) → a ≢ b → (a == b) ≡ false

@@ -3,10 +3,11 @@ use Rattle.std.proofs.Common.{◌≡◌, ℕ, suc, Bool, true, false, ◌&&◌, 
 use Rattle.std.specs.List.{list_any}
 use Rattle.pipe_model.specs.declared.net.Strand.{Strand}
 use Rattle.pipe_model.specs.declared.kind.Kind.TheVariants.{ConsoleOut, Locate}
-use Rattle.pipe_model.specs.declared.kind.Range.{Range}
+use Rattle.pipe_model.specs.declared.range.Range.{Range}
 use Rattle.std.specs.declared.option.Option.{Option}
 use Rattle.pipe_model.specs.Ranges.{locates}
-use Rattle.pipe_model.specs.Row.{Pair as RowPair, copied, selects}
+use Rattle.pipe_model.specs.Row.{Pair as RowPair, selects}
+use Rattle.pipe_model.specs.Shape.{copied}
 use Rattle.pipe_model.specs.Table.{line_of}
 use Rattle.stage_steps.specs.declared.place.Place.{Place}
 use Rattle.stage_steps.specs.declared.place.Place.TheVariants.{Starting}

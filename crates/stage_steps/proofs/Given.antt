@@ -3,7 +3,8 @@ use Rattle.std.proofs.Common.{◌≡◌, ℕ, Bool, cond, List, [], ◌∷◌, �
 use Rattle.pipe_model.specs.declared.step.Out.TheVariants.{Same}
 use Rattle.pipe_model.specs.Event.{Event}
 use Rattle.pipe_model.specs.Event.Event.{Saw}
-use Rattle.pipe_model.specs.Row.{Pair as RowPair, at_hand_of, copied, selects}
+use Rattle.pipe_model.specs.Row.{Pair as RowPair, selects}
+use Rattle.pipe_model.specs.Shape.{at_hand_of, copied}
 use Rattle.stage_steps.specs.declared.outputs.Pair.{Pair}
 use Rattle.stage_steps.specs.Coroutine.{last_seen}
 use Rattle.stage_steps.specs.Walk.{meant}

@@ -13,10 +13,11 @@ use Rattle.pipe_model.specs.Event.{Event, Want, answers, has_ended}
 use Rattle.pipe_model.specs.Event.Event.{Up, Put, Refused, Ended}
 use Rattle.pipe_model.specs.Records.{lines}
 use Rattle.pipe_model.specs.Table.{form, line_of}
-use Rattle.pipe_model.specs.Row.{writes, source}
+use Rattle.pipe_model.specs.Shape.{writes, source}
 use Rattle.pipe_model.specs.Row.Act.{Writes}
 use Rattle.pipe_model.specs.Row.Goal.{Ends}
-use Rattle.pipe_model.specs.Next.{Past, doing, after, want_in, wanted_by, next, has, flag_at, is_open, is_live, is_refused}
+use Rattle.pipe_model.specs.Next.{Past, doing, after, want_in, wanted_by, next, is_open, is_live, is_refused}
+use Rattle.pipe_model.specs.Members.{has, flag_at}
 use Rattle.pipe_model.specs.Next.Phase.{Doing}
 use Rattle.pipe_model.specs.Next.Phase.{Starting as Reaching}
 use Rattle.stage_steps.specs.declared.place.Place.{Place}

@@ -12,11 +12,14 @@ use Rattle.pipe_model.specs.declared.step.Want.TheVariants as Ask
 use Rattle.pipe_model.specs.Event.{Event, Want, answers, has_ended, last_seen_on, taken_from}
 use Rattle.pipe_model.specs.Event.Event.{Up, Saw, SawEnd, Took, Put, Refused, Ended}
 use Rattle.pipe_model.specs.Records.{text}
-use Rattle.pipe_model.specs.Table.{Keeping, form}
-use Rattle.pipe_model.specs.Row.{Pair as RowPair, writes, each_record, through_plan}
+use Rattle.pipe_model.specs.Table.{form}
+use Rattle.pipe_model.specs.Shape.{Keeping}
+use Rattle.pipe_model.specs.Row.{Pair as RowPair, through_plan}
+use Rattle.pipe_model.specs.Shape.{writes, each_record}
 use Rattle.pipe_model.specs.Row.Act.{Writes, Takes}
 use Rattle.pipe_model.specs.Row.Goal.{Asks, Ends}
-use Rattle.pipe_model.specs.Next.{Past, begins_plan, after, want_in, wanted_by, next, has, flag_at, is_open, is_live, is_refused}
+use Rattle.pipe_model.specs.Next.{Past, begins_plan, after, want_in, wanted_by, next, is_open, is_live, is_refused}
+use Rattle.pipe_model.specs.Members.{has, flag_at}
 use Rattle.pipe_model.specs.Next.Phase.{Doing}
 use Rattle.pipe_model.specs.Next.Phase.{Starting as Reaching}
 use Rattle.stage_steps.specs.declared.place.Place.{Place}

@@ -13,8 +13,8 @@ use Rattle.pipe_model.specs.Event.{Event, Want, answers, last_seen_on, taken_fro
 use Rattle.pipe_model.specs.Event.Event.{Up, Saw, SawEnd, SawAllEnd, Took, Put, Refused, Primed, Opened, Joined, Severed, Ended}
 use Rattle.pipe_model.specs.Event.Want.{Commit, Read, Any, Gate, Take, Write, Prime, Issue, Join, Sever, Done}
 use Rattle.pipe_model.specs.Records.{text}
-use Rattle.pipe_model.specs.Table.{Keeping}
-use Rattle.pipe_model.specs.Table.Keeping.{Nothing, Console, File}
+use Rattle.pipe_model.specs.Shape.{Keeping}
+use Rattle.pipe_model.specs.Shape.Keeping.{Nothing, Console, File}
 use Rattle.pipe_model.specs.Next.{next}
 
 -- the records last seen on the inputs

@@ -3,7 +3,7 @@ use Rattle.std.specs.Prelude.{ℕ, suc, Bool, ◌&&◌, not, ◌==◌, List, [],
 use Rattle.std.specs.List.{list_any}
 use Rattle.pipe_model.specs.declared.step.Seen.{Seen}
 use Rattle.pipe_model.specs.declared.step.Seen.TheVariants.{Refused}
-use Rattle.pipe_model.specs.Next.{has, flag_at}
+use Rattle.pipe_model.specs.Members.{has, flag_at}
 use Rattle.stage_steps.specs.declared.outputs.Pair.{Pair}
 
 -- by the connected outputs from a number on, and the outputs that refused

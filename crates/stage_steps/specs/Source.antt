@@ -7,11 +7,13 @@ use Rattle.pipe_model.specs.declared.step.Want.TheVariants as Ask
 use Rattle.pipe_model.specs.declared.step.Out.{Out}
 use Rattle.pipe_model.specs.declared.step.Out.TheVariants.{Same, Fresh}
 use Rattle.pipe_model.specs.Event.{Event, has_ended}
-use Rattle.pipe_model.specs.Row.{Act, writes, source}
+use Rattle.pipe_model.specs.Row.{Act}
+use Rattle.pipe_model.specs.Shape.{writes, source}
 use Rattle.pipe_model.specs.Row.Act.{Writes}
 use Rattle.pipe_model.specs.Row.Goal.{Ends}
 use Rattle.pipe_model.specs.Records.{lines}
-use Rattle.pipe_model.specs.Next.{Phase, Past, past_by, flag_at}
+use Rattle.pipe_model.specs.Next.{Phase, Past, past_by}
+use Rattle.pipe_model.specs.Members.{flag_at}
 use Rattle.pipe_model.specs.Next.Phase.{Doing}
 use Rattle.pipe_model.specs.Next.Phase.{Starting as Reaching}
 use Rattle.stage_steps.specs.declared.place.Place.{Place}

@@ -8,7 +8,8 @@ use Rattle.pipe_model.specs.Event.{Event, has_ended, last_seen_on, taken_from}
 use Rattle.pipe_model.specs.Event.Event.{Saw as Sees}
 use Rattle.pipe_model.specs.Row.{Pair as RowPair}
 use Rattle.pipe_model.specs.Records.{text}
-use Rattle.pipe_model.specs.Table.{Keeping, form}
+use Rattle.pipe_model.specs.Table.{form}
+use Rattle.pipe_model.specs.Shape.{Keeping}
 use Rattle.pipe_model.specs.Next.{Past, past_by}
 use Rattle.stage_steps.specs.declared.place.Place.{Place}
 use Rattle.stage_steps.specs.declared.place.Place.TheVariants.{Starting, Committing, Looking, Writing, Taking}

@@ -6,7 +6,8 @@ use Rattle.pipe_model.specs.declared.step.Seen.TheVariants.{Refused}
 use Rattle.pipe_model.specs.declared.step.Want.{Want as Asked}
 use Rattle.pipe_model.specs.declared.step.Want.TheVariants as Ask
 use Rattle.pipe_model.specs.Event.Want.{Read}
-use Rattle.pipe_model.specs.Row.{Pair as RowPair, Act, Row, writes, through_plan, each_record}
+use Rattle.pipe_model.specs.Row.{Pair as RowPair, Act, Row, through_plan}
+use Rattle.pipe_model.specs.Shape.{writes, each_record}
 use Rattle.pipe_model.specs.Row.Act.{Writes, Takes}
 use Rattle.pipe_model.specs.Row.Goal.{Asks, Ends}
 use Rattle.pipe_model.specs.Next.{Phase, Past}

@@ -121,7 +121,7 @@ pub(crate) struct Outputs {
 impl Outputs {
     ghost use Rattle.std.specs.Prelude.{◌≡◌, IfOk};
     ghost use Rattle.std.specs.List.{list_any};
-    ghost use Rattle.pipe_model.specs.Next.{flag_at};
+    ghost use Rattle.pipe_model.specs.Members.{flag_at};
     ghost use Rattle.stage_steps.specs.Outputs.{open_after, none_left};
 
     // The connected outputs, all open.

@@ -1,7 +1,7 @@
 ghost use Rattle.std.specs.Prelude.{◌≡◌, ◌==◌, ◌+◌, ◌-◌, ◌<◌, Option, ℕ, List, drop, take, not};
 ghost use Rattle.std.specs.List.{slice_split, join_with_byte, position, position_or_len};
 ghost use Rattle.pipe_model.specs.Ranges.{between, cut_by, words_from, words_spanned};
-ghost use Rattle.pipe_model.specs.declared.kind.Span.TheVariants.{Words, Fields};
+ghost use Rattle.pipe_model.specs.declared.range.Span.TheVariants.{Words, Fields};
 ghost use Rattle.stage_steps.specs.Parts.{AreBehind, WordsBehind};
 
 use crate::slices::{behind, front};

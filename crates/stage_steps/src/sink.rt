@@ -11,7 +11,7 @@ pub struct Copies;
 
 impl Lists for Copies {
     ghost use Rattle.std.specs.Prelude.{◌≡◌, true};
-    ghost use Rattle.pipe_model.specs.Row.{copied};
+    ghost use Rattle.pipe_model.specs.Shape.{copied};
 
     ghost gives = { λ _ outs _. outs ≡ copied };
 

@@ -1,7 +1,7 @@
 ghost use Rattle.std.specs.Prelude.{◌≡◌, ◌≤◌, ◌+◌, [], length, if◌then◌else◌, MatchOption};
 ghost use Rattle.pipe_model.specs.Records.{lines};
 ghost use Rattle.stage_steps.specs.Lines.{IsFirstLine};
-ghost use Rattle.pipe_model.specs.Next.{flag_at};
+ghost use Rattle.pipe_model.specs.Members.{flag_at};
 ghost use Rattle.stage_steps.specs.declared.place.Place.TheVariants.{Writing, Ending};
 
 use crate::place::{Place, place_after};
@@ -24,7 +24,7 @@ pub struct Source {
 
 impl Source {
     ghost use Rattle.std.specs.Prelude.{◌≡◌, IfOk};
-    ghost use Rattle.pipe_model.specs.Next.{flag_at};
+    ghost use Rattle.pipe_model.specs.Members.{flag_at};
     ghost use Rattle.stage_steps.specs.declared.place.Place.TheVariants.{Starting, Writing};
     ghost use Rattle.stage_steps.specs.Source.{AsksNext, AsksLine};
 

@@ -1,7 +1,7 @@
 -- Worked cases of the definitions.
 use Rattle.std.proofs.Common.{◌≡◌, refl, codes, arith, Some}
 use Rattle.hex.proofs.OnLiterals.{hex_on_literals}
-use Rattle.pipe_model.specs.declared.kind.Span.TheVariants.{Columns}
+use Rattle.pipe_model.specs.declared.range.Span.TheVariants.{Columns}
 use Rattle.stage_syntax.specs.Bounds.{IsRangeOf, IsMisfit}
 use Rattle.stage_syntax.specs.Numbers.{IsNumber, decimal}
 use Rattle.stage_syntax.specs.Ranges.{IsSpelling}

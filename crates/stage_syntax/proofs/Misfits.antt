@@ -1,7 +1,7 @@
 -- A spelling that is a range is no misfit.
 use Rattle.std.proofs.Common.{ℕ, arith, Option}
-use Rattle.pipe_model.specs.declared.kind.Span.{Span}
-use Rattle.pipe_model.specs.declared.kind.Range.{Range}
+use Rattle.pipe_model.specs.declared.range.Span.{Span}
+use Rattle.pipe_model.specs.declared.range.Range.{Range}
 use Rattle.stage_syntax.specs.declared.bounds.Misfit.{Misfit}
 use Rattle.stage_syntax.specs.declared.bounds.Misfit.TheVariants.{First, Second, Reversed}
 use Rattle.stage_syntax.specs.declared.ranges.Ending.{Ending}

@@ -1,8 +1,8 @@
 -- What stands after blanks, and what a word before a range says, is one.
 use Rattle.std.proofs.Common.{◌≡◌, ℕ, List, [], ◌++◌, get_or, replicate, zero, suc, codes, refl, sym, ap, ◌∙◌, arith, inl, inr}
 use Rattle.std.specs.Str.{str_to_ascii_lowercase}
-use Rattle.pipe_model.specs.declared.kind.Span.{Span}
-use Rattle.pipe_model.specs.declared.kind.Span.TheVariants.{Columns, Words, Fields}
+use Rattle.pipe_model.specs.declared.range.Span.{Span}
+use Rattle.pipe_model.specs.declared.range.Span.TheVariants.{Columns, Words, Fields}
 use Rattle.stage_syntax.specs.SpanNames.{IsSpanName}
 use Rattle.stage_syntax.specs.Words.{IsUnblanked}
 

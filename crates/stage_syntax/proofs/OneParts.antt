@@ -1,7 +1,7 @@
 -- What comes next in a text is one part and the rest, or one fault, where no two parts that may come begin alike.
 use Rattle.std.proofs.Common.{◌≡◌, ℕ, ◌<◌, ◌⊎◌, Bool, true, false, List, [], length, refl, sym, ap, ◌∙◌, arith, subst, inl, inr}
 use Rattle.std.specs.List.{Contains}
-use Rattle.pipe_model.specs.declared.kind.Range.{Range}
+use Rattle.pipe_model.specs.declared.range.Range.{Range}
 use Rattle.stage_syntax.proofs.ByteParts.{byte_left, no_byte_misfit, one_byte, one_byte_misfit, one_string_misfit}
 use Rattle.stage_syntax.proofs.NumberParts.{no_number_misfit, number_value, one_number}
 use Rattle.stage_syntax.proofs.OneFronts.{one_front}

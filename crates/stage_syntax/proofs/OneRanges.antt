@@ -1,9 +1,9 @@
 -- A text begins with one range, or has one fault of a range.
 use Rattle.std.proofs.Common.{◌≡◌, ℕ, ◌-◌, ◌⊎◌, List, [], length, refl, sym, ap, ◌∙◌, arith, subst, inl, inr, append-nil, length-append}
 use Rattle.std.proofs.lemmas.List.Elements.{All-nil}
-use Rattle.pipe_model.specs.declared.kind.Range.{Range}
-use Rattle.pipe_model.specs.declared.kind.Span.{Span}
-use Rattle.pipe_model.specs.declared.kind.Span.TheVariants.{Columns}
+use Rattle.pipe_model.specs.declared.range.Range.{Range}
+use Rattle.pipe_model.specs.declared.range.Span.{Span}
+use Rattle.pipe_model.specs.declared.range.Span.TheVariants.{Columns}
 use Rattle.stage_syntax.proofs.FirstWords.{same_rest, same_word}
 use Rattle.stage_syntax.proofs.Letters.{IsOther, name_others, one_split, spelling_begins}
 use Rattle.stage_syntax.proofs.OneFronts.{no_empty_name, one_front, one_span}

@@ -1,7 +1,7 @@
 -- A word is one spelling, one range, and has one fault.
 use Rattle.std.proofs.Common.{◌≡◌, ℕ, ◌+◌, ◌<◌, true, false, List, [], ◌∷◌, length, get_or, Option, refl, sym, ap, ◌∙◌, subst, arith, length-append}
-use Rattle.pipe_model.specs.declared.kind.Range.{Range}
-use Rattle.pipe_model.specs.declared.kind.Span.{Span}
+use Rattle.pipe_model.specs.declared.range.Range.{Range}
+use Rattle.pipe_model.specs.declared.range.Span.{Span}
 use Rattle.stage_syntax.proofs.Misfits.{no_misfit_at}
 use Rattle.stage_syntax.proofs.Spellings.{ends_stop, same_parts}
 use Rattle.stage_syntax.specs.Bounds.{IsLast, IsMisfit, IsRangeOf, IsReversed, IsSecondMisfit}

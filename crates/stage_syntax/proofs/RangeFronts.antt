@@ -1,7 +1,7 @@
 -- How a text begins with a range: the first word is split before its first digit.
 use Rattle.std.proofs.Common.{◌≡◌, ℕ, ◌+◌, ◌-◌, ◌<◌, List, [], ◌∷◌, ◌++◌, length, drop, append-nil, refl, sym, ap, ◌∙◌, subst, inl, inr, arith}
-use Rattle.pipe_model.specs.declared.kind.Span.{Span}
-use Rattle.pipe_model.specs.declared.kind.Range.{Range}
+use Rattle.pipe_model.specs.declared.range.Span.{Span}
+use Rattle.pipe_model.specs.declared.range.Range.{Range}
 use Rattle.stage_syntax.proofs.FirstWords.{same_word}
 use Rattle.stage_syntax.proofs.Letters.{name_others, one_split, spelling_begins}
 use Rattle.stage_syntax.proofs.Passed.{more_passed, word_passed}

@@ -4,7 +4,7 @@ use Rattle.std.specs.List.{Contains}
 use Rattle.std.proofs.lemmas.Bool.Decides.{nat_tests}
 use Rattle.std.proofs.lemmas.Map.Made.{Contains-tail}
 use Rattle.pipe_model.specs.declared.kind.Kind.TheVariants.{Locate}
-use Rattle.pipe_model.specs.declared.kind.Span.TheVariants.{Columns, Words}
+use Rattle.pipe_model.specs.declared.range.Span.TheVariants.{Columns, Words}
 use Rattle.stage_syntax.proofs.Choices.{only_part}
 use Rattle.stage_syntax.proofs.Letters.{spelling_begins}
 use Rattle.stage_syntax.proofs.StringParts.{word_left}

@@ -4,8 +4,8 @@ use Rattle.std.proofs.lemmas.List.Elements.{All-from_recursion}
 use Rattle.std.specs.Str.{all_ascii_digits}
 use Rattle.hex.proofs.OnLiterals.{hex_on_literals}
 use Rattle.hex.specs.Hex.{decode_of}
-use Rattle.pipe_model.specs.declared.kind.Span.{Span}
-use Rattle.pipe_model.specs.declared.kind.Span.TheVariants.{Columns, Words, Fields}
+use Rattle.pipe_model.specs.declared.range.Span.{Span}
+use Rattle.pipe_model.specs.declared.range.Span.TheVariants.{Columns, Words, Fields}
 use Rattle.stage_syntax.proofs.ByteParts.{byte_left}
 use Rattle.stage_syntax.proofs.FirstWords.{bad_hex, same_word}
 use Rattle.stage_syntax.proofs.Letters.{IsOther, spelling_begins}

@@ -2,8 +2,8 @@
 use Rattle.std.specs.Prelude.{◌≡◌, ℕ, ◌+◌, ◌-◌, ◌<◌, ◌≤◌}
 use Rattle.std.specs.declared.option.Option.{Option}
 use Rattle.std.specs.declared.option.Option.TheVariants.{Some, None}
-use Rattle.pipe_model.specs.declared.kind.Span.{Span}
-use Rattle.pipe_model.specs.declared.kind.Range.{Range}
+use Rattle.pipe_model.specs.declared.range.Span.{Span}
+use Rattle.pipe_model.specs.declared.range.Range.{Range}
 use Rattle.stage_syntax.specs.declared.bounds.Misfit.{Misfit}
 use Rattle.stage_syntax.specs.declared.bounds.Misfit.TheVariants.{First, Second, Reversed}
 use Rattle.stage_syntax.specs.declared.ranges.Ending.{Ending}

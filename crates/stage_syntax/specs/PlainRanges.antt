@@ -1,7 +1,7 @@
 -- The range that a word spells, or the fault of its numbers.
 use Rattle.std.specs.Prelude.{◌≡◌, ℕ, ◌+◌, List, length}
-use Rattle.pipe_model.specs.declared.kind.Span.{Span}
-use Rattle.pipe_model.specs.declared.kind.Range.{Range}
+use Rattle.pipe_model.specs.declared.range.Span.{Span}
+use Rattle.pipe_model.specs.declared.range.Range.{Range}
 use Rattle.stage_syntax.specs.declared.bounds.Misfit.{Misfit}
 use Rattle.stage_syntax.specs.declared.bounds.Misfit.TheVariants.{First, Second, Reversed}
 use Rattle.stage_syntax.specs.declared.fault.FaultKind.TheVariants.{OutOfRange, Reversed as ReversedRange}

@@ -1,8 +1,8 @@
 -- The words before a range, which say what its numbers count.
 use Rattle.std.specs.Prelude.{◌≡◌, ℕ, List, codes, ◌⊎◌}
 use Rattle.std.specs.Str.{str_to_ascii_lowercase}
-use Rattle.pipe_model.specs.declared.kind.Span.{Span}
-use Rattle.pipe_model.specs.declared.kind.Span.TheVariants.{Columns, Words, Fields}
+use Rattle.pipe_model.specs.declared.range.Span.{Span}
+use Rattle.pipe_model.specs.declared.range.Span.TheVariants.{Columns, Words, Fields}
 
 -- the word, in any case, is one of three
 abbrev pub IsOneOf : List ℕ → List ℕ → List ℕ → List ℕ → Type 0

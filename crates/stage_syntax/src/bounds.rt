@@ -1,6 +1,6 @@
 ghost use Rattle.std.specs.Prelude.{◌≡◌, IfOk, IfErr, MatchOption};
-ghost use Rattle.pipe_model.specs.declared.kind.Range.{Range};
-ghost use Rattle.pipe_model.specs.declared.kind.Span.{Span};
+ghost use Rattle.pipe_model.specs.declared.range.Range.{Range};
+ghost use Rattle.pipe_model.specs.declared.range.Span.{Span};
 ghost use Rattle.stage_syntax.specs.declared.bounds.Misfit.{Misfit};
 ghost use Rattle.stage_syntax.specs.declared.ranges.Spelling.{Spelling};
 ghost use Rattle.stage_syntax.specs.Bounds.{Fits, IsMisfit, IsRangeOf};

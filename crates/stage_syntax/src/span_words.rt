@@ -1,6 +1,6 @@
 ghost use Rattle.std.specs.Prelude.{MatchOption, IsTrue, ◌↔◌};
-ghost use Rattle.pipe_model.specs.declared.kind.Span.{Span};
-ghost use Rattle.pipe_model.specs.declared.kind.Span.TheVariants.{Words, Fields};
+ghost use Rattle.pipe_model.specs.declared.range.Span.{Span};
+ghost use Rattle.pipe_model.specs.declared.range.Span.TheVariants.{Words, Fields};
 ghost use Rattle.stage_syntax.specs.SpanNames.{IsSpanName};
 
 use pipe_model::Span;
