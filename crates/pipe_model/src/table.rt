@@ -1,6 +1,6 @@
 ghost use Rattle.std.specs.Prelude.{◌≡◌};
 ghost use Rattle.pipe_model.specs.Form.{inputs_by};
-ghost use Rattle.pipe_model.specs.Table.{line_of};
+ghost use Rattle.pipe_model.specs.Table.{line_of, outputs_by};
 
 use crate::kind::Kind;
 
@@ -17,7 +17,7 @@ pub fn most_inputs(kind: &Kind) -> u16
 
 /// The greatest number of outputs of a stage of this kind.
 pub fn most_outputs(kind: &Kind) -> u16
-    ensures { result ≡ (line_of kind.now).outputs }
+    ensures { result ≡ outputs_by (line_of kind.now) }
 {
     match kind {
         Kind::ConsoleIn { .. }
