@@ -12,7 +12,7 @@ use Rattle.pipe_model.specs.declared.step.Want.TheVariants as Ask
 use Rattle.pipe_model.specs.Event.{Event, Want, answers, has_ended}
 use Rattle.pipe_model.specs.Event.Event.{Up, Put, Refused, Ended}
 use Rattle.pipe_model.specs.Records.{lines}
-use Rattle.pipe_model.specs.Table.{form, line_of}
+use Rattle.pipe_model.specs.Table.{form, formed, line_of}
 use Rattle.pipe_model.specs.Shape.{writes, source}
 use Rattle.pipe_model.specs.Row.Act.{Writes}
 use Rattle.pipe_model.specs.Row.Goal.{Ends}
@@ -138,7 +138,7 @@ ends_at Over bytes at flag p code is fits = absurd is
 
 -- the source's row
 row_is : (s : Strand) (bytes : List ℕ) → s.kind ≡ ConsoleIn bytes → (form s).row ≡ source (map (λ rec. (0, rec)) (lines bytes))
-row_is s bytes e = ap (λ k. (line_of s k).row) e
+row_is s bytes e = ap (λ k. (formed s (line_of k)).row) e
 
 module _ (bytes : List ℕ) (at at' : ℕ) (place place1 place2 : Place) (is_open1 : Bool) (seen : Seen) (asked : Asked) (s : Strand) (h : List Event) (e : Event)
     (is : SourceIs true bytes at place is_open1 s h) (answer : answers (next s h) e ≡ true) (seen_is : told e ≡ seen)

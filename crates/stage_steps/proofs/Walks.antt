@@ -4,6 +4,7 @@ use Rattle.std.specs.Prelude.{filter}
 use Rattle.std.specs.List.{list_any}
 use Rattle.std.specs.Ordering.{int_eq}
 use Rattle.std.proofs.lemmas.Bool.Decides.{nat_tests, Decides-int_eq}
+use Rattle.std.proofs.lemmas.List.{map-append}
 use Rattle.pipe_model.specs.declared.net.Strand.{Strand}
 use Rattle.pipe_model.specs.declared.step.Seen.{Seen}
 use Rattle.pipe_model.specs.declared.step.Seen.TheVariants.{Saw as Sees}
@@ -13,9 +14,9 @@ use Rattle.pipe_model.specs.Event.{Event, Want, answers, has_ended, last_seen_on
 use Rattle.pipe_model.specs.Event.Event.{Up, Saw, SawEnd, Took, Put, Refused, Ended}
 use Rattle.pipe_model.specs.Records.{text}
 use Rattle.pipe_model.specs.Table.{form}
-use Rattle.pipe_model.specs.Shape.{Keeping}
-use Rattle.pipe_model.specs.Row.{Pair as RowPair, through_plan}
-use Rattle.pipe_model.specs.Shape.{writes, each_record}
+use Rattle.pipe_model.specs.Row.{Pair as RowPair}
+use Rattle.pipe_model.specs.Shape.{Records, Keeping, records_of, writes, list_plan, each_record}
+use Rattle.pipe_model.specs.Shape.Order.{WritesFirst}
 use Rattle.pipe_model.specs.Row.Act.{Writes, Takes}
 use Rattle.pipe_model.specs.Row.Goal.{Asks, Ends}
 use Rattle.pipe_model.specs.Next.{Past, begins_plan, after, want_in, wanted_by, next, is_open, is_live, is_refused}
@@ -95,7 +96,7 @@ rest_refused outputs refused q sight left =
 -- One event
 
 -- where the event is the sight of a record its pairs are given, and else nothing changes
-abbrev pub GivesAt : {L : Type 0} → (L → (List RowPair → List RowPair) → List RowPair → Type 0) → Bool → L → L → Seen → List ℕ → List Pair → List Pair → Type 0
+abbrev pub GivesAt : {L : Type 0} → (L → (Records → List RowPair) → Records → Type 0) → Bool → L → L → Seen → List ℕ → List Pair → List Pair → Type 0
 GivesAt gives looks x y (Sees i) bytes left left' = Gives gives looks x y bytes left'
 GivesAt gives looks x y _ bytes left left' = (y ≡ x) × (left' ≡ left)
 
@@ -111,12 +112,12 @@ takes Taking (Took i) = i == 0
 takes Ending (Ended code) = true
 takes _ _ = false
 
-module _ {L : Type 0} (gives : L → (List RowPair → List RowPair) → List RowPair → Type 0) (looks yields : Bool) (outs : List RowPair → List RowPair)
-    (x y : L) (bytes : List ℕ) (left left' : List Pair) (outputs : List Bool) (h : List Event) (p : Past) (stood : gives x outs p.known.seen) where
+module _ {L : Type 0} (gives : L → (Records → List RowPair) → Records → Type 0) (looks yields : Bool) (outs : Records → List RowPair)
+    (x y : L) (bytes : List ℕ) (left left' : List Pair) (outputs : List Bool) (h : List Event) (p : Past) (stood : gives x outs (records_of p.known.seen)) where
   -- what is so after the event
   pub record After (f : Place) (e : Event) (q : Past) : Type 0 where
     pub fits : takes f e ≡ true
-    pub gives_is : gives y outs q.known.seen
+    pub gives_is : gives y outs (records_of q.known.seen)
     pub flags_are : open_after (told e) (open_from 0 outputs p.refused) ≡ open_from 0 outputs q.refused
     pub place_is : has_ended (e ∷ h) ≡ false → PlaceIs false (place_after f (told e) Looking (gives_up (told e) yields (list_any (λ flag. flag) outputs) (open_after (told e) (open_from 0 outputs p.refused)))) (last_seen (e ∷ h)) (open_after (told e) (open_from 0 outputs p.refused)) left' q
 
@@ -124,40 +125,41 @@ module _ {L : Type 0} (gives : L → (List RowPair → List RowPair) → List Ro
       After Starting e (after (each_row yields outs) outputs p (Reaching (negsuc 0)) e)
   from_start (Up l c) none fits given = record {
     fits = refl;
-    gives_is = subst (λ z. gives z outs p.known.seen) (sym given.0) stood;
+    gives_is = subst (λ z. gives z outs (records_of p.known.seen)) (sym given.0) stood;
     flags_are = refl;
     place_is = λ on. (elim (int_eq c (pos 0)) as (λ z. PlaceIs false (cond z Committing Ending) (last_seen (Up l c ∷ h)) (open_from 0 outputs p.refused) left' (record p { phase = cond z (Reaching (pos 0)) (Doing [] (Ends (pos 0))) })) [ true ↦ (none, refl) | false ↦ refl ]);
   }
   from_start _ none fits given = cc
 
-  begun : (e : Event) → p.known.told ≡ [] → begins_plan outputs p.refused (through_plan (each_record outs) (Want.Read 0) p.known p.known.told) ≡ Doing [] (Asks (Want.Read 0))
-  begun e none = ap (λ l. begins_plan outputs p.refused (through_plan (each_record outs) (Want.Read 0) p.known l)) none
+  begun : (e : Event) → p.known.told ≡ [] → begins_plan outputs p.refused (list_plan WritesFirst (each_record outs) p.known p.known.told) ≡ Doing [] (Asks (Want.Read 0))
+  begun e none = ap (λ l. begins_plan outputs p.refused (list_plan WritesFirst (each_record outs) p.known l)) none
 
   from_commit : (e : Event) → p.known.told ≡ [] → answers (Some (Want.Commit (pos 0))) e ≡ true → GivesAt gives looks x y (told e) bytes left left' →
       After Committing e (after (each_row yields outs) outputs p (Reaching (pos 0)) e)
   from_commit (Up l c) none fits given = record {
     fits = refl;
-    gives_is = subst (λ z. gives z outs p.known.seen) (sym given.0) stood;
+    gives_is = subst (λ z. gives z outs (records_of p.known.seen)) (sym given.0) stood;
     flags_are = refl;
     place_is = λ on. (elim (int_eq c (pos 0)) as (λ z. PlaceIs false (cond z Looking Ending) (last_seen (Up l c ∷ h)) (open_from 0 outputs p.refused) left'
-        (record p { phase = cond z (begins_plan outputs p.refused (through_plan (each_record outs) (Want.Read 0) p.known p.known.told)) (Doing [] (Ends (pos 0))) })) [ true ↦ begun (Up l c) none | false ↦ refl ]);
+        (record p { phase = cond z (begins_plan outputs p.refused (list_plan WritesFirst (each_record outs) p.known p.known.told)) (Doing [] (Ends (pos 0))) })) [ true ↦ begun (Up l c) none | false ↦ refl ]);
   }
   from_commit _ none fits given = cc
 
   sees : (rec : List ℕ) → bytes_with looks (Saw 0 rec) ≡ bytes → Gives gives looks x y bytes left' →
       After Looking (Saw 0 rec) (after (each_row yields outs) outputs p (Doing [] (Asks (Want.Read 0))) (Saw 0 rec))
   sees rec came given =
-      let g = given outs p.known.seen rec h stood came in record {
+      let g = given outs (records_of p.known.seen) rec h stood came in
+      let all : records_of (p.known.seen ++ (0, rec) ∷ []) ≡ records_of p.known.seen ++ rec ∷ [] = map-append (λ (q : RowPair). q.1) p.known.seen ((0, rec) ∷ []) in record {
         fits = refl;
-        gives_is = g.0;
+        gives_is = subst (gives y outs) (sym all) g.0;
         flags_are = refl;
         place_is = λ on.
-            ap (λ l. Doing (filter (is_live outputs p.refused) (writes l ++ Takes 0 ∷ [])) (Asks (Want.Read 0))) (sym g.1)
+            ap (λ l. Doing (filter (is_live outputs p.refused) (writes l ++ Takes 0 ∷ [])) (Asks (Want.Read 0))) (ap outs all ∙ sym g.1)
             ∙ ap (λ l. Doing l (Asks (Want.Read 0))) (live_acts outputs p.refused (open_from 0 outputs p.refused) (flag_open outputs p.refused) (last_seen (Saw 0 rec ∷ h)) left');
       }
 
   sees_end : (y ≡ x) × (left' ≡ left) → After Looking (SawEnd 0) (after (each_row yields outs) outputs p (Doing [] (Asks (Want.Read 0))) (SawEnd 0))
-  sees_end given = record { fits = refl; gives_is = subst (λ z. gives z outs p.known.seen) (sym given.0) stood; flags_are = refl; place_is = λ on. refl }
+  sees_end given = record { fits = refl; gives_is = subst (λ z. gives z outs (records_of p.known.seen)) (sym given.0) stood; flags_are = refl; place_is = λ on. refl }
 
   looked : (e : Event) → answers (Some (Want.Read 0)) e ≡ true → bytes_with looks e ≡ bytes → GivesAt gives looks x y (told e) bytes left left' →
       After Looking e (after (each_row yields outs) outputs p (Doing [] (Asks (Want.Read 0))) e)
@@ -173,13 +175,13 @@ module _ {L : Type 0} (gives : L → (List RowPair → List RowPair) → List Ro
       After Writing e (after (each_row yields outs) outputs p (Doing (Writes q.0 q.1 ∷ rest_of (last_seen h) (open_from 0 outputs p.refused) left) (Asks (Want.Read 0))) e)
   wrote q (Put o rec) fits given = record {
     fits = refl;
-    gives_is = subst (λ z. gives z outs p.known.seen) (sym given.0) stood;
+    gives_is = subst (λ z. gives z outs (records_of p.known.seen)) (sym given.0) stood;
     flags_are = refl;
     place_is = λ on. ap (λ l. Doing (rest_of (last_seen h) (open_from 0 outputs p.refused) l) (Asks (Want.Read 0))) (sym given.1);
   }
   wrote q (Refused r) fits given = record {
     fits = refl;
-    gives_is = subst (λ z. gives z outs p.known.seen) (sym given.0) stood;
+    gives_is = subst (λ z. gives z outs (records_of p.known.seen)) (sym given.0) stood;
     flags_are = closed_open 0 r outputs p.refused;
     place_is = λ on.
         let now = open_from 0 outputs (r ∷ p.refused) in
@@ -201,12 +203,12 @@ module _ {L : Type 0} (gives : L → (List RowPair → List RowPair) → List Ro
 
   took : (e : Event) → answers (Some (Want.Take 0)) e ≡ true → GivesAt gives looks x y (told e) bytes left left' →
       After Taking e (after (each_row yields outs) outputs p (Doing (Takes 0 ∷ []) (Asks (Want.Read 0))) e)
-  took (Took i) fits given = record { fits = fits; gives_is = subst (λ z. gives z outs p.known.seen) (sym given.0) stood; flags_are = refl; place_is = λ on. refl }
+  took (Took i) fits given = record { fits = fits; gives_is = subst (λ z. gives z outs (records_of p.known.seen)) (sym given.0) stood; flags_are = refl; place_is = λ on. refl }
   took _ fits given = cc
 
   ended : (e : Event) → answers (Some (Want.Done (pos 0))) e ≡ true → GivesAt gives looks x y (told e) bytes left left' →
       After Ending e (after (each_row yields outs) outputs p (Doing [] (Ends (pos 0))) e)
-  ended (Ended c) fits given = record { fits = refl; gives_is = subst (λ z. gives z outs p.known.seen) (sym given.0) stood; flags_are = refl; place_is = λ on. cc }
+  ended (Ended c) fits given = record { fits = refl; gives_is = subst (λ z. gives z outs (records_of p.known.seen)) (sym given.0) stood; flags_are = refl; place_is = λ on. cc }
   ended _ fits given = cc
 
   pub by_place : (f : Place) (e : Event) → PlaceIs true f (last_seen h) (open_from 0 outputs p.refused) left p → answers (want_in p.phase) e ≡ true → bytes_with looks e ≡ bytes →
@@ -268,7 +270,7 @@ kept_goes f e ends looks (Some kept) keeping bytes h fits looking came is =
     let whole : bytes_with true e ≡ bytes = ap (λ b. bytes_with b e) (sym (looking refl)) ∙ came in
     (is.0, taken_goes f e kept bytes h fits is.2 is.1, all_goes f e ends kept bytes h fits whole is.2)
 
-module _ {L : Type 0} (gives : L → (List RowPair → List RowPair) → List RowPair → Type 0) (looks : Bool) where
+module _ {L : Type 0} (gives : L → (Records → List RowPair) → Records → Type 0) (looks : Bool) where
   -- the driver after an event, before it asks
   pub goes : (x y : L) (place : Place) (bytes : List ℕ) (left left' : List Pair) (connected : Bool) (flags : List Bool) (kept : Option KeptText) (s : Strand) (h : List Event) (e : Event) →
       ThroughIs gives looks true x place left connected flags kept s h → answers (next s h) e ≡ true → bytes_with looks e ≡ bytes → GivesAt gives looks x y (told e) bytes left left' →
@@ -284,7 +286,7 @@ module _ {L : Type 0} (gives : L → (List RowPair → List RowPair) → List Ro
       record {
         outs = is.outs;
         row_is = is.row_is ∙ ap (λ b. each_row b is.outs) (sym same);
-        gives_is = subst (λ b. gives y is.outs (past_of b is.outs s (e ∷ h)).known.seen) (sym same) after.gives_is;
+        gives_is = subst (λ b. gives y is.outs (records_of (past_of b is.outs s (e ∷ h)).known.seen)) (sym same) after.gives_is;
         connected_is = is.connected_is;
         flags_are = ap (open_after (told e)) is.flags_are ∙ after.flags_are ∙ ap (λ b. open_from 0 s.ports.has_output (past_of b is.outs s (e ∷ h)).refused) (sym same);
         place_is = λ on.
@@ -292,6 +294,7 @@ module _ {L : Type 0} (gives : L → (List RowPair → List RowPair) → List Ro
             (subst (λ l. PlaceIs false (place_after place (told e) Looking (gives_up (told e) (is_none kept) connected (open_after (told e) l))) (last_seen (e ∷ h)) (open_after (told e) l) left' (past_of (is_none kept) is.outs s (e ∷ h))) (sym is.flags_are)
             (subst (λ c. PlaceIs false (place_after place (told e) Looking (gives_up (told e) (is_none kept) c (open_after (told e) (open_from 0 s.ports.has_output past.refused)))) (last_seen (e ∷ h)) (open_after (told e) (open_from 0 s.ports.has_output past.refused)) left' (past_of (is_none kept) is.outs s (e ∷ h))) (sym is.connected_is)
             (after.place_is on)));
+        looks_are = is.looks_are;
         looking = λ some. is.looking (sym same ∙ some);
         kept_is = kept_goes place e (gives_up (told e) (is_none kept) connected (open_after (told e) flags)) looks kept (form s).keeping bytes h after.fits is.looking came is.kept_is;
       }
@@ -349,6 +352,7 @@ module _ {L : Type 0} (gives : L → (List RowPair → List RowPair) → List Ro
       connected_is = is.connected_is;
       flags_are = is.flags_are;
       place_is = λ on. (by_want place place' left left' asked (last_seen h) flags (past_of (is_none kept) is.outs s h) (is.place_is on) asks).0;
+      looks_are = is.looks_are;
       looking = is.looking;
       kept_is = kept_asks place place' flags left left' asked kept (form s).keeping h asks is.kept_is;
     }
@@ -393,7 +397,7 @@ module _ {L : Type 0} (gives : L → (List RowPair → List RowPair) → List Ro
 
   module _ (x y : L) (seen : Seen) (bytes : List ℕ) (place place' : Place) (left pairs left' : List Pair) (connected connected' : Bool) (flags flags' : List Bool)
       (kept kept' : Option KeptText) (yields : Bool) (asked : Asked) (s : Strand) (h : List Event) (e : Event)
-      (is : ThroughIs gives looks true x place left connected flags kept s h) (answer : answers (next s h) e ≡ true) (seen_is : told e ≡ seen) (came : bytes_with looks e ≡ bytes)
+      (is : ThroughIs gives looks true x place left connected flags kept s h) (answer : answers (next s h) e ≡ true) (seen_is : told e ≡ seen) (came : bytes_with (form s).looks e ≡ bytes)
       (given : GivesAt gives looks x y seen bytes left pairs) (yields_is : yields ≡ is_none kept) (kept_is : kept' ≡ option_map (kept_after seen bytes) kept)
       (connected_is : connected' ≡ connected) (flags_are : flags' ≡ open_after seen flags)
       (asks : AsksFrom (place_after place seen Looking (gives_up seen yields connected (open_after seen flags))) (open_after seen flags) pairs place' left' asked) where
@@ -403,13 +407,14 @@ module _ {L : Type 0} (gives : L → (List RowPair → List RowPair) → List Ro
         let wants : AsksFrom (place_after place (told e) Looking (gives_up (told e) (is_none kept) connected (open_after (told e) flags))) (open_after (told e) flags) pairs place' left' asked =
         subst (λ z. AsksFrom (place_after place (told e) Looking (gives_up (told e) z connected (open_after (told e) flags))) (open_after (told e) flags) pairs place' left' asked) yields_is
         (subst (λ z. AsksFrom (place_after place z Looking (gives_up z yields connected (open_after z flags))) (open_after z flags) pairs place' left' asked) (sym seen_is) asks) in
+        let its : bytes_with looks e ≡ bytes = ap (λ b. bytes_with b e) is.looks_are ∙ came in
         let gave : GivesAt gives looks x y (told e) bytes left pairs = subst (λ z. GivesAt gives looks x y z bytes left pairs) (sym seen_is) given in
         let holds : kept' ≡ option_map (kept_after (told e) bytes) kept = kept_is ∙ ap (λ z. option_map (kept_after z bytes) kept) (sym seen_is) in
         let now : flags' ≡ open_after (told e) flags = flags_are ∙ ap (λ z. open_after z flags) (sym seen_is) in
         let new = asks_it y (place_after place (told e) Looking (gives_up (told e) (is_none kept) connected (open_after (told e) flags))) place' pairs left' connected (open_after (told e) flags)
-        (option_map (kept_after (told e) bytes) kept) asked s (e ∷ h) (goes x y place bytes left pairs connected flags kept s h e is answer came gave) wants in (
+        (option_map (kept_after (told e) bytes) kept) asked s (e ∷ h) (goes x y place bytes left pairs connected flags kept s h e is answer its gave) wants in (
           subst (λ z. ThroughIs gives looks true y place' left' z flags' kept' s (e ∷ h)) (sym connected_is)
               (subst (λ z. ThroughIs gives looks true y place' left' connected z kept' s (e ∷ h)) (sym now)
               (subst (λ z. ThroughIs gives looks true y place' left' connected (open_after (told e) flags) z s (e ∷ h)) (sym holds) new)),
-          owes x y place place' bytes left pairs left' connected flags kept asked s h e is answer came gave wants,
+          owes x y place place' bytes left pairs left' connected flags kept asked s h e is answer its gave wants,
         )

@@ -16,6 +16,7 @@ use Rattle.pipe_model.specs.Records.{text}
 use Rattle.pipe_model.specs.Shape.{Keeping}
 use Rattle.pipe_model.specs.Shape.Keeping.{Nothing, Console, File}
 use Rattle.pipe_model.specs.Next.{next}
+use Rattle.pipe_model.specs.Table.{form}
 
 -- the records last seen on the inputs
 abbrev pub last_seen : List Event → ℕ → List ℕ
@@ -55,7 +56,7 @@ told (Joined k code) = Told.Joined k code
 told (Severed s) = Told.Cut s
 told (Ended code) = Told.Ended code
 
--- the bytes that come with an event: those of the record that was seen, where the stage looks
+-- the bytes that come with an event: those of the record that was seen, where the strand looks
 abbrev pub bytes_with : Bool → Event → List ℕ
 bytes_with true (Saw i rec) = rec
 bytes_with _ _ = []
@@ -72,18 +73,18 @@ kept_by Console h = text (taken_from 0 h)
 kept_by (File name) h = text (taken_from 0 h)
 
 -- the value x stands for a strand's history, and this event answers what is wanted there
-pub record IsTold {S : Type 0} (stands : S → Strand → List Event → Type 0) (looks : Bool) (x : S) (seen : Seen) (bytes : List ℕ) (s : Strand) (h : List Event) (e : Event) : Type 0 where
+pub record IsTold {S : Type 0} (stands : S → Strand → List Event → Type 0) (x : S) (seen : Seen) (bytes : List ℕ) (s : Strand) (h : List Event) (e : Event) : Type 0 where
   pub stood : stands x s h
   pub answer : answers (next s h) e ≡ true
   pub seen_is : told e ≡ seen
-  pub bytes_are : bytes_with looks e ≡ bytes
+  pub bytes_are : bytes_with (form s).looks e ≡ bytes
   pub room : length h < 50000000
 
 -- there is such a strand, history and event
-abbrev pub CanResume : {S : Type 0} → (S → Strand → List Event → Type 0) → Bool → S → Seen → List ℕ → Type 0
-CanResume stands looks x seen bytes = (s : Strand) × (h : List Event) × (e : Event) × IsTold stands looks x seen bytes s h e
+abbrev pub CanResume : {S : Type 0} → (S → Strand → List Event → Type 0) → S → Seen → List ℕ → Type 0
+CanResume stands x seen bytes = (s : Strand) × (h : List Event) × (e : Event) × IsTold stands x seen bytes s h e
 
 -- for each such strand, history and event, the new value stands for the history with that event, and asks for what is wanted then
-abbrev pub Resumes : {S : Type 0} → (S → Strand → List Event → Type 0) → Bool → S → S → Seen → List ℕ → Asked → Type 0
-Resumes stands looks x y seen bytes asked = (s : Strand) (h : List Event) (e : Event) → IsTold stands looks x seen bytes s h e →
+abbrev pub Resumes : {S : Type 0} → (S → Strand → List Event → Type 0) → S → S → Seen → List ℕ → Asked → Type 0
+Resumes stands x y seen bytes asked = (s : Strand) (h : List Event) (e : Event) → IsTold stands x seen bytes s h e →
     stands y s (e ∷ h) × (Some (meaning asked (last_seen (e ∷ h))) ≡ owed s (e ∷ h))

@@ -1,11 +1,11 @@
 -- What the first stages stand for.
-use Rattle.std.specs.Prelude.{◌≡◌, Bool, true, false, List}
+use Rattle.std.specs.Prelude.{◌≡◌, true, List}
 use Rattle.pipe_model.specs.declared.net.Strand.{Strand}
 use Rattle.pipe_model.specs.declared.kind.Kind.{Kind}
 use Rattle.pipe_model.specs.declared.kind.Kind.TheVariants.{ConsoleIn, ConsoleOut, Locate}
 use Rattle.pipe_model.specs.Event.{Event}
 use Rattle.pipe_model.specs.Ranges.{locates}
-use Rattle.pipe_model.specs.Row.{selects}
+use Rattle.pipe_model.specs.Table.{selects}
 use Rattle.pipe_model.specs.Shape.{copied}
 use Rattle.stage_steps.specs.declared.first.FirstStage.{FirstStage}
 use Rattle.stage_steps.specs.declared.first.FirstStage.TheVariants.{Source, Sink, Locating}
@@ -25,9 +25,3 @@ FirstStands (Source x) s h = SourceIs true x.bytes x.at x.place x.is_open s h
 FirstStands (Sink x) s h = ThroughIs (λ lists outs seen. outs ≡ copied) true true x.lists x.walk.place x.walk.left x.walk.outputs.connected x.walk.outputs.flags.items x.kept s h
 FirstStands (Locating x) s h =
     ThroughIs (λ lists outs seen. outs ≡ selects (locates lists.range lists.text)) true true x.lists x.walk.place x.walk.left x.walk.outputs.connected x.walk.outputs.flags.items x.kept s h
-
--- it is given the bytes of the records that it sees
-abbrev pub first_looks : FirstStage → Bool
-first_looks (Source x) = false
-first_looks (Sink x) = true
-first_looks (Locating x) = true

@@ -1,13 +1,13 @@
 -- What a walk of pairs stands for: a strand's own past, by a row that tells the pairs of each record.
 use Rattle.std.specs.Prelude.{◌≡◌, ℕ, Bool, true, false, ◌&&◌, List, [], ◌∷◌, ◌++◌, pos, negsuc, map}
-use Rattle.std.specs.declared.option.Option.TheVariants.{None}
 use Rattle.pipe_model.specs.declared.step.Seen.{Seen}
 use Rattle.pipe_model.specs.declared.step.Seen.TheVariants.{Refused}
 use Rattle.pipe_model.specs.declared.step.Want.{Want as Asked}
 use Rattle.pipe_model.specs.declared.step.Want.TheVariants as Ask
 use Rattle.pipe_model.specs.Event.Want.{Read}
-use Rattle.pipe_model.specs.Row.{Pair as RowPair, Act, Row, through_plan}
-use Rattle.pipe_model.specs.Shape.{writes, each_record}
+use Rattle.pipe_model.specs.Row.{Pair as RowPair, Act, Row}
+use Rattle.pipe_model.specs.Shape.{Records, writes, listed, each_record}
+use Rattle.pipe_model.specs.Shape.Order.{WritesFirst}
 use Rattle.pipe_model.specs.Row.Act.{Writes, Takes}
 use Rattle.pipe_model.specs.Row.Goal.{Asks, Ends}
 use Rattle.pipe_model.specs.Next.{Phase, Past}
@@ -20,8 +20,8 @@ use Rattle.stage_steps.specs.Coroutine.{written}
 use Rattle.stage_steps.specs.Outputs.{live, none_left}
 
 -- Through and Sink: each record's pairs are written before it is taken, and where it yields, refusals end it
-abbrev pub each_row : Bool → (List RowPair → List RowPair) → Row
-each_row yields outs = record { early = None; plan = λ k. through_plan (each_record outs) (Read 0) k k.told; yields = yields }
+abbrev pub each_row : Bool → (Records → List RowPair) → Row
+each_row yields outs = record (listed WritesFirst (each_record outs)) { yields = yields }
 
 -- the walk ends at an event: it yields, and the last open output refused
 abbrev pub gives_up : Seen → Bool → Bool → List Bool → Bool

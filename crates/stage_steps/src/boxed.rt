@@ -7,8 +7,6 @@ use std::alloc::Global;
 impl<T: Stage> Stage for Box<T> {
     ghost stands = { λ x s h. T.stands x.value s h };
 
-    ghost is_looking = { λ x. T.is_looking x.value };
-
     fn first(&self) -> Want {
         (**self).first()
     }

@@ -62,13 +62,11 @@ fn copy_of(alloc: Global, text: &Option<Rec>) -> Result<Option<Rec>, NoMemory>
 }
 
 impl Stage for FirstStage {
-    ghost use Rattle.std.specs.Prelude.{◌≡◌, IfOk};
+    ghost use Rattle.std.specs.Prelude.{IfOk};
     ghost use Rattle.stage_steps.specs.Coroutine.{Resumes};
-    ghost use Rattle.stage_steps.specs.First.{FirstStands, first_looks};
+    ghost use Rattle.stage_steps.specs.First.{FirstStands};
 
     ghost stands = { λ x s h. FirstStands x s h };
-
-    ghost is_looking = { λ x. first_looks x };
 
     fn first(&self) -> Want {
         match self {
@@ -80,8 +78,7 @@ impl Stage for FirstStage {
 
     // It may be told any event; what isn't answered ends it.
     fn resume(&mut self, alloc: Global, seen: Seen, bytes: &[u8]) -> Result<Want, NoMemory>
-        ensures looks_same { first_looks self.new ≡ first_looks self.old }
-        ensures resumes { IfOk result (λ asked. Resumes (λ x s h. FirstStands x s h) (first_looks self.old) self.old self.new seen bytes.now asked) }
+        ensures { IfOk result (λ asked. Resumes (λ x s h. FirstStands x s h) self.old self.new seen bytes.now asked) }
     {
         match self {
             FirstStage::Source(stage) => stage.resume(alloc, seen, bytes),

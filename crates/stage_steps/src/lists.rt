@@ -1,5 +1,6 @@
 ghost use Rattle.std.specs.Prelude.{◌≡◌, List, [], Bool, IfOk};
 ghost use Rattle.pipe_model.specs.Row.{Pair as RowPair};
+ghost use Rattle.pipe_model.specs.Shape.{Records};
 ghost use Rattle.stage_steps.specs.Through.{Gives};
 
 use crate::outputs::Pairs;
@@ -9,7 +10,7 @@ use std::alloc::Global;
 /// What a stage writes: the pairs of each record.
 pub trait Lists: Sized + Drop {
     /// The value stands for this rule, which tells the pairs of a record by all records so far, after these records.
-    ghost gives: { Self → (List RowPair → List RowPair) → List RowPair → Type 0 };
+    ghost gives: { Self → (Records → List RowPair) → Records → Type 0 };
 
     /// It needs the bytes of the records.
     ghost is_looking: { Self → Bool };

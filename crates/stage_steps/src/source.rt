@@ -109,12 +109,10 @@ fn beginning(is_open: bool) -> Place
 
 impl Stage for Source {
     ghost use Rattle.stage_steps.specs.Coroutine.{Resumes};
-    ghost use Rattle.std.specs.Prelude.{◌≡◌, IfOk, true, false};
+    ghost use Rattle.std.specs.Prelude.{IfOk, true};
     ghost use Rattle.stage_steps.specs.Source.{SourceIs};
 
     ghost stands = { λ x s h. SourceIs true x.bytes x.at x.place x.is_open s h };
-
-    ghost is_looking = { λ _. false };
 
     fn first(&self) -> Want {
         Want::Commit(-1)
@@ -122,8 +120,7 @@ impl Stage for Source {
 
     // It may be told any event; what isn't answered ends it.
     fn resume(&mut self, alloc: Global, seen: Seen, _bytes: &[u8]) -> Result<Want, NoMemory>
-        ensures looks_same { false ≡ false }
-        ensures resumes { IfOk result (λ asked. Resumes (λ x s h. SourceIs true x.bytes x.at x.place x.is_open s h) (false) self.old self.new seen _bytes.now asked) }
+        ensures { IfOk result (λ asked. Resumes (λ x s h. SourceIs true x.bytes x.at x.place x.is_open s h) self.old self.new seen _bytes.now asked) }
     {
         self.place = place_after(self.place, seen, beginning(self.is_open), true);
         self.ask(alloc)

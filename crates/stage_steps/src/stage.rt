@@ -1,4 +1,4 @@
-ghost use Rattle.std.specs.Prelude.{◌≡◌, List, [], Bool, IfOk, Some};
+ghost use Rattle.std.specs.Prelude.{◌≡◌, List, [], IfOk, Some};
 ghost use Rattle.pipe_model.specs.declared.net.Strand.{Strand};
 ghost use Rattle.pipe_model.specs.Event.{Event};
 ghost use Rattle.pipe_model.specs.Next.{next};
@@ -13,9 +13,6 @@ pub trait Stage: Sized + Drop {
     /// The value stands for this history of this strand.
     ghost stands: { Self → Strand → List Event → Type 0 };
 
-    /// It is given the bytes of the records that it sees.
-    ghost is_looking: { Self → Bool };
-
     /// The first want of a fresh value.
     fn first(&self) -> Want
         ensures { (s : Strand) → stands self.now s [] → Some (meaning result (last_seen [])) ≡ next s [] };
@@ -23,13 +20,12 @@ pub trait Stage: Sized + Drop {
     /// The want after an event that answers the last one, and after `Ended(code)` `Done(code)`. `bytes` is the record
     /// where the event is a `Saw` and the stage looks, else empty. After want of memory the value isn't resumed again.
     fn resume(&mut self, alloc: Global, seen: Seen, bytes: &[u8]) -> Result<Want, NoMemory>
-        requires { CanResume stands (is_looking self.old) self.old seen bytes.now }
-        ensures looks_same { is_looking self.new ≡ is_looking self.old }
-        ensures resumes { IfOk result (λ asked. Resumes stands (is_looking self.old) self.old self.new seen bytes.now asked) };
+        requires { CanResume stands self.old seen bytes.now }
+        ensures { IfOk result (λ asked. Resumes stands self.old self.new seen bytes.now asked) };
 
-    /// Whether it is given the bytes of the records that it sees.
+    /// Whether it is given the bytes of the records that it sees: where the stage table says that it looks.
     fn looks(&self) -> bool
-        ensures { result ≡ is_looking self.now };
+        ensures { (s : Strand) (h : List Event) → stands self.now s h → result ≡ (form s).looks };
 
     /// The text of the records taken, where the stage keeps it, else nothing.
     fn kept(&self) -> &[u8]

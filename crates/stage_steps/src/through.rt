@@ -50,12 +50,10 @@ impl<L: Lists> Through<L> {
 
 impl<L: Lists> Stage for Through<L> {
     ghost use Rattle.stage_steps.specs.Coroutine.{Resumes};
-    ghost use Rattle.std.specs.Prelude.{◌≡◌, IfOk, true};
+    ghost use Rattle.std.specs.Prelude.{IfOk, true};
     ghost use Rattle.stage_steps.specs.Through.{ThroughIs};
 
     ghost stands = { λ x s h. ThroughIs L.gives (L.is_looking x.lists) true x.lists x.walk.place x.walk.left x.walk.outputs.connected x.walk.outputs.flags.items x.kept s h };
-
-    ghost is_looking = { λ x. L.is_looking x.lists };
 
     fn first(&self) -> Want {
         Want::Commit(-1)
@@ -63,8 +61,7 @@ impl<L: Lists> Stage for Through<L> {
 
     // It may be told any event; what isn't answered ends it.
     fn resume(&mut self, alloc: Global, seen: Seen, bytes: &[u8]) -> Result<Want, NoMemory>
-        ensures looks_same { L.is_looking self.new.lists ≡ L.is_looking self.old.lists }
-        ensures resumes { IfOk result (λ asked. Resumes (λ x s h. ThroughIs L.gives (L.is_looking x.lists) true x.lists x.walk.place x.walk.left x.walk.outputs.connected x.walk.outputs.flags.items x.kept s h) (L.is_looking self.old.lists) self.old self.new seen bytes.now asked) }
+        ensures { IfOk result (λ asked. Resumes (λ x s h. ThroughIs L.gives (L.is_looking x.lists) true x.lists x.walk.place x.walk.left x.walk.outputs.connected x.walk.outputs.flags.items x.kept s h) self.old self.new seen bytes.now asked) }
     {
         let yields = self.kept.is_none();
         match seen {

@@ -6,8 +6,8 @@ use Rattle.stage_steps.specs.Source.{SourceIs}
 use Rattle.stage_steps.proofs.Sources.{stands, owes}
 use Rattle.stage_steps.proofs.source.SourceStage.resume.Goals as goal
 
-pub returns-clause-resumes : goal.returns-clause-resumes
-returns-clause-resumes c =
+pub returns : goal.returns
+returns c =
     let x = c.args.self.now in
     let y = c.ask.new.self in
     let at : c.place_after-self.result ≡ place_after x.place c.args.seen (cond x.is_open Writing Ending) true =
