@@ -9,8 +9,21 @@ pub fn most_inputs(kind: &Kind) -> u16
     ensures { result ≡ inputs_by (line_of kind.now).shape }
 {
     match kind {
-        Kind::ConsoleOut | Kind::Locate { .. } | Kind::FanOut | Kind::Elastic | Kind::Copy => 1,
-        Kind::FanIn | Kind::FanInAny => 64,
+        Kind::ConsoleOut
+        | Kind::Locate { .. }
+        | Kind::FanOut
+        | Kind::Deal
+        | Kind::Elastic
+        | Kind::Copy => 1,
+        Kind::Lookup { .. } | Kind::Collate { .. } | Kind::Juxtapose => 2,
+        Kind::Merge(_)
+        | Kind::FanIn
+        | Kind::FanInAny
+        | Kind::Gather
+        | Kind::Overlay(_)
+        | Kind::Synchronise
+        | Kind::Gate
+        | Kind::Dam => 64,
         _ => 0,
     }
 }
@@ -22,12 +35,17 @@ pub fn most_outputs(kind: &Kind) -> u16
     match kind {
         Kind::ConsoleIn { .. }
         | Kind::ConsoleOut
+        | Kind::Merge(_)
         | Kind::FanIn
         | Kind::FanInAny
+        | Kind::Gather
+        | Kind::Overlay(_)
+        | Kind::Juxtapose
         | Kind::Elastic
         | Kind::Copy => 1,
         Kind::Locate { .. } => 2,
-        Kind::FanOut => 64,
+        Kind::Lookup { .. } | Kind::Collate { .. } => 3,
+        Kind::FanOut | Kind::Deal | Kind::Synchronise | Kind::Gate | Kind::Dam => 64,
         _ => 0,
     }
 }
