@@ -1,11 +1,16 @@
 -- Arguments that a specification can name.
-use Rattle.std.specs.Prelude.{ℕ, ◌+◌, Bool, true, false, ◌&&◌, nat_le, List, [], ◌∷◌}
+use Rattle.std.specs.Prelude.{ℕ, ◌+◌, Bool, true, false, ◌&&◌, not, ◌==◌, nat_le, List, [], ◌∷◌, length}
 use Rattle.std.specs.Int.{is_in_range}
 use Rattle.std.specs.declared.option.Option.{Option}
 use Rattle.std.specs.declared.option.Option.TheVariants.{Some, None}
+use Rattle.pipe_model.specs.declared.kind.Mapping.{Mapping}
+use Rattle.pipe_model.specs.declared.kind.Mapping.TheVariants.{Upper, Lower, Bytes}
 use Rattle.pipe_model.specs.declared.kind.Times.{Times}
 use Rattle.pipe_model.specs.declared.kind.Times.TheVariants.{Only, All}
 use Rattle.pipe_model.specs.declared.range.Range.{Range}
+use Rattle.pipe_model.specs.declared.range.Span.{Span}
+use Rattle.pipe_model.specs.declared.range.Span.TheVariants.{Columns, Words, Fields}
+use Rattle.pipe_model.specs.Members.{has}
 
 -- Words that several stages share
 
@@ -34,3 +39,34 @@ is_filled (b ∷ string) = true
 abbrev pub is_count : Times → Bool
 is_count (Only n) = nat_le n 2147483647
 is_count All = true
+
+-- Devices, Selection and Editing
+
+-- a name of a file
+abbrev pub is_name : List ℕ → Bool
+is_name name = is_in_range 1 255 (length name) && not (has name 32)
+
+-- LOCATE: a string isn't empty, where there is one
+abbrev pub is_locate : Range → Option (List ℕ) → Bool
+is_locate range None = is_range range
+is_locate range (Some text) = is_range range && is_filled text
+
+-- the range names columns
+abbrev pub are_columns : Span → Bool
+are_columns Columns = true
+are_columns Words = false
+are_columns Fields = false
+
+-- CHANGE: its strings may be empty
+abbrev pub is_change : Range → Times → Bool
+is_change range times = are_columns range.span && (is_range range && is_count times)
+
+-- a number of bytes, which may be 0
+abbrev pub is_length : ℕ → Bool
+is_length n = nat_le n greatest
+
+-- XLATE: its strings aren't empty, and equally long
+abbrev pub is_mapping : Mapping → Bool
+is_mapping Upper = true
+is_mapping Lower = true
+is_mapping (Bytes first second) = is_filled first && length first == length second

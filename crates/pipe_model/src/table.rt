@@ -9,12 +9,7 @@ pub fn most_inputs(kind: &Kind) -> u16
     ensures { result ≡ inputs_by (line_of kind.now).shape }
 {
     match kind {
-        Kind::ConsoleOut
-        | Kind::Locate { .. }
-        | Kind::FanOut
-        | Kind::Deal
-        | Kind::Elastic
-        | Kind::Copy => 1,
+        Kind::ConsoleIn { .. } | Kind::FileIn { .. } => 0,
         Kind::Lookup { .. } | Kind::Collate { .. } | Kind::Juxtapose => 2,
         Kind::Merge(_)
         | Kind::FanIn
@@ -24,7 +19,7 @@ pub fn most_inputs(kind: &Kind) -> u16
         | Kind::Synchronise
         | Kind::Gate
         | Kind::Dam => 64,
-        _ => 0,
+        _ => 1,
     }
 }
 
@@ -33,19 +28,22 @@ pub fn most_outputs(kind: &Kind) -> u16
     ensures { result ≡ outputs_by (line_of kind.now) }
 {
     match kind {
-        Kind::ConsoleIn { .. }
-        | Kind::ConsoleOut
-        | Kind::Merge(_)
-        | Kind::FanIn
-        | Kind::FanInAny
-        | Kind::Gather
-        | Kind::Overlay(_)
-        | Kind::Juxtapose
-        | Kind::Elastic
-        | Kind::Copy => 1,
-        Kind::Locate { .. } => 2,
+        Kind::Locate { .. }
+        | Kind::Nlocate { .. }
+        | Kind::Find { .. }
+        | Kind::Nfind { .. }
+        | Kind::TakeFirst(_)
+        | Kind::TakeLast(_)
+        | Kind::DropFirst(_)
+        | Kind::DropLast(_)
+        | Kind::Between { .. }
+        | Kind::Inside { .. }
+        | Kind::ToLabel { .. }
+        | Kind::FrLabel { .. }
+        | Kind::Chop(_)
+        | Kind::Unique { .. } => 2,
         Kind::Lookup { .. } | Kind::Collate { .. } => 3,
         Kind::FanOut | Kind::Deal | Kind::Synchronise | Kind::Gate | Kind::Dam => 64,
-        _ => 0,
+        _ => 1,
     }
 }

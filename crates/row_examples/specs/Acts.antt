@@ -1,9 +1,12 @@
 -- What a stage that reads at most one input does over all its records, where every write is taken.
-use Rattle.std.specs.Prelude.{ℕ, Bool, true, ◌==◌, List, [], ◌∷◌, ◌++◌, ℤ, pos, codes, filter, length}
+use Rattle.std.specs.Prelude.{ℕ, Bool, true, false, ◌==◌, List, [], ◌∷◌, ◌++◌, ℤ, pos, codes, filter, length}
 use Prim.Native.String.{String}
 use Rattle.std.specs.List.{slice_split}
+use Rattle.std.specs.declared.option.Option.TheVariants.{Some, None}
 use Rattle.pipe_model.specs.declared.kind.Kind.{Kind}
 use Rattle.pipe_model.specs.declared.net.Strand.{Strand}
+use Rattle.pipe_model.specs.declared.range.Range.{Range}
+use Rattle.pipe_model.specs.declared.range.Span.TheVariants.{Columns, Words, Fields}
 use Rattle.pipe_model.specs.Event.Event.{Saw, SawEnd}
 use Rattle.pipe_model.specs.Next.{is_live, learned, nothing_known}
 use Rattle.pipe_model.specs.Row.{Act, Goal, Plan, Known, Row}
@@ -64,6 +67,28 @@ one = true ∷ []
 -- two outputs, both connected
 abbrev pub both : List Bool
 both = true ∷ true ∷ []
+
+-- two outputs, of which only the second is connected
+abbrev pub second : List Bool
+second = false ∷ true ∷ []
+
+-- one output, which isn't connected
+abbrev pub none : List Bool
+none = false ∷ []
+
+-- parts of a record from a first one to a last one
+abbrev pub columns : ℕ → ℕ → Range
+columns first last = record { span = Columns; first = first; last = Some last }
+
+abbrev pub words : ℕ → ℕ → Range
+words first last = record { span = Words; first = first; last = Some last }
+
+abbrev pub fields : ℕ → ℕ → Range
+fields first last = record { span = Fields; first = first; last = Some last }
+
+-- columns from one on
+abbrev pub columns_from : ℕ → Range
+columns_from first = record { span = Columns; first = first; last = None }
 
 -- it writes the text on the output
 abbrev pub to : ℕ → String → Act
