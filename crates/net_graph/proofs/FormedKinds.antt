@@ -10,7 +10,7 @@ use Rattle.pipe_model.specs.Straight.{all_columns}
 use Rattle.pipe_model.specs.Table.{line_of}
 use Rattle.pipe_model.specs.Form.{parting_by}
 use Rattle.pipe_model.specs.Form.Parting.{Whole}
-use Rattle.pipe_model.specs.Proper.{is_filled, is_range}
+use Rattle.pipe_model.specs.Proper.{is_filled, is_locate, is_range}
 use Rattle.stage_syntax.specs.Arg.{ArgText}
 use Rattle.stage_syntax.specs.declared.part.Value.{Value}
 use Rattle.stage_syntax.specs.declared.part.Value.TheVariants as Read
@@ -30,8 +30,12 @@ plain_console : (first : Bool) → IsPlain first (console_kind first)
 plain_console true = record { whole = refl; output = omega arith; input = λ is. cc; proper = refl }
 plain_console false = record { whole = refl; output = omega arith; input = λ is. omega arith; proper = refl }
 
+found_is_proper : (range : Range) (text : Option (List ℕ)) → is_range range ≡ true → IfSome text (λ string. is_filled string ≡ true) → is_locate range text ≡ true
+found_is_proper range None proper filled = proper
+found_is_proper range (Some string) proper filled = rw (proper, filled) refl
+
 plain_found : (first : Bool) (range : Range) (text : Option (List ℕ)) → is_range range ≡ true → IfSome text (λ string. is_filled string ≡ true) → IsPlain first (Locate range text)
-plain_found first range text proper filled = record { whole = refl; output = omega arith; input = λ is. omega arith; proper = refl }
+plain_found first range text proper filled = record { whole = refl; output = omega arith; input = λ is. omega arith; proper = found_is_proper range text proper filled }
 
 plain_locate : (first : Bool) (values : List Value) → AreOfRow locate_row [] values → IfSome (locate_kind values) (IsPlain first)
 plain_locate first [] are = tt
