@@ -6,10 +6,14 @@ use Rattle.std.proofs.lemmas.List.Elements.{filter-append}
 use Rattle.std.proofs.lemmas.List.FromFn.{fill_by_all}
 use Rattle.std.proofs.lemmas.Option.{slice_get_cases, get_or_from_slice_get}
 use Rattle.pipe_model.specs.declared.kind.Kind.{Kind}
-use Rattle.pipe_model.specs.declared.kind.Kind.TheVariants.{ConsoleIn, ConsoleOut, Locate, FanOut, FanIn, FanInAny, Elastic, Copy}
 use Rattle.pipe_model.specs.declared.net.Link.{Link}
 use Rattle.pipe_model.specs.declared.net.Net.{Net}
 use Rattle.pipe_model.specs.declared.net.Strand.{Strand}
+use Rattle.pipe_model.specs.Table.{line_of}
+use Rattle.pipe_model.specs.Form.{inputs_by, most_of}
+use Rattle.pipe_model.specs.Shape.{Shape, Width}
+use Rattle.pipe_model.specs.Shape.Width.{Two, All}
+use Rattle.pipe_model.specs.Shape.Shape.{Absent, Sources, Lists, Sinks, Firsts, Turns, Rounds, Gates, Dams, Queues}
 use Rattle.spec_scanner.specs.declared.piece.Piece.{Piece}
 use Rattle.spec_scanner.specs.declared.piece.PieceKind.{PieceKind}
 use Rattle.spec_scanner.specs.declared.piece.PieceKind.TheVariants.{Stage, Reference, Connector}
@@ -88,25 +92,27 @@ later_is pipelines scanned =
     let uses = uses_past [] (pieces_of pipelines) in
     later_all (stands_of pipelines) uses (counted_uses (stands_of pipelines) uses (told_whole pipelines scanned)) pipelines
 
+few_of : (width : Width) → most_of width ≤ 64
+few_of Two = omega arith
+few_of All = omega arith
+
+few_by : (shape : Shape) → inputs_by shape ≤ 64
+few_by Absent = omega arith
+few_by (Sources pairs) = omega arith
+few_by (Lists order t) = omega arith
+few_by (Sinks keeping) = omega arith
+few_by (Firsts width settles outs) = few_of width
+few_by (Turns width t) = few_of width
+few_by (Rounds width t) = few_of width
+few_by Gates = omega arith
+few_by Dams = omega arith
+few_by Queues = omega arith
+
 few_inputs : (kind : Kind) → inputs_of kind ≤ 64
-few_inputs (ConsoleIn bytes) = omega arith
-few_inputs ConsoleOut = omega arith
-few_inputs (Locate range text) = omega arith
-few_inputs FanOut = omega arith
-few_inputs FanIn = omega arith
-few_inputs FanInAny = omega arith
-few_inputs Elastic = omega arith
-few_inputs Copy = omega arith
+few_inputs kind = few_by (line_of kind).shape
 
 few_outputs : (kind : Kind) → outputs_of kind ≤ 64
-few_outputs (ConsoleIn bytes) = omega arith
-few_outputs ConsoleOut = omega arith
-few_outputs (Locate range text) = omega arith
-few_outputs FanOut = omega arith
-few_outputs FanIn = omega arith
-few_outputs FanInAny = omega arith
-few_outputs Elastic = omega arith
-few_outputs Copy = omega arith
+few_outputs kind = min-le_right (line_of kind).outputs 64
 
 row_same : (flags : List Bool) (count : ℕ) (is_linked : ℕ → ℕ → Bool) → AreFlags flags count is_linked → (stage places : ℕ) → stage < count → places ≤ 64 →
     row_by flags stage places ≡ map (is_linked stage) (range_with_len 0 places)

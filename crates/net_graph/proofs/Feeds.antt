@@ -1,54 +1,55 @@
 -- A net whose reading CONSOLE is given bytes stays well-formed.
-use Rattle.std.proofs.Common.{◌≡◌, ◌≢◌, ◌⊎◌, inl, inr, ℕ, ◌+◌, ◌-◌, ◌<◌, true, List, ◌∙◌, length, length-set, slice_get, slice_set, refl, ap, sym, subst, arith, Option, Some, None}
+use Rattle.std.proofs.Common.{◌≡◌, ◌≢◌, ◌⊎◌, inl, inr, ℕ, ◌+◌, ◌-◌, ◌<◌, true, List, ◌∙◌, length, length-set, slice_get, slice_set, refl, ap, ap₂, sym, subst, arith, Option, Some, None}
 use Rattle.std.specs.Option.{option_map_or}
 use Rattle.pipe_model.specs.declared.kind.Kind.{Kind}
-use Rattle.pipe_model.specs.declared.kind.Kind.TheVariants.{ConsoleIn, ConsoleOut, Locate, FanOut, FanIn, FanInAny, Elastic, Copy}
+use Rattle.pipe_model.specs.declared.kind.Kind.TheVariants.{ConsoleIn}
 use Rattle.pipe_model.specs.declared.net.Link.{Link}
 use Rattle.pipe_model.specs.declared.net.Net.{Net}
 use Rattle.pipe_model.specs.declared.net.Strand.{Strand}
 use Rattle.pipe_model.specs.State.{nothing_yet, strand_at}
 use Rattle.pipe_model.specs.Members.{flag_at}
 use Rattle.pipe_model.specs.Table.{form, line_of}
-use Rattle.pipe_model.specs.Form.{Parting}
+use Rattle.pipe_model.specs.Form.{Parting, parting_by}
 use Rattle.pipe_model.specs.Form.Parting.{Whole}
 use Rattle.pipe_model.specs.WellFormed.{IsJoined, IsOfStage, IsQueue, IsWellFormed, TellsPorts, places_of, strands_of}
+use Rattle.net_graph.specs.Nets.{inputs_of, outputs_of}
 use Rattle.net_graph.specs.Fed.{fed, reader_of, reads_input, with_kind}
 use Rattle.net_graph.proofs.FormedLists.{equal_or_not, get_set_other, get_set_same}
 use Rattle.net_graph.proofs.FormedPositions.{position_finds}
 
-reading : (kind : Kind) → reads_input kind ≡ true → (bytes : List ℕ) × (kind ≡ ConsoleIn bytes)
-reading (ConsoleIn bytes) is = (bytes, refl)
-reading ConsoleOut is = cc
-reading (Locate range text) is = cc
-reading FanOut is = cc
-reading FanIn is = cc
-reading FanInAny is = cc
-reading Elastic is = cc
-reading Copy is = cc
+-- a kind that a net's form can't tell from another, of which a stage has one strand
+record IsAlike (old new : Kind) : Type 0 where
+  inputs : inputs_of new ≡ inputs_of old
+  outputs : outputs_of new ≡ outputs_of old
+  proper : (line_of new).proper ≡ (line_of old).proper
+  whole : parting_by (line_of old).shape ≡ Whole
+  still_whole : parting_by (line_of new).shape ≡ Whole
+
+-- the table feeds the input to the CONSOLE that reads, and to no other
+other_bytes : (kind : Kind) → reads_input kind ≡ true → (bytes : List ℕ) → IsAlike kind (ConsoleIn bytes)
+other_bytes (ConsoleIn old) reads bytes = record { inputs = refl; outputs = refl; proper = refl; whole = refl; still_whole = refl }
+other_bytes _ reads bytes = cc
 
 -- a strand of another kind that the net's form can't tell from it
 record IsLike (p q : Strand) : Type 0 where
-  name : q.name ≡ p.name
   part : q.part ≡ p.part
   unit : q.unit ≡ p.unit
   ports : q.ports ≡ p.ports
   parting : (form q).parting ≡ (form p).parting
+  proper : (form q).proper ≡ (form p).proper
 
 itself : (p : Strand) → IsLike p p
-itself p = record { name = refl; part = refl; unit = refl; ports = refl; parting = refl }
+itself p = record { part = refl; unit = refl; ports = refl; parting = refl; proper = refl }
 
-module _ (net : Net) (s : ℕ) (p : Strand) (here : slice_get net.strands s ≡ Some p) (old bytes : List ℕ) (kind : p.kind ≡ ConsoleIn old) where
+module _ (net : Net) (s : ℕ) (p : Strand) (here : slice_get net.strands s ≡ Some p) (kind : Kind) (alike : IsAlike p.kind kind) where
   abbrev read : Strand
-  read = record p { kind = ConsoleIn bytes }
+  read = record p { kind = kind }
 
   abbrev new : Net
   new = record net { strands = slice_set net.strands s read }
 
-  whole : (form p).parting ≡ Whole
-  whole = ap (λ (k : Kind). (line_of p k).parting) kind
-
   like : IsLike p read
-  like = record { name = refl; part = refl; unit = refl; ports = refl; parting = sym whole }
+  like = record { part = refl; unit = refl; ports = refl; parting = alike.still_whole ∙ sym alike.whole; proper = alike.proper }
 
   at_read : strand_at new nothing_yet s ≡ Some read
   at_read = get_set_same net.strands s read p here
@@ -109,17 +110,22 @@ module _ (net : Net) (s : ℕ) (p : Strand) (here : slice_get net.strands s ≡ 
 
     staged_read : (m : ℕ) → IsOfStage net s p m → IsOfStage new s read m
     staged_read m st =
-        let one = ap (λ (x : Parting). strands_of x m) whole in
+        let one = ap (λ (x : Parting). strands_of x m) alike.whole in
+        let still_one = ap (λ (x : Parting). strands_of x m) alike.still_whole in
         record {
           some = st.some;
           few = st.few;
-          part = omega (arith, st.part, one);
+          part = omega (arith, st.part, one, still_one);
           first = st.first;
-          inputs = st.inputs ∙ ap (λ (k : Kind). places_of (line_of p k).parting (line_of p k).inputs m) kind;
-          outputs = st.outputs ∙ ap (λ (k : Kind). places_of (line_of p k).parting (line_of p k).outputs m) kind;
-          others = λ k below. (let only : s - p.part + k ≡ s = omega (arith, st.part, one, below) in
-              (read, ap (slice_get new.strands) only ∙ at_read, omega (arith, st.part, one, below), refl, refl));
-          alone = λ t q is name. (let b = back t q is in let a = st.alone t b.0 b.1 (sym b.2.name ∙ name) in (a.0, omega (arith, a.1, one)));
+          inputs = st.inputs ∙ ap₂ (λ (x : Parting) (n : ℕ). places_of x n m) (sym like.parting) (sym alike.inputs);
+          outputs = st.outputs ∙ ap₂ (λ (x : Parting) (n : ℕ). places_of x n m) (sym like.parting) (sym alike.outputs);
+          others = λ k below. (let only : s - p.part + k ≡ s = omega (arith, st.part, one, still_one, below) in
+              (read, ap (slice_get new.strands) only ∙ at_read, omega (arith, st.part, one, still_one, below), refl));
+          closed = λ q is. (
+              let ends : s - p.part + strands_of (form read).parting m ≡ s - p.part + strands_of (form p).parting m = omega (arith, one, still_one) in
+              let b = back (s - p.part + strands_of (form read).parting m) q is in
+              b.2.part ∙ st.closed b.0 (ap (slice_get net.strands) (sym ends) ∙ b.1)
+              );
         }
 
     staged_other : (t : ℕ) → t ≢ s → (q : Strand) (m : ℕ) → IsOfStage net t q m → IsOfStage new t q m
@@ -131,18 +137,18 @@ module _ (net : Net) (s : ℕ) (p : Strand) (here : slice_get net.strands s ≡ 
       inputs = st.inputs;
       outputs = st.outputs;
       others = λ k below. other k below (equal_or_not (t - q.part + k) s);
-      alone = λ u r is name. (let b = back u r is in st.alone u b.0 b.1 (sym b.2.name ∙ name));
+      closed = λ r is. (let b = back (t - q.part + strands_of (form q).parting m) r is in b.2.part ∙ st.closed b.0 b.1);
     } where
       other : (k : ℕ) → k < strands_of (form q).parting m → (t - q.part + k ≡ s) ⊎ (t - q.part + k ≢ s) →
-          (r : Strand) × (strand_at new nothing_yet (t - q.part + k) ≡ Some r) × (r.part ≡ k) × (r.name ≡ q.name) × (r.kind ≡ q.kind)
+          (r : Strand) × (strand_at new nothing_yet (t - q.part + k) ≡ Some r) × (r.part ≡ k) × (r.kind ≡ q.kind)
       other k below (inl same) =
           let o = st.others k below in
           let e : Some p ≡ Some o.0 = sym here ∙ (ap (slice_get net.strands) (sym same) ∙ o.1) in
           let is : p ≡ o.0 = cc in
-          let reads : q.kind ≡ ConsoleIn old = sym o.4 ∙ (ap (λ (x : Strand). x.kind) (sym is) ∙ kind) in
-          let one = ap (λ (x : Kind). strands_of (line_of q x).parting m) reads in
+          let kinds : q.kind ≡ p.kind = sym o.3 ∙ ap (λ (x : Strand). x.kind) (sym is) in
+          let one = ap (λ (x : Kind). strands_of (parting_by (line_of x).shape) m) kinds ∙ ap (λ (x : Parting). strands_of x m) alike.whole in
           absurd (apart (omega (arith, same, below, one, st.part)))
-      other k below (inr there) = let o = st.others k below in (o.0, at_other (t - q.part + k) there ∙ o.1, o.2, o.3, o.4)
+      other k below (inr there) = let o = st.others k below in (o.0, at_other (t - q.part + k) there ∙ o.1, o.2, o.3)
 
     staged : (t : ℕ) (r : Strand) → strand_at new nothing_yet t ≡ Some r → (m : ℕ) × IsOfStage new t r m
     staged t r is = by (equal_or_not t s) where
@@ -162,6 +168,7 @@ module _ (net : Net) (s : ℕ) (p : Strand) (here : slice_get net.strands s ≡ 
       one_in = formed.one_in;
       told = told;
       staged = staged;
+      proper = λ t r is. (let q = back t r is in q.2.proper ∙ formed.proper t q.0 q.1);
       main = λ t r is. (let q = back t r is in q.2.unit ∙ formed.main t q.0 q.1);
       queues = λ j link is. (let q = formed.queues j link is in (λ queue. queue_forth link (q.0 queue), λ queue. q.1 (queue_back link queue)));
       queued = λ t r is parting part. (let q = back t r is in formed.queued t q.0 q.1 (sym q.2.parting ∙ parting) (sym q.2.part ∙ part));
@@ -171,10 +178,9 @@ module _ (net : Net) (s : ℕ) (p : Strand) (here : slice_get net.strands s ≡ 
 pub with_input : (net : Net) (strand : ℕ) (p : Strand) (bytes : List ℕ) → slice_get net.strands strand ≡ Some p → reads_input p.kind ≡ true → IsWellFormed net →
     IsWellFormed (with_kind net strand (ConsoleIn bytes))
 with_input net strand p bytes here reads formed =
-    let old = reading p.kind reads in
     subst IsWellFormed (sym (ap (λ (found : Option Strand). record net {
       strands = option_map_or (λ (q : Strand). slice_set net.strands strand (record q { kind = ConsoleIn bytes })) found net.strands;
-    }) here)) (still_formed net strand p here old.0 bytes old.1 formed)
+    }) here)) (still_formed net strand p here (ConsoleIn bytes) (other_bytes p.kind reads bytes) formed)
 
 pub still_whole : (bytes : List ℕ) (net : Net) → IsWellFormed net → IsWellFormed (fed bytes net)
 still_whole bytes net formed = by (reader_of net) refl where
@@ -190,5 +196,5 @@ pub with_strands : (net : Net) (strand : ℕ) (p q : Strand) (bytes : List ℕ) 
 with_strands net strand p q bytes strands here reads found is formed =
     let e : Some p ≡ Some q = sym here ∙ found in
     let same : p ≡ q = cc in
-    let old = reading q.kind (ap (λ (x : Strand). reads_input x.kind) (sym same) ∙ reads) in
-    subst (λ (x : List Strand). IsWellFormed (record { strands = x; links = net.links })) (sym is) (still_formed net strand q found old.0 bytes old.1 formed)
+    let alike = other_bytes q.kind (ap (λ (x : Strand). reads_input x.kind) (sym same) ∙ reads) bytes in
+    subst (λ (x : List Strand). IsWellFormed (record { strands = x; links = net.links })) (sym is) (still_formed net strand q found (ConsoleIn bytes) alike formed)

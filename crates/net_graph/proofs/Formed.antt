@@ -1,5 +1,5 @@
 -- The net of a specification without a fault is well-formed.
-use Rattle.std.proofs.Common.{◌≡◌, ◌⊎◌, inl, inr, ℕ, suc, ◌+◌, ◌-◌, ◌≤◌, ◌<◌, true, false, ◌&&◌, ◌==◌, List, [], ◌∷◌, refl, sym, ◌∙◌, ap, subst, arith, Some, slice_get, map}
+use Rattle.std.proofs.Common.{◌≡◌, ◌⊎◌, inl, inr, ℕ, suc, ◌+◌, ◌-◌, ◌≤◌, ◌<◌, true, false, ◌&&◌, ◌==◌, List, [], refl, sym, ◌∙◌, ap, subst, arith, Some, slice_get, map}
 use Rattle.std.specs.Prelude.{min, Ok, ◌↔◌}
 use Rattle.std.proofs.lemmas.List.FromFn.{length-map-range_with_len}
 use Rattle.pipe_model.specs.declared.kind.Kind.{Kind}
@@ -124,20 +124,11 @@ module _ (pipelines : List (List Piece)) (kinds : List Kind) (scanned : AreScann
     abbrev own : Strand
     own = strand_of whole links s stage kind
 
-    whole_is : (form own).parting ≡ Whole
-    whole_is = plain.whole own
-
     one : (m : ℕ) → strands_of (form own).parting m ≡ 1
-    one m = ap (λ parting. strands_of parting m) whole_is
+    one m = ap (λ parting. strands_of parting m) plain.whole
 
-    alone : (t : Who) (q : Strand) → strand_at net nothing_yet t ≡ Some q → q.name ≡ own.name → t ≡ s
-    alone t q there same =
-        let it = of_stage t q there in
-        let names : t ∷ [] ≡ s ∷ [] = ap (λ (x : Strand). x.name) (sym it.strand) ∙ same in
-        cc
-
-    others : (k : ℕ) → k < 1 → (q : Strand) × (strand_at net nothing_yet (s - 0 + k) ≡ Some q) × (q.part ≡ k) × (q.name ≡ own.name) × (q.kind ≡ own.kind)
-    others k below = (own, ap (strand_at net nothing_yet) (omega (arith, below)) ∙ is, omega (arith, below), refl, refl)
+    others : (k : ℕ) → k < 1 → (q : Strand) × (strand_at net nothing_yet (s - 0 + k) ≡ Some q) × (q.part ≡ k) × (q.kind ≡ own.kind)
+    others k below = (own, ap (strand_at net nothing_yet) (omega (arith, below)) ∙ is, omega (arith, below), refl)
 
     alone_at : IsOfStage net s own (streams_of whole stage.piece.label)
     alone_at =
@@ -147,10 +138,10 @@ module _ (pipelines : List (List Piece)) (kinds : List Kind) (scanned : AreScann
           few = few_streams_of pipelines kinds scanned read good stage.piece.label;
           part = omega (arith, one m);
           first = omega arith;
-          inputs = ap (min m) (sym (plain.same_inputs own)) ∙ ap (λ parting. places_of parting (form own).inputs m) (sym whole_is);
-          outputs = ap (min m) (sym (plain.same_outputs own)) ∙ ap (λ parting. places_of parting (form own).outputs m) (sym whole_is);
+          inputs = ap (λ parting. places_of parting (form own).inputs m) (sym plain.whole);
+          outputs = ap (λ parting. places_of parting (form own).outputs m) (sym plain.whole);
           others = λ k below. others k (omega (arith, below, one m));
-          alone = λ t q there same. (omega (arith, alone t q there same), omega (arith, alone t q there same, one m));
+          closed = λ q there. ap (λ (x : Strand). x.part) (of_stage (s - 0 + strands_of (form own).parting m) q there).strand;
         }
 
   staged : (s : Who) (p : Strand) → strand_at net nothing_yet s ≡ Some p → (m : ℕ) × IsOfStage net s p m
@@ -164,7 +155,7 @@ module _ (pipelines : List (List Piece)) (kinds : List Kind) (scanned : AreScann
   not_queued : (s : Who) (p : Strand) → strand_at net nothing_yet s ≡ Some p → (form p).parting ≡ Queued → ⊥
   not_queued s p is queued =
       let it = of_stage s p is in
-      let parting : Whole ≡ Queued = sym (it.plain.whole (strand_of whole links s it.stage it.kind)) ∙ ap (λ q. (form q).parting) (sym it.strand) ∙ queued in
+      let parting : Whole ≡ Queued = sym it.plain.whole ∙ ap (λ q. (form q).parting) (sym it.strand) ∙ queued in
       cc
 
   queues : (j : ℕ) (link : Link) → slice_get links j ≡ Some link → (link.queue ≡ true) ↔ IsQueue net link
@@ -180,6 +171,7 @@ module _ (pipelines : List (List Piece)) (kinds : List Kind) (scanned : AreScann
     one_in = λ j k a b. lone_in pipelines scanned 0 links j k a b (leads_of pipelines);
     told = told;
     staged = staged;
+    proper = λ s p is. (let it = of_stage s p is in ap (λ (q : Strand). (form q).proper) it.strand ∙ it.plain.proper);
     main = λ s p is. ap (λ (q : Strand). q.unit) (of_stage s p is).strand;
     queues = queues;
     queued = λ s p is queued part. absurd (not_queued s p is queued);

@@ -7,11 +7,17 @@ use Rattle.pipe_model.specs.declared.kind.Kind.{Kind}
 use Rattle.pipe_model.specs.declared.kind.Kind.TheVariants.{ConsoleIn}
 use Rattle.pipe_model.specs.declared.net.Net.{Net}
 use Rattle.pipe_model.specs.declared.net.Strand.{Strand}
+use Rattle.pipe_model.specs.Table.{Feed, line_of}
+use Rattle.pipe_model.specs.Table.Feed.{Unfed, Input, OfFile}
 
--- the kind is the CONSOLE that reads
+abbrev pub is_input : Feed → Bool
+is_input Unfed = false
+is_input Input = true
+is_input (OfFile name) = false
+
+-- the kind is the CONSOLE that reads: the table says that it is fed the input
 abbrev pub reads_input : Kind → Bool
-reads_input (ConsoleIn bytes) = true
-reads_input _ = false
+reads_input kind = is_input (line_of kind).feed
 
 -- the strand of the CONSOLE that reads; a net of a specification has one at most
 abbrev pub reader_of : Net → Option ℕ

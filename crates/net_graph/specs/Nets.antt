@@ -9,7 +9,8 @@ use Rattle.pipe_model.specs.declared.net.Link.{Link}
 use Rattle.pipe_model.specs.declared.net.Net.{Net}
 use Rattle.pipe_model.specs.declared.net.Ports.{Ports}
 use Rattle.pipe_model.specs.declared.net.Strand.{Strand}
-use Rattle.pipe_model.specs.Table.{line_of}
+use Rattle.pipe_model.specs.Form.{inputs_by}
+use Rattle.pipe_model.specs.Table.{line_of, outputs_by}
 use Rattle.stage_syntax.specs.declared.fault.KindFault.{KindFault}
 use Rattle.stage_syntax.specs.declared.fault.KindFault.TheVariants.{NoMemory}
 use Rattle.stage_syntax.specs.Kinds.{IsKind, IsNoKind}
@@ -57,16 +58,12 @@ links_from stands before (pipeline ∷ pipelines) = links_in stands before pipel
 abbrev pub links_of : List (List Piece) → List Link
 links_of pipelines = links_from (stands_of pipelines) 0 pipelines
 
--- a strand without places
-abbrev pub unplaced : Kind → Strand
-unplaced kind = record { name = []; kind = kind; part = 0; unit = 0; ports = record { inputs = 0; outputs = 0; has_input = []; has_output = [] } }
-
 -- the greatest number of inputs and of outputs of a kind
 abbrev pub inputs_of : Kind → ℕ
-inputs_of kind = (line_of (unplaced kind) kind).inputs
+inputs_of kind = inputs_by (line_of kind).shape
 
 abbrev pub outputs_of : Kind → ℕ
-outputs_of kind = (line_of (unplaced kind) kind).outputs
+outputs_of kind = outputs_by (line_of kind)
 
 -- the stage has a link to an input, or from an output
 abbrev pub is_linked_in : List Link → ℕ → ℕ → Bool

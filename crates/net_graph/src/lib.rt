@@ -10,7 +10,6 @@ mod joins;
 mod laws;
 mod notes;
 mod outcomes;
-mod places;
 mod search;
 mod strands;
 mod table;

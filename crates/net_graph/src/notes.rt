@@ -4,8 +4,7 @@ ghost use Rattle.net_graph.specs.Searches as Searches;
 ghost use Rattle.net_graph.specs.Searches.{labelled_kind, stand};
 ghost use Rattle.spec_scanner.specs.Faults as Found;
 
-use crate::places::{most_inputs, most_outputs};
-use pipe_model::Kind;
+use pipe_model::{Kind, most_inputs, most_outputs};
 use spec_scanner::{Fault, Piece, least};
 use stage_syntax::KindFault;
 

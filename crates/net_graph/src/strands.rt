@@ -2,8 +2,7 @@ ghost use Rattle.std.specs.Prelude.{◌≡◌, ◌≤◌, ◌<◌, ◌+◌, ◌*
 ghost use Rattle.net_graph.specs.Strands.{strand_by, strands_by};
 
 use crate::flags::row;
-use crate::places::{most_inputs, most_outputs};
-use pipe_model::{Kind, NoMemory, Ports, StageName, Strand};
+use pipe_model::{Kind, NoMemory, Ports, StageName, Strand, most_inputs, most_outputs};
 use std::alloc::Global;
 
 // How many places a stage of so many later uses has, where the kind allows so many.

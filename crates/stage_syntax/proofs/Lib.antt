@@ -18,6 +18,7 @@ pub mod Outcomes
 pub mod PartExamples
 pub mod Passed
 pub mod RangeFronts
+pub mod ReadValues
 pub mod RowApart
 pub mod RowExamples
 pub mod RowSteps
