@@ -53,7 +53,11 @@ none_put_in = refl
 counted_within : acts_over (Change (columns_from 2) (codes "a") (codes "b") (Only 1)) one (records "aaa") ≡ to 0 "aba" ∷ takes ∷ []
 counted_within = refl
 
--- an empty first string puts the second in once, whatever the number
+-- an empty first string puts the second in once, also where the number is 1
+put_in_for_one : acts_over (Change all_columns (codes "") (codes "x") (Only 1)) one (records "ab") ≡ to 0 "xab" ∷ takes ∷ []
+put_in_for_one = refl
+
+-- or more
 put_in_once : acts_over (Change all_columns (codes "") (codes "x") (Only 3)) one (records "ab") ≡ to 0 "xab" ∷ takes ∷ []
 put_in_once = refl
 
