@@ -17,10 +17,11 @@ file (Some bytes) = Sources (all_on 0 (lines bytes))
 abbrev pub literal : List ℕ → Stream
 literal text = record (each_record copied) { before = (0, text) ∷ [] }
 
+-- no pairs
 abbrev pub nothing : Records → List Pair
 nothing recs = []
 
--- HOLE: no pairs
+-- HOLE: no pairs for any record
 abbrev pub hole : Stream
 hole = each_record nothing
 

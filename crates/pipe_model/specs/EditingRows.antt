@@ -46,12 +46,15 @@ changed range (x ∷ a) b times rec = part_changed (replaced (x ∷ a) b (of_all
 
 -- STRIP
 
+-- the record without the bytes of the set at its front
 abbrev pub front_stripped : List ℕ → List ℕ → List ℕ
 front_stripped set rec = drop (prefix_len (has set) rec) rec
 
+-- and at its back
 abbrev pub back_stripped : List ℕ → List ℕ → List ℕ
 back_stripped set rec = take (length rec - suffix_len (has set) rec) rec
 
+-- what is made of the record, where that is said
 abbrev pub where_said : Bool → (List ℕ → List ℕ) → List ℕ → List ℕ
 where_said said f rec = if said then f rec else rec
 
@@ -118,6 +121,7 @@ mapped [] second b = b
 mapped (c ∷ first) [] b = b
 mapped (c ∷ first) (d ∷ second) b = if c == b then d else mapped first second b
 
+-- ASCII letters in the case named, or each byte by the two strings
 abbrev pub translated : Mapping → ℕ → ℕ
 translated Upper b = if is_in_range 97 122 b then b - 32 else b
 translated Lower b = if is_in_range 65 90 b then b + 32 else b

@@ -18,15 +18,16 @@ use Rattle.pipe_model.specs.Members.{has}
 abbrev pub greatest : ℕ
 greatest = 1048576
 
--- the number of bytes, at least one
+-- a number of columns or bytes, at least one
 abbrev pub is_size : ℕ → Bool
 is_size = is_in_range 1 greatest
 
--- the last one that is named, if one is, is the first or stands behind it; by its length a range may end behind the greatest
+-- the last one, where one is named, is the first or stands behind it; a range that is given by its length may end behind the greatest
 abbrev pub is_last : ℕ → Option ℕ → Bool
 is_last first None = true
 is_last first (Some last) = is_in_range first (first + 1048575) last
 
+-- a range of columns, words or fields
 abbrev pub is_range : Range → Bool
 is_range range = is_size range.first && is_last range.first range.last
 
