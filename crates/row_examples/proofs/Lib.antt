@@ -1,10 +1,14 @@
 pub mod BetweenExamples
+pub mod BlockExamples
 pub mod BufferExamples
 pub mod ChangeExamples
 pub mod ChopExamples
+pub mod CountExamples
+pub mod DeblockExamples
 pub mod DeviceExamples
 pub mod DropExamples
 pub mod DuplicateExamples
+pub mod FblockExamples
 pub mod FindExamples
 pub mod JoinExamples
 pub mod LabelExamples
@@ -12,8 +16,11 @@ pub mod LocateExamples
 pub mod PadExamples
 pub mod ProperExamples
 pub mod ReverseExamples
+pub mod SortExamples
+pub mod SpecsExamples
 pub mod SplitExamples
 pub mod StripExamples
 pub mod TakeExamples
 pub mod ThinExamples
+pub mod UniqueExamples
 pub mod XlateExamples
