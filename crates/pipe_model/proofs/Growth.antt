@@ -35,7 +35,7 @@ grown-all made recs rec front =
 
 -- Parts
 
-nothing_continued : {X : Type 0} (ys : List X) → IsContinuedBy [] ys
+pub nothing_continued : {X : Type 0} (ys : List X) → IsContinuedBy [] ys
 nothing_continued ys = (ys, refl)
 
 some_part : {X : Type 0} (b : Bool) (x : X) (parts : List (List X)) → (p : List X) × (ps : List (List X)) × (onto_part b x parts ≡ p ∷ ps)
@@ -47,12 +47,13 @@ some_cut : {X : Type 0} (n left : ℕ) (xs : List X) → (p : List X) × (ps : L
 some_cut n left [] = ([], [], refl)
 some_cut n left (x ∷ xs) = some_part (left == 1) x (cut_after n (cond (left == 1) n (left - 1)) xs)
 
--- a part of its own before parts, or a member before the first of them
-part_stays : {X : Type 0} (part : List X) (old new : List (List X)) (p : List X) (ps : List (List X)) → new ≡ p ∷ ps → IsContinuedBy (without_last old) (without_last new) → IsContinuedBy (without_last (part ∷ old)) (without_last (part ∷ new))
-part_stays part old [] p ps is stays = absurd (let no = is in cc)
-part_stays part [] (a ∷ new) p ps is stays = (without_last (part ∷ a ∷ new), refl)
-part_stays part (c ∷ old) (a ∷ new) p ps is stays = (stays.0, cc)
+-- with one more member before both
+pub member_stays : {X : Type 0} (x : X) (old new : List X) (y : X) (ys : List X) → new ≡ y ∷ ys → IsContinuedBy (without_last old) (without_last new) → IsContinuedBy (without_last (x ∷ old)) (without_last (x ∷ new))
+member_stays x old [] y ys is stays = absurd (let no = is in cc)
+member_stays x [] (a ∷ new) y ys is stays = (without_last (x ∷ a ∷ new), refl)
+member_stays x (c ∷ old) (a ∷ new) y ys is stays = (stays.0, cc)
 
+-- with a member before the first part of both
 first_stays : {X : Type 0} (x : X) (old new : List (List X)) (p : List X) (ps : List (List X)) → new ≡ p ∷ ps → IsContinuedBy (without_last old) (without_last new) → IsContinuedBy (without_last (onto_first x old)) (without_last (onto_first x new))
 first_stays x old [] p ps is stays = absurd (let no = is in cc)
 first_stays x [] (a ∷ new) p ps is stays = (without_last (onto_first x (a ∷ new)), refl)
@@ -63,7 +64,7 @@ first_stays x (c ∷ d ∷ old) (a ∷ b ∷ new) p ps is stays = (stays.0, let 
 -- Every so many members
 
 onto_stays : {X : Type 0} (b : Bool) (x : X) (old new : List (List X)) (p : List X) (ps : List (List X)) → new ≡ p ∷ ps → IsContinuedBy (without_last old) (without_last new) → IsContinuedBy (without_last (onto_part b x old)) (without_last (onto_part b x new))
-onto_stays true x old new p ps is stays = part_stays (x ∷ []) old new p ps is stays
+onto_stays true x old new p ps is stays = member_stays (x ∷ []) old new p ps is stays
 onto_stays false x old new p ps is stays = first_stays x old new p ps is stays
 
 pub cut_after-stays : {X : Type 0} (n left : ℕ) (xs ys : List X) → IsContinuedBy (without_last (cut_after n left xs)) (without_last (cut_after n left (xs ++ ys)))
@@ -139,7 +140,7 @@ cut_at_zero-stays string b bytes ys behind next =
     let some = some_at string (length string - 1) (bytes ++ ys) in
     subst (λ (parts : Records). IsContinuedBy (without_last parts) (without_last (cut_at string 0 (b ∷ bytes ++ ys)))) (sym (old ∙ cond-true (begins string (b ∷ bytes)) _ _ is))
     (subst (λ (parts : Records). IsContinuedBy (without_last ([] ∷ cut_at string (length string - 1) bytes)) (without_last parts)) (sym (new ∙ cond-true (begins string (b ∷ bytes ++ ys)) _ _ later))
-    (part_stays [] (cut_at string (length string - 1) bytes) (cut_at string (length string - 1) (bytes ++ ys)) some.0 some.1 some.2 behind)) in
+    (member_stays [] (cut_at string (length string - 1) bytes) (cut_at string (length string - 1) (bytes ++ ys)) some.0 some.1 some.2 behind)) in
     let lacking : begins string (b ∷ bytes) ≡ false → begins string (b ∷ bytes ++ ys) ≡ true → IsContinuedBy (without_last (cut_at string 0 (b ∷ bytes))) (without_last (cut_at string 0 (b ∷ bytes ++ ys))) = λ isnt later.
     let one = one_part string (b ∷ bytes) (short_before string (b ∷ bytes) ys isnt later) in
     subst (λ (parts : Records). IsContinuedBy (without_last parts) (without_last (cut_at string 0 (b ∷ bytes ++ ys)))) (sym one.1) (nothing_continued _) in
@@ -191,7 +192,7 @@ sf_stays b c rest ys is behind =
     cond-true (sf_begins (b ∷ c ∷ rest ++ ys)) _ _ later ∙ ap (λ rec. drop 2 rec ∷ cut_by_lengths (n - 1) (c ∷ rest ++ ys)) same in
     subst (λ (parts : Records). IsContinuedBy (without_last parts) (without_last (cut_by_lengths 0 (b ∷ c ∷ rest ++ ys)))) (sym old)
     (subst (λ (parts : Records). IsContinuedBy (without_last (drop 2 (take n (b ∷ c ∷ rest)) ∷ cut_by_lengths (n - 1) (c ∷ rest))) (without_last parts)) (sym new)
-    (part_stays (drop 2 (take n (b ∷ c ∷ rest))) (cut_by_lengths (n - 1) (c ∷ rest)) (cut_by_lengths (n - 1) (c ∷ rest ++ ys)) some.0 some.1 some.2 behind))
+    (member_stays (drop 2 (take n (b ∷ c ∷ rest))) (cut_by_lengths (n - 1) (c ∷ rest)) (cut_by_lengths (n - 1) (c ∷ rest ++ ys)) some.0 some.1 some.2 behind))
 
 pub cut_by_lengths-stays : (skip : ℕ) (xs ys : List ℕ) → IsContinuedBy (without_last (cut_by_lengths skip xs)) (without_last (cut_by_lengths skip (xs ++ ys)))
 cut_by_lengths-stays skip [] ys = nothing_continued _
