@@ -13,7 +13,7 @@ use Rattle.pipe_model.specs.Shape.{Records}
 use Rattle.pipe_model.specs.Search.{begins}
 use Rattle.pipe_model.specs.Counts.{earlier}
 use Rattle.pipe_model.specs.Parts.{without_last, grown, onto_part, cut_after, cut_every}
-use Rattle.pipe_model.specs.BlockRows.{image_of, parts_of, at_cut, cut_at, sf_length, sf_begins, at_length, cut_by_lengths}
+use Rattle.pipe_model.specs.BlockRows.{image_of, parts_of, at_cut, cut_at, sf_length, sf_begins, cut_by_lengths}
 
 -- the second list is the first and more
 abbrev pub IsContinuedBy : {X : Type 0} → List X → List X → Type 0
