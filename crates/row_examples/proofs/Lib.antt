@@ -1,10 +1,13 @@
 pub mod BetweenExamples
+pub mod BlockExamples
 pub mod BufferExamples
 pub mod ChangeExamples
 pub mod ChopExamples
 pub mod CollateExamples
+pub mod CountExamples
 pub mod DamExamples
 pub mod DealExamples
+pub mod DeblockExamples
 pub mod DeviceExamples
 pub mod DropExamples
 pub mod DuplicateExamples
@@ -12,6 +15,7 @@ pub mod ElasticExamples
 pub mod FanInAnyExamples
 pub mod FanInExamples
 pub mod FanOutExamples
+pub mod FblockExamples
 pub mod FindExamples
 pub mod GateExamples
 pub mod GatherExamples
@@ -25,9 +29,12 @@ pub mod OverlayExamples
 pub mod PadExamples
 pub mod ProperExamples
 pub mod ReverseExamples
+pub mod SortExamples
+pub mod SpecsExamples
 pub mod SplitExamples
 pub mod StripExamples
 pub mod SynchroniseExamples
 pub mod TakeExamples
 pub mod ThinExamples
+pub mod UniqueExamples
 pub mod XlateExamples
