@@ -1,8 +1,7 @@
 -- What a strand puts and takes by itself, where its whole lists of records alone decide it: as functions on these lists.
-use Rattle.std.specs.Prelude.{◌≡◌, ℕ, Bool, true, false, ◌&&◌, ◌||◌, not, ◌==◌, if◌then◌else◌, List, [], ◌∷◌, ◌++◌, ℤ, pos, map, filter, find, flat_map}
+use Rattle.std.specs.Prelude.{◌≡◌, ℕ, Bool, true, false, ◌&&◌, ◌||◌, not, if◌then◌else◌, List, [], ◌∷◌, ◌++◌, ℤ, pos, filter, find, flat_map}
 use Rattle.std.specs.List.{list_any, list_all}
-use Rattle.std.specs.declared.option.Option.{Option}
-use Rattle.std.specs.declared.option.Option.TheVariants.{Some, None}
+use Rattle.std.specs.declared.option.Option.TheVariants.{None}
 use Rattle.pipe_model.specs.declared.net.Strand.{Strand}
 use Rattle.pipe_model.specs.declared.range.Range.{Range}
 use Rattle.pipe_model.specs.Event.{Event, records_on, taken_from, code_of}
@@ -13,17 +12,10 @@ use Rattle.pipe_model.specs.Shape.Shape.{Absent, Sources, Lists, Sinks, Queues}
 use Rattle.pipe_model.specs.Form.{are_finite}
 use Rattle.pipe_model.specs.Members.{flag_at}
 use Rattle.pipe_model.specs.Ranges.{part_of}
-use Rattle.pipe_model.specs.Keys.{is_less, is_same}
+use Rattle.pipe_model.specs.Keys.{is_less}
+use Rattle.pipe_model.specs.Inputs.{records_from}
+use Rattle.pipe_model.specs.JoiningRows.{on_output, agree, looked_up, first_of_key, unmatched}
 use Rattle.pipe_model.specs.Alone.{Given}
-
--- the records of one stream
-abbrev pub on_stream : ℕ → List Pair → Records
-on_stream k [] = []
-on_stream k (p ∷ ps) = if p.0 == k then p.1 ∷ on_stream k ps else on_stream k ps
-
--- each record on one stream
-abbrev pub all_on : ℕ → Records → List Pair
-all_on k recs = map (λ rec. (k, rec)) recs
 
 -- One list of records
 
@@ -68,7 +60,7 @@ ending_of t recs = if t.stops [] then t.code [] else code_after t [] recs
 
 -- it put these pairs, each on its output, but those to outputs that aren't connected
 pub record Puts (s : Strand) (h : List Event) (pairs : List Pair) : Type 0 where
-  pub connected : (o : ℕ) → flag_at s.ports.has_output o ≡ true → records_on o h ≡ on_stream o pairs
+  pub connected : (o : ℕ) → flag_at s.ports.has_output o ≡ true → records_on o h ≡ records_from o pairs
   pub others : (o : ℕ) → flag_at s.ports.has_output o ≡ false → records_on o h ≡ []
 
 -- and took these records of input 0, and ended with this code
@@ -83,8 +75,8 @@ IsListed s Absent g h = Does s h [] [] (pos 28)
 IsListed s (Sources pairs) g h = Does s h pairs [] (pos 0)
 IsListed s (Lists order t) g h = are_finite (t s.ports.has_output).outs ≡ true →
     Does s h (pairs_of (t s.ports.has_output) (g.inputs 0)) (taken_of (t s.ports.has_output) (g.inputs 0)) (ending_of (t s.ports.has_output) (g.inputs 0))
-IsListed s (Sinks keeping) g h = Does s h (all_on 0 (g.inputs 0)) (g.inputs 0) (pos 0)
-IsListed s Queues g h = Does s h (all_on 0 (g.inputs 0)) (g.inputs 0) (pos 0)
+IsListed s (Sinks keeping) g h = Does s h (on_output 0 (g.inputs 0)) (g.inputs 0) (pos 0)
+IsListed s Queues g h = Does s h (on_output 0 (g.inputs 0)) (g.inputs 0) (pos 0)
 IsListed s _ g h = Unit {0}
 
 -- its outputs take all
@@ -92,68 +84,49 @@ abbrev pub IsUnlimited : Given → Type 0
 IsUnlimited g = (o : ℕ) → g.limits o ≡ None
 
 -- FANIN: its inputs one after another
+abbrev pub fan_in_pairs : (ℕ → Records) → ℕ → List Pair
+fan_in_pairs inputs n = on_output 0 (flat_map inputs (all_inputs n))
 
-abbrev pub one_after_another : (ℕ → Records) → ℕ → Records
-one_after_another inputs n = flat_map inputs (all_inputs n)
+-- LOOKUP: each detail with the first master of its key, or else alone; and behind them the masters that no detail matched
+abbrev pub lookup_pairs : Range → Range → Records → Records → List Pair
+lookup_pairs of_detail of_master details masters =
+    flat_map (λ detail. looked_up detail (find (λ master. agree of_master of_detail master detail) masters)) details
+    ++ on_output 2 (unmatched of_master of_detail (first_of_key of_master masters) details)
 
--- Records with keys
-
--- a record has this key
-abbrev pub has_key : Range → List ℕ → Records → Bool
-has_key range key recs = list_any (λ rec. is_same (part_of range rec) key) recs
-
--- those that have it
-abbrev pub with_key : Range → List ℕ → Records → Records
-with_key range key recs = filter (λ rec. is_same (part_of range rec) key) recs
-
--- of the records with one key the first
-abbrev pub firsts : Range → Records → Records
-firsts range [] = []
-firsts range (rec ∷ recs) = rec ∷ filter (λ other. not (is_same (part_of range other) (part_of range rec))) (firsts range recs)
-
--- no two have one key
-abbrev pub are_distinct : Range → Records → Bool
-are_distinct range [] = true
-are_distinct range (rec ∷ recs) = not (has_key range (part_of range rec) recs) && are_distinct range recs
+-- Records in order
 
 -- none has a lesser key than one before it
 abbrev pub are_sorted : Range → Records → Bool
 are_sorted range [] = true
 are_sorted range (rec ∷ recs) = list_all (λ later. not (is_less (part_of range later) (part_of range rec))) recs && are_sorted range recs
 
--- LOOKUP: each detail, with the first master of its key, or else alone; and behind them the masters that no detail has the key of
+-- no two have one key
+abbrev pub are_distinct : Range → Records → Bool
+are_distinct range [] = true
+are_distinct range (rec ∷ recs) = not (list_any (agree range range rec) recs) && are_distinct range recs
 
-abbrev pub matched : List ℕ → Option (List ℕ) → List Pair
-matched detail None = (1, detail) ∷ []
-matched detail (Some master) = (0, detail) ∷ (0, master) ∷ []
-
-abbrev pub looked_up : Range → Range → Records → List ℕ → List Pair
-looked_up details masters of_masters detail = matched detail (find (λ master. is_same (part_of masters master) (part_of details detail)) of_masters)
-
-abbrev pub lookup_pairs : Range → Range → Records → Records → List Pair
-lookup_pairs details masters of_details of_masters =
-    flat_map (looked_up details masters of_masters) of_details
-    ++ all_on 2 (filter (λ master. not (has_key details (part_of masters master) of_details)) (firsts masters of_masters))
-
--- MERGE: the stable sort of its inputs one after another
-
--- a record before the first of others that isn't less
+-- a record, before the first of others that isn't less
 abbrev pub inserted : Range → List ℕ → Records → Records
 inserted range rec [] = rec ∷ []
 inserted range rec (other ∷ others) = if is_less (part_of range other) (part_of range rec) then other ∷ inserted range rec others else rec ∷ other ∷ others
 
+-- the records in order, and those with one key as they came
 abbrev pub sorted : Range → Records → Records
 sorted range [] = []
 sorted range (rec ∷ recs) = inserted range rec (sorted range recs)
 
--- COLLATE: on output 0 each master that has details, and they behind it; on output 1 the other masters; on output 2 the other details
+-- MERGE: where each input is sorted, the stable sort of its inputs one after another
+abbrev pub merge_pairs : Range → (ℕ → Records) → ℕ → List Pair
+merge_pairs range inputs n = on_output 0 (sorted range (flat_map inputs (all_inputs n)))
 
+-- a master before its details, if it has any
 abbrev pub headed : List ℕ → Records → Records
 headed master [] = []
 headed master (detail ∷ details) = master ∷ detail ∷ details
 
+-- COLLATE, where both inputs are sorted and no two masters have one key: each master with details, and they behind it; the masters without; the details without
 abbrev pub collate_pairs : Range → Range → Records → Records → List Pair
-collate_pairs masters details of_masters of_details =
-    all_on 0 (flat_map (λ master. headed master (with_key details (part_of masters master) of_details)) of_masters)
-    ++ all_on 1 (filter (λ master. not (has_key details (part_of masters master) of_details)) of_masters)
-    ++ all_on 2 (filter (λ detail. not (has_key masters (part_of details detail) of_masters)) of_details)
+collate_pairs of_master of_detail masters details =
+    on_output 0 (flat_map (λ master. headed master (filter (agree of_master of_detail master) details)) masters)
+    ++ on_output 1 (unmatched of_master of_detail masters details)
+    ++ on_output 2 (filter (λ detail. not (list_any (λ master. agree of_master of_detail master detail) masters)) details)

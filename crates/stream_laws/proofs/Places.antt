@@ -8,14 +8,15 @@ use Rattle.pipe_model.specs.Event.Want.{Commit, Read, Take, Write, Done}
 use Rattle.pipe_model.specs.Row.{Pair, Act, Goal, Known, without}
 use Rattle.pipe_model.specs.Row.Act.{Writes, Takes}
 use Rattle.pipe_model.specs.Row.Goal.{Asks, Ends}
-use Rattle.pipe_model.specs.Shape.{writes, at_hand_of}
+use Rattle.pipe_model.specs.Shape.{writes, at_hand_of, records_of}
 use Rattle.pipe_model.specs.Table.{form}
 use Rattle.pipe_model.specs.Members.{flag_at}
 use Rattle.pipe_model.specs.Next.{Phase, Past, is_live, after, begins_plan, learned, nothing_known, first_phase, past_by, want_in, wanted_by, next}
 use Rattle.pipe_model.specs.Next.Phase.{Starting, Doing, Lost}
 use Rattle.pipe_model.specs.Licence.{read_answer, write_answer}
 use Rattle.pipe_model.specs.Alone.{Given, takes_more, alone_event, IsAllAlone}
-use Rattle.pipe_model.specs.Listed.{on_stream, IsUnlimited, Puts}
+use Rattle.pipe_model.specs.Inputs.{records_from}
+use Rattle.pipe_model.specs.Listed.{IsUnlimited, Puts}
 use Rattle.stream_laws.proofs.Beginnings.{Within, test_same, same_number, from_start, grows, is_all}
 use Rattle.stream_laws.proofs.Beginnings.Within.{all}
 use Rattle.stream_laws.proofs.Streams.{no_more, on_both, last_on, last_is, took_count, connected, on_connected, on_unconnected}
@@ -32,8 +33,8 @@ module _ (s : Strand) (g : Given) (unlimited : IsUnlimited g) (W : List Event) (
     pub within : Within W h
     pub going : has_ended h ≡ false
     pub past : past_by (form s).row s.ports.has_output h ≡ mk k f
-    pub puts : (o : ℕ) → records_on o h ≡ on_stream o put
-    pub takes : (i : ℕ) → taken_from i h ≡ on_stream i taken
+    pub puts : (o : ℕ) → records_on o h ≡ records_from o put
+    pub takes : (i : ℕ) → taken_from i h ≡ records_from i taken
     pub last : (i : ℕ) → last_seen_on i h ≡ last_on i k.seen
 
   -- its history comes to such a place
@@ -64,9 +65,9 @@ module _ (s : Strand) (g : Given) (unlimited : IsUnlimited g) (W : List Event) (
     },
   )
     where
-      by_test : (q : ℕ) (b : Bool) → records_on q h ≡ on_stream q put → cond b (records_on q h ++ rec ∷ []) (records_on q h) ≡ on_stream q put ++ cond b (rec ∷ []) []
+      by_test : (q : ℕ) (b : Bool) → records_on q h ≡ records_from q put → cond b (records_on q h ++ rec ∷ []) (records_on q h) ≡ records_from q put ++ records_of (cond b ((o, rec) ∷ []) [])
       by_test q true e = ap (λ z. z ++ rec ∷ []) e
-      by_test q false e = e ∙ sym (no_more (on_stream q put))
+      by_test q false e = e ∙ sym (no_more (records_from q put))
 
   -- it takes a record
   pub take_one : (k : Known) (i : ℕ) (acts : List Act) (goal : Goal) (put taken : List Pair) → Reaches k (Doing (Takes i ∷ acts) goal) put taken → Reaches (took i k) (Doing acts goal) put (taken ++ (i, last_on i k.seen) ∷ [])
@@ -82,9 +83,9 @@ module _ (s : Strand) (g : Given) (unlimited : IsUnlimited g) (W : List Event) (
     },
   )
     where
-      by_test : (q : ℕ) (b : Bool) → (i == q) ≡ b → taken_from q h ≡ on_stream q taken → cond b (taken_from q h ++ last_seen_on q h ∷ []) (taken_from q h) ≡ on_stream q taken ++ cond b (last_on i k.seen ∷ []) []
-      by_test q true is e = ap (λ z. z ++ last_seen_on q h ∷ []) e ∙ ap (λ z. on_stream q taken ++ z ∷ []) (x.last q ∙ ap (λ z. last_on z k.seen) (sym (same_number i q is)))
-      by_test q false is e = e ∙ sym (no_more (on_stream q taken))
+      by_test : (q : ℕ) (b : Bool) → (i == q) ≡ b → taken_from q h ≡ records_from q taken → cond b (taken_from q h ++ last_seen_on q h ∷ []) (taken_from q h) ≡ records_from q taken ++ records_of (cond b ((i, last_on i k.seen) ∷ []) [])
+      by_test q true is e = ap (λ z. z ++ last_seen_on q h ∷ []) e ∙ ap (λ z. records_from q taken ++ z ∷ []) (x.last q ∙ ap (λ z. last_on z k.seen) (sym (same_number i q is)))
+      by_test q false is e = e ∙ sym (no_more (records_from q taken))
 
   -- it puts all that it is to write to outputs that are connected
   pub write_all : (k : Known) (ps : List Pair) (acts : List Act) (goal : Goal) (put taken : List Pair) → Reaches k (Doing (filter (is_live s.ports.has_output []) (writes ps ++ acts)) goal) put taken →
@@ -101,7 +102,7 @@ module _ (s : Strand) (g : Given) (unlimited : IsUnlimited g) (W : List Event) (
       by_test false x rest = rest put x
 
   -- it sees the next record of an input
-  pub read_one : (k : Known) (i : ℕ) (rec : List ℕ) (put taken : List Pair) → Reaches k (Doing [] (Asks (Read i))) put taken → slice_get (g.inputs i) (length (on_stream i taken)) ≡ Some rec →
+  pub read_one : (k : Known) (i : ℕ) (rec : List ℕ) (put taken : List Pair) → Reaches k (Doing [] (Asks (Read i))) put taken → slice_get (g.inputs i) (length (records_from i taken)) ≡ Some rec →
       Reaches (learned k (Saw i rec)) (begins_plan s.ports.has_output [] ((form s).row.plan (learned k (Saw i rec)))) put taken
   read_one k i rec put taken (h, x) hand = (
     Saw i rec ∷ h,
@@ -122,10 +123,10 @@ module _ (s : Strand) (g : Given) (unlimited : IsUnlimited g) (W : List Event) (
       by_test q true is e = ap (λ b. cond b rec (last_seen_on q h)) is ∙ subst (λ z. rec ≡ last_on z (k.seen ++ (i, rec) ∷ [])) (same_number i q is) (sym (last_is i k.seen rec))
       by_test q false is e =
           ap (λ b. cond b rec (last_seen_on q h)) is ∙ e
-          ∙ ap at_hand_of (sym (on_both q k.seen ((i, rec) ∷ []) ∙ ap (λ b. on_stream q k.seen ++ cond b (rec ∷ []) []) is ∙ no_more (on_stream q k.seen)))
+          ∙ ap at_hand_of (sym (on_both q k.seen ((i, rec) ∷ []) ∙ ap (λ b. records_from q k.seen ++ records_of (cond b ((i, rec) ∷ []) [])) is ∙ no_more (records_from q k.seen)))
 
   -- it sees the end of an input
-  pub read_end : (k : Known) (i : ℕ) (put taken : List Pair) → Reaches k (Doing [] (Asks (Read i))) put taken → slice_get (g.inputs i) (length (on_stream i taken)) ≡ None →
+  pub read_end : (k : Known) (i : ℕ) (put taken : List Pair) → Reaches k (Doing [] (Asks (Read i))) put taken → slice_get (g.inputs i) (length (records_from i taken)) ≡ None →
       Reaches (learned k (SawEnd i)) (begins_plan s.ports.has_output [] ((form s).row.plan (learned k (SawEnd i)))) put taken
   read_end k i put taken (h, x) hand = (
     SawEnd i ∷ h,
@@ -175,8 +176,8 @@ module _ (s : Strand) (g : Given) (unlimited : IsUnlimited g) (W : List Event) (
 
   -- what it did where it is to end
   pub record IsDone (put taken : List Pair) (code : ℤ) : Type 0 where
-    pub puts : (o : ℕ) → records_on o W ≡ on_stream o put
-    pub takes : (i : ℕ) → taken_from i W ≡ on_stream i taken
+    pub puts : (o : ℕ) → records_on o W ≡ records_from o put
+    pub takes : (i : ℕ) → taken_from i W ≡ records_from i taken
     pub ended : code_of W ≡ code
 
   pub finish : (k : Known) (code : ℤ) (put taken : List Pair) → Reaches k (Doing [] (Ends code)) put taken → IsDone put taken code

@@ -6,7 +6,8 @@ use Rattle.pipe_model.specs.Event.Event.{Took}
 use Rattle.pipe_model.specs.Row.{Pair}
 use Rattle.pipe_model.specs.Shape.{Records, at_hand_of, records_of}
 use Rattle.pipe_model.specs.Members.{flag_at}
-use Rattle.pipe_model.specs.Listed.{on_stream, all_on}
+use Rattle.pipe_model.specs.Inputs.{records_from}
+use Rattle.pipe_model.specs.JoiningRows.{on_output}
 use Rattle.stream_laws.proofs.Beginnings.{test_same, same_number}
 
 -- Lists
@@ -31,30 +32,34 @@ past_end (x ∷ xs) = past_end xs
 
 -- Streams
 
-pub on_both : (k : ℕ) (ps qs : List Pair) → on_stream k (ps ++ qs) ≡ on_stream k ps ++ on_stream k qs
+-- the pairs of one stream
+abbrev from : ℕ → List Pair → List Pair
+from k ps = filter (λ p. p.0 == k) ps
+
+pub on_both : (k : ℕ) (ps qs : List Pair) → records_from k (ps ++ qs) ≡ records_from k ps ++ records_from k qs
 on_both k [] qs = refl
 on_both k (p ∷ ps) qs = by_test (p.0 == k) (on_both k ps qs)
   where
-    by_test : (b : Bool) → on_stream k (ps ++ qs) ≡ on_stream k ps ++ on_stream k qs → cond b (p.1 ∷ on_stream k (ps ++ qs)) (on_stream k (ps ++ qs)) ≡ cond b (p.1 ∷ on_stream k ps) (on_stream k ps) ++ on_stream k qs
+    by_test : (b : Bool) → records_from k (ps ++ qs) ≡ records_from k ps ++ records_from k qs → records_of (cond b (p ∷ from k (ps ++ qs)) (from k (ps ++ qs))) ≡ records_of (cond b (p ∷ from k ps) (from k ps)) ++ records_from k qs
     by_test true e = ap (λ z. p.1 ∷ z) e
     by_test false e = e
 
 -- all records on one stream are on it
-pub on_its : (k : ℕ) (recs : Records) → on_stream k (all_on k recs) ≡ recs
+pub on_its : (k : ℕ) (recs : Records) → records_from k (on_output k recs) ≡ recs
 on_its k [] = refl
-on_its k (rec ∷ recs) = ap (λ b. cond b (rec ∷ on_stream k (all_on k recs)) (on_stream k (all_on k recs))) (test_same k) ∙ ap (λ z. rec ∷ z) (on_its k recs)
+on_its k (rec ∷ recs) = ap (λ b. records_of (cond b ((k, rec) ∷ from k (on_output k recs)) (from k (on_output k recs)))) (test_same k) ∙ ap (λ z. rec ∷ z) (on_its k recs)
 
 -- and on no other
-pub on_others : (k o : ℕ) (recs : Records) → (k == o) ≡ false → on_stream o (all_on k recs) ≡ []
+pub on_others : (k o : ℕ) (recs : Records) → (k == o) ≡ false → records_from o (on_output k recs) ≡ []
 on_others k o [] apart = refl
-on_others k o (rec ∷ recs) apart = ap (λ b. cond b (rec ∷ on_stream o (all_on k recs)) (on_stream o (all_on k recs))) apart ∙ on_others k o recs apart
+on_others k o (rec ∷ recs) apart = ap (λ b. records_of (cond b ((k, rec) ∷ from o (on_output k recs)) (from o (on_output k recs)))) apart ∙ on_others k o recs apart
 
 -- they are the records
-pub records_all : (k : ℕ) (recs : Records) → records_of (all_on k recs) ≡ recs
+pub records_all : (k : ℕ) (recs : Records) → records_of (on_output k recs) ≡ recs
 records_all k [] = refl
 records_all k (rec ∷ recs) = ap (λ z. rec ∷ z) (records_all k recs)
 
-pub all_more : (k : ℕ) (recs : Records) (rec : List ℕ) → all_on k (recs ++ rec ∷ []) ≡ all_on k recs ++ (k, rec) ∷ []
+pub all_more : (k : ℕ) (recs : Records) (rec : List ℕ) → on_output k (recs ++ rec ∷ []) ≡ on_output k recs ++ (k, rec) ∷ []
 all_more k [] rec = refl
 all_more k (r ∷ recs) rec = ap (λ z. (k, r) ∷ z) (all_more k recs rec)
 
@@ -66,10 +71,10 @@ at_hand_last (r ∷ s ∷ recs) rec = at_hand_last (s ∷ recs) rec
 
 -- the record last seen on an input
 abbrev pub last_on : ℕ → List Pair → List ℕ
-last_on i seen = at_hand_of (on_stream i seen)
+last_on i seen = at_hand_of (records_from i seen)
 
 pub last_is : (i : ℕ) (seen : List Pair) (rec : List ℕ) → last_on i (seen ++ (i, rec) ∷ []) ≡ rec
-last_is i seen rec = ap at_hand_of (on_both i seen ((i, rec) ∷ []) ∙ ap (λ b. on_stream i seen ++ cond b (rec ∷ []) []) (test_same i)) ∙ at_hand_last (on_stream i seen) rec
+last_is i seen rec = ap at_hand_of (on_both i seen ((i, rec) ∷ []) ∙ ap (λ b. records_from i seen ++ records_of (cond b ((i, rec) ∷ []) [])) (test_same i)) ∙ at_hand_last (records_from i seen) rec
 
 -- Histories
 
@@ -89,24 +94,29 @@ took_count i (_ ∷ h) = took_count i h
 abbrev pub connected : List Bool → List Pair → List Pair
 connected outputs ps = filter (λ p. flag_at outputs p.0) ps
 
+-- a pair more on both sides
+more_before : (b : Bool) (p : Pair) (ps qs : List Pair) → records_of ps ≡ records_of qs → records_of (cond b (p ∷ ps) ps) ≡ records_of (cond b (p ∷ qs) qs)
+more_before true p ps qs e = ap (λ z. p.1 ∷ z) e
+more_before false p ps qs e = e
+
 -- an output that is connected gets all its pairs
-pub on_connected : (outputs : List Bool) (o : ℕ) (ps : List Pair) → flag_at outputs o ≡ true → on_stream o (connected outputs ps) ≡ on_stream o ps
+pub on_connected : (outputs : List Bool) (o : ℕ) (ps : List Pair) → flag_at outputs o ≡ true → records_from o (connected outputs ps) ≡ records_from o ps
 on_connected outputs o [] flag = refl
 on_connected outputs o (p ∷ ps) flag = by_test (p.0 == o) refl (flag_at outputs p.0) refl (on_connected outputs o ps flag)
   where
-    by_test : (a : Bool) → (p.0 == o) ≡ a → (b : Bool) → flag_at outputs p.0 ≡ b → on_stream o (connected outputs ps) ≡ on_stream o ps →
-        on_stream o (cond (flag_at outputs p.0) (p ∷ connected outputs ps) (connected outputs ps)) ≡ cond (p.0 == o) (p.1 ∷ on_stream o ps) (on_stream o ps)
-    by_test a x true y e = ap (λ z. on_stream o (cond z (p ∷ connected outputs ps) (connected outputs ps))) y ∙ ap (λ z. cond (p.0 == o) (p.1 ∷ z) z) e
-    by_test false x false y e = ap (λ z. on_stream o (cond z (p ∷ connected outputs ps) (connected outputs ps))) y ∙ e ∙ ap (λ z. cond z (p.1 ∷ on_stream o ps) (on_stream o ps)) (sym x)
+    by_test : (a : Bool) → (p.0 == o) ≡ a → (b : Bool) → flag_at outputs p.0 ≡ b → records_from o (connected outputs ps) ≡ records_from o ps →
+        records_from o (cond (flag_at outputs p.0) (p ∷ connected outputs ps) (connected outputs ps)) ≡ records_of (cond (p.0 == o) (p ∷ from o ps) (from o ps))
+    by_test a x true y e = ap (λ z. records_from o (cond z (p ∷ connected outputs ps) (connected outputs ps))) y ∙ more_before (p.0 == o) p (from o (connected outputs ps)) (from o ps) e
+    by_test false x false y e = ap (λ z. records_from o (cond z (p ∷ connected outputs ps) (connected outputs ps))) y ∙ e ∙ ap (λ z. records_of (cond z (p ∷ from o ps) (from o ps))) (sym x)
     by_test true x false y e = (let z : true ≡ false = sym (ap (flag_at outputs) (same_number p.0 o x) ∙ flag) ∙ y in cc)
 
 -- and another one none
-pub on_unconnected : (outputs : List Bool) (o : ℕ) (ps : List Pair) → flag_at outputs o ≡ false → on_stream o (connected outputs ps) ≡ []
+pub on_unconnected : (outputs : List Bool) (o : ℕ) (ps : List Pair) → flag_at outputs o ≡ false → records_from o (connected outputs ps) ≡ []
 on_unconnected outputs o [] flag = refl
 on_unconnected outputs o (p ∷ ps) flag = by_test (p.0 == o) refl (flag_at outputs p.0) refl (on_unconnected outputs o ps flag)
   where
-    by_test : (a : Bool) → (p.0 == o) ≡ a → (b : Bool) → flag_at outputs p.0 ≡ b → on_stream o (connected outputs ps) ≡ [] →
-        on_stream o (cond (flag_at outputs p.0) (p ∷ connected outputs ps) (connected outputs ps)) ≡ []
-    by_test a x false y e = ap (λ z. on_stream o (cond z (p ∷ connected outputs ps) (connected outputs ps))) y ∙ e
-    by_test false x true y e = ap (λ z. on_stream o (cond z (p ∷ connected outputs ps) (connected outputs ps))) y ∙ ap (λ z. cond z (p.1 ∷ on_stream o (connected outputs ps)) (on_stream o (connected outputs ps))) x ∙ e
+    by_test : (a : Bool) → (p.0 == o) ≡ a → (b : Bool) → flag_at outputs p.0 ≡ b → records_from o (connected outputs ps) ≡ [] →
+        records_from o (cond (flag_at outputs p.0) (p ∷ connected outputs ps) (connected outputs ps)) ≡ []
+    by_test a x false y e = ap (λ z. records_from o (cond z (p ∷ connected outputs ps) (connected outputs ps))) y ∙ e
+    by_test false x true y e = ap (λ z. records_from o (cond z (p ∷ connected outputs ps) (connected outputs ps))) y ∙ ap (λ z. records_of (cond z (p ∷ from o (connected outputs ps)) (from o (connected outputs ps)))) x ∙ e
     by_test true x true y e = (let z : true ≡ false = sym y ∙ ap (flag_at outputs) (same_number p.0 o x) ∙ flag in cc)
