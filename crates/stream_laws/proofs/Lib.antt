@@ -3,3 +3,7 @@ pub mod Streams
 pub mod Places
 pub mod OneList
 pub mod ByShape
+pub mod Turned
+pub mod FanIns
+pub mod Lookups
+pub mod KeyOrder

@@ -120,3 +120,7 @@ on_unconnected outputs o (p ∷ ps) flag = by_test (p.0 == o) refl (flag_at outp
     by_test a x false y e = ap (λ z. records_from o (cond z (p ∷ connected outputs ps) (connected outputs ps))) y ∙ e
     by_test false x true y e = ap (λ z. records_from o (cond z (p ∷ connected outputs ps) (connected outputs ps))) y ∙ ap (λ z. records_of (cond z (p ∷ from o (connected outputs ps)) (from o (connected outputs ps)))) x ∙ e
     by_test true x true y e = (let z : true ≡ false = sym y ∙ ap (flag_at outputs) (same_number p.0 o x) ∙ flag in cc)
+
+pub output_both : (k : ℕ) (recs more : Records) → on_output k (recs ++ more) ≡ on_output k recs ++ on_output k more
+output_both k [] more = refl
+output_both k (rec ∷ recs) more = ap (λ z. (k, rec) ∷ z) (output_both k recs more)
