@@ -7,3 +7,5 @@ pub mod Turned
 pub mod FanIns
 pub mod Lookups
 pub mod KeyOrder
+pub mod Sights
+pub mod Rounded

@@ -33,7 +33,7 @@ past_end (x ∷ xs) = past_end xs
 -- Streams
 
 -- the pairs of one stream
-abbrev from : ℕ → List Pair → List Pair
+abbrev pub from : ℕ → List Pair → List Pair
 from k ps = filter (λ p. p.0 == k) ps
 
 pub on_both : (k : ℕ) (ps qs : List Pair) → records_from k (ps ++ qs) ≡ records_from k ps ++ records_from k qs
