@@ -9,3 +9,4 @@ pub mod Lookups
 pub mod KeyOrder
 pub mod Sights
 pub mod Rounded
+pub mod Leasts
