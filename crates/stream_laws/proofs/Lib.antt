@@ -10,3 +10,5 @@ pub mod KeyOrder
 pub mod Sights
 pub mod Rounded
 pub mod Leasts
+pub mod Sorts
+pub mod Merges

@@ -233,47 +233,50 @@ module _ (s : Strand) (g : Given) (unlimited : IsUnlimited g) (W : List Event) (
       fill_from [] g.inputs n 0 (omega arith) nothing_known (rounds_begin early) (λ j lt. absurd (omega arith)) (λ j le lt. inr (record { none = refl; going = refl })) (λ j le. record { none = refl; going = refl })
 
   -- a round that takes the record of one input
+  module _ (k : Known) (left : ℕ → Records) (shows : (j : ℕ) → j < n → Shows k left j) (i : ℕ) (few : i < n) (own : IsSeen k left i) where
+    none_lacks : find (lacks k.sight k.ends) (all_inputs n) ≡ None
+    none_lacks = finds_none (lacks k.sight k.ends) n n 0 (omega arith) (λ j lt. lacks_not k left j (shows j lt))
+
+    -- then nothing is known of it
+    pub now_open : IsOpen (took i k) i
+    now_open = record { none = without_own i k.sight ∙ ap rest_of own.seen; going = own.going }
+
+    -- and the same as before of the others
+    pub others_still : (j : ℕ) → (i == j) ≡ false → Shows k left j → Shows (took i k) (with_list i own.rest left) j
+    others_still j apart (inl x) = inl (record { none = without_others i j k.sight apart ∙ x.none; ended = x.ended; all = ap (λ b. cond b own.rest (left j)) apart ∙ x.all })
+    others_still j apart (inr x) = inr (record { rec = x.rec; rest = x.rest; seen = without_others i j k.sight apart ∙ x.seen; going = x.going; list = ap (λ b. cond b own.rest (left j)) apart ∙ x.list })
+
+    -- so it is to read the input again
+    pub reads_again : find (lacks (without i k.sight) k.ends) (all_inputs n) ≡ Some i
+    reads_again =
+        finds_it (lacks (without i k.sight) k.ends) i n 0 (omega arith) (omega arith)
+        (λ j less. lacks_not (took i k) (with_list i own.rest left) j (others_still j (apart_less j less) (shows j (omega arith)))) (lacks_it (took i k) i now_open)
+      where
+        apart_less : (j : ℕ) → j < i → (i == j) ≡ false
+        apart_less j less = grind (arith, nat_tests)
+
+    pub acts : (pairs : List Pair) → At k pairs left → filter (λ j. sees j k.sight && t.takes k j) (all_inputs n) ≡ i ∷ [] → At (took i k) (pairs ++ t.outs k) (with_list i own.rest left)
+    acts pairs x takes = by_sight k.sight refl
+      where
+        by_sight : (sight : List Pair) → k.sight ≡ sight → At (took i k) (pairs ++ t.outs k) (with_list i own.rest left)
+        by_sight [] empty = (let z : [] ≡ own.rec ∷ [] = ap (records_from i) (sym empty) ∙ own.seen in cc)
+        by_sight (p ∷ ps) some = round_acts k pairs left p ps i own.rec own.rest none_lacks some takes reads_again own.list x
+
   pub next_full : (pairs : List Pair) (left : ℕ → Records) (f : Full pairs left) (i : ℕ) → i < n → (own : IsSeen f.known left i) → filter (λ j. sees j f.known.sight && t.takes f.known j) (all_inputs n) ≡ i ∷ [] → Full (pairs ++ t.outs f.known) (with_list i own.rest left)
-  next_full pairs left f i lt own takes = by_sight f.known.sight refl
+  next_full pairs left f i few own takes =
+      fill_from (pairs ++ t.outs f.known) (with_list i own.rest left) n 0 (omega arith) (took i f.known)
+      (acts f.known left f.shows i few own pairs f.place takes) (λ j less. absurd (omega arith))
+      (λ j le less. elim (cases j) [
+        | inl is ↦ inr (subst (λ z. IsOpen (took i f.known) z) (same_number i j is) (now_open f.known left f.shows i few own))
+        | inr apart ↦ inl (others_still f.known left f.shows i few own j apart (f.shows j less))
+      ])
+      (λ j le. open_still f.known (took i f.known) j (without_others i j f.known.sight (apart_beyond j le)) refl (f.beyond j le))
     where
-      k : Known
-      k = f.known
-
-      none_lacks : find (lacks k.sight k.ends) (all_inputs n) ≡ None
-      none_lacks = finds_none (lacks k.sight k.ends) n n 0 (omega arith) (λ j lt. lacks_not k left j (f.shows j lt))
-
-      now_open : IsOpen (took i k) i
-      now_open = record { none = without_own i k.sight ∙ ap rest_of own.seen; going = own.going }
-
-      still : (j : ℕ) → (i == j) ≡ false → Shows k left j → Shows (took i k) (with_list i own.rest left) j
-      still j apart (inl x) = inl (record { none = without_others i j k.sight apart ∙ x.none; ended = x.ended; all = ap (λ b. cond b own.rest (left j)) apart ∙ x.all })
-      still j apart (inr x) = inr (record { rec = x.rec; rest = x.rest; seen = without_others i j k.sight apart ∙ x.seen; going = x.going; list = ap (λ b. cond b own.rest (left j)) apart ∙ x.list })
-
-      cases : (j : ℕ) → (i == j) ≡ true ⊎ (i == j) ≡ false
+      cases : (j : ℕ) → ((i == j) ≡ true) ⊎ ((i == j) ≡ false)
       cases j = elim (i == j) as (λ b. (b ≡ true) ⊎ (b ≡ false)) [ true ↦ inl refl | false ↦ inr refl ]
 
       apart_beyond : (j : ℕ) → n ≤ j → (i == j) ≡ false
       apart_beyond j le = grind (arith, nat_tests)
-
-      others_lack_not : (j : ℕ) → j < n → (i == j) ≡ false → lacks (without i k.sight) k.ends j ≡ false
-      others_lack_not j less apart = lacks_not (took i k) (with_list i own.rest left) j (still j apart (f.shows j less))
-
-      apart_less : (j : ℕ) → j < i → (i == j) ≡ false
-      apart_less j less = grind (arith, nat_tests)
-
-      then_is : find (lacks (without i k.sight) k.ends) (all_inputs n) ≡ Some i
-      then_is = finds_it (lacks (without i k.sight) k.ends) i n 0 (omega arith) (omega arith) (λ j less. others_lack_not j (omega arith) (apart_less j less)) (lacks_it (took i k) i now_open)
-
-      by_sight : (sight : List Pair) → k.sight ≡ sight → Full (pairs ++ t.outs k) (with_list i own.rest left)
-      by_sight [] empty = (let z : [] ≡ own.rec ∷ [] = ap (records_from i) (sym empty) ∙ own.seen in cc)
-      by_sight (p ∷ ps) some =
-          fill_from (pairs ++ t.outs k) (with_list i own.rest left) n 0 (omega arith) (took i k)
-          (round_acts k pairs left p ps i own.rec own.rest none_lacks some takes then_is own.list f.place) (λ j less. absurd (omega arith))
-          (λ j le less. elim (cases j) [
-            | inl is ↦ inr (subst (λ z. IsOpen (took i k) z) (same_number i j is) now_open)
-            | inr apart ↦ inl (still j apart (f.shows j less))
-          ])
-          (λ j le. open_still k (took i k) j (without_others i j k.sight (apart_beyond j le)) refl (f.beyond j le))
 
   -- nothing is in sight, so all lists are read and taken
   pub full_over : (pairs : List Pair) (left : ℕ → Records) (f : Full pairs left) → f.known.sight ≡ [] → IsDone s g unlimited W done (connected s.ports.has_output pairs) f.place.taken (pos 0)
