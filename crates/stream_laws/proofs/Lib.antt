@@ -12,3 +12,5 @@ pub mod Rounded
 pub mod Leasts
 pub mod Sorts
 pub mod Merges
+pub mod Collated
+pub mod Collates

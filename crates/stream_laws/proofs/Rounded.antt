@@ -72,10 +72,10 @@ open_still k k' j sight ended x = record { none = sight ∙ x.none; going = ende
 -- After a look
 
 module _ (k : Known) (left : ℕ → Records) (i : ℕ) (open_is : IsOpen k i) where
-  saw_own : (rec : List ℕ) (rest : Records) → left i ≡ rec ∷ rest → IsSeen (learned k (Saw i rec)) left i
+  pub saw_own : (rec : List ℕ) (rest : Records) → left i ≡ rec ∷ rest → IsSeen (learned k (Saw i rec)) left i
   saw_own rec rest list = record { rec = rec; rest = rest; seen = now_own i k.sight rec open_is.none; going = open_is.going; list = list }
 
-  end_own : left i ≡ [] → IsOver (learned k (SawEnd i)) left i
+  pub end_own : left i ≡ [] → IsOver (learned k (SawEnd i)) left i
   end_own list = record { none = open_is.none; ended = ap (λ b. b || has k.ends i) (test_same i); all = list }
 
 module _ (s : Strand) (g : Given) (unlimited : IsUnlimited g) (W : List Event) (done : IsAllAlone s g W)
