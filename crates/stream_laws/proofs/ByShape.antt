@@ -1,0 +1,59 @@
+-- What a strand does by itself, by the shape of its row.
+use Rattle.std.proofs.Common.{◌≡◌, List, [], ◌∷◌, ◌++◌, refl, ◌∙◌, ap, subst, None, pos}
+use Rattle.pipe_model.specs.declared.net.Strand.{Strand}
+use Rattle.pipe_model.specs.Event.{Event}
+use Rattle.pipe_model.specs.Row.{Row}
+use Rattle.pipe_model.specs.Row.Goal.{Ends}
+use Rattle.pipe_model.specs.Shape.{Records, Order, Shape, row_of, each_record, copied}
+use Rattle.pipe_model.specs.Shape.Order.{WritesFirst, TakesFirst}
+use Rattle.pipe_model.specs.Shape.Shape.{Absent, Sources, Lists, Sinks, Firsts, Turns, Rounds, Gates, Dams, Queues}
+use Rattle.pipe_model.specs.Table.{form}
+use Rattle.pipe_model.specs.Next.{begins_plan, nothing_known}
+use Rattle.pipe_model.specs.Alone.{Given, IsAllAlone}
+use Rattle.pipe_model.specs.Inputs.{records_from}
+use Rattle.pipe_model.specs.JoiningRows.{on_output}
+use Rattle.pipe_model.specs.Listed.{pairs_after, taken_after, code_after, IsUnlimited, IsListed, Puts, Does}
+use Rattle.stream_laws.proofs.Streams.{at_hand_last}
+use Rattle.stream_laws.proofs.Places.{Reaches, write_rest, begins, ends_early, finish, puts_connected}
+use Rattle.stream_laws.proofs.OneList.{one_list}
+
+-- A strand that copies
+
+pairs_copied : (recs rest : Records) → pairs_after (each_record copied) recs rest ≡ on_output 0 rest
+pairs_copied recs [] = refl
+pairs_copied recs (rec ∷ rest) = ap (λ z. (0, z) ∷ pairs_after (each_record copied) (recs ++ rec ∷ []) rest) (at_hand_last recs rec) ∙ ap (λ z. (0, rec) ∷ z) (pairs_copied (recs ++ rec ∷ []) rest)
+
+taken_copied : (recs rest : Records) → taken_after (each_record copied) recs rest ≡ rest
+taken_copied recs [] = refl
+taken_copied recs (rec ∷ rest) = ap (λ z. rec ∷ z) (taken_copied (recs ++ rec ∷ []) rest)
+
+code_copied : (recs rest : Records) → code_after (each_record copied) recs rest ≡ pos 0
+code_copied recs [] = refl
+code_copied recs (rec ∷ rest) = code_copied (recs ++ rec ∷ []) rest
+
+module _ (s : Strand) (g : Given) (unlimited : IsUnlimited g) (W : List Event) (done : IsAllAlone s g W) where
+  copies : (order : Order) → (form s).row.plan ≡ (row_of s (Lists order (λ outputs. each_record copied))).plan → (form s).row.early ≡ None → Does s W (on_output 0 (g.inputs 0)) (g.inputs 0) (pos 0)
+  copies order plan early =
+      let x = one_list s g unlimited W done order (each_record copied) plan refl early in
+      record {
+        puts = subst (λ z. Puts s W z) (pairs_copied [] (g.inputs 0)) x.puts;
+        taken = x.taken ∙ taken_copied [] (g.inputs 0);
+        ended = x.ended ∙ code_copied [] (g.inputs 0);
+      }
+
+  pub listed_by : (shape : Shape) → (form s).row ≡ row_of s shape → IsListed s shape g W
+  listed_by Absent is =
+      let f = finish s g unlimited W done nothing_known (pos 28) [] [] (ends_early s g unlimited W done (pos 28) (ap (λ (w : Row). w.early) is)) in
+      record { puts = puts_connected s g unlimited W done [] [] (pos 28) f; taken = f.takes 0; ended = f.ended }
+  listed_by (Sources pairs) is =
+      let a = subst (λ (w : Row). Reaches s g unlimited W done nothing_known (begins_plan s.ports.has_output [] (w.plan nothing_known)) [] []) is (begins s g unlimited W done (ap (λ (w : Row). w.early) is)) in
+      let f = finish s g unlimited W done nothing_known (pos 0) _ [] (write_rest s g unlimited W done nothing_known pairs (Ends (pos 0)) [] [] a) in
+      record { puts = puts_connected s g unlimited W done pairs [] (pos 0) f; taken = f.takes 0; ended = f.ended }
+  listed_by (Lists order t) is = λ finite. one_list s g unlimited W done order (t s.ports.has_output) (ap (λ (w : Row). w.plan) is) finite (ap (λ (w : Row). w.early) is)
+  listed_by (Sinks keeping) is = copies WritesFirst (ap (λ (w : Row). w.plan) is) (ap (λ (w : Row). w.early) is)
+  listed_by Queues is = copies TakesFirst (ap (λ (w : Row). w.plan) is) (ap (λ (w : Row). w.early) is)
+  listed_by (Firsts width settles outs) is = tt
+  listed_by (Turns width t) is = tt
+  listed_by (Rounds width t) is = tt
+  listed_by Gates is = tt
+  listed_by Dams is = tt

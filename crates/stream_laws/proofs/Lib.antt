@@ -1,0 +1,16 @@
+pub mod Beginnings
+pub mod Streams
+pub mod Places
+pub mod OneList
+pub mod ByShape
+pub mod Turned
+pub mod FanIns
+pub mod Lookups
+pub mod KeyOrder
+pub mod Sights
+pub mod Rounded
+pub mod Leasts
+pub mod Sorts
+pub mod Merges
+pub mod Collated
+pub mod Collates

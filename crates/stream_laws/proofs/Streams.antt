@@ -1,0 +1,126 @@
+-- The records of one stream.
+use Rattle.std.proofs.Common.{◌≡◌, ℕ, suc, Bool, true, false, cond, ◌==◌, List, [], ◌∷◌, ◌++◌, length, refl, sym, ◌∙◌, ap, Some, None, slice_get}
+use Rattle.std.specs.Prelude.{filter}
+use Rattle.pipe_model.specs.Event.{Event, one_more, tooks_on, taken_from, last_seen_on}
+use Rattle.pipe_model.specs.Event.Event.{Took}
+use Rattle.pipe_model.specs.Row.{Pair}
+use Rattle.pipe_model.specs.Shape.{Records, at_hand_of, records_of}
+use Rattle.pipe_model.specs.Members.{flag_at}
+use Rattle.pipe_model.specs.Inputs.{records_from}
+use Rattle.pipe_model.specs.JoiningRows.{on_output}
+use Rattle.stream_laws.proofs.Beginnings.{test_same, same_number}
+
+-- Lists
+
+pub no_more : {A : Type 0} (xs : List A) → xs ++ [] ≡ xs
+no_more [] = refl
+no_more (x ∷ xs) = ap (λ z. x ∷ z) (no_more xs)
+
+pub length_more : {A : Type 0} (xs : List A) (x : A) → length (xs ++ x ∷ []) ≡ suc (length xs)
+length_more [] x = refl
+length_more (z ∷ zs) x = ap suc (length_more zs x)
+
+-- behind a list stands what is appended
+pub at_end : {A : Type 0} (xs : List A) (x : A) (ys : List A) → slice_get (xs ++ x ∷ ys) (length xs) ≡ Some x
+at_end [] x ys = refl
+at_end (z ∷ zs) x ys = at_end zs x ys
+
+-- or nothing
+pub past_end : {A : Type 0} (xs : List A) → slice_get xs (length xs) ≡ None
+past_end [] = refl
+past_end (x ∷ xs) = past_end xs
+
+-- Streams
+
+-- the pairs of one stream
+abbrev pub from : ℕ → List Pair → List Pair
+from k ps = filter (λ p. p.0 == k) ps
+
+pub on_both : (k : ℕ) (ps qs : List Pair) → records_from k (ps ++ qs) ≡ records_from k ps ++ records_from k qs
+on_both k [] qs = refl
+on_both k (p ∷ ps) qs = by_test (p.0 == k) (on_both k ps qs)
+  where
+    by_test : (b : Bool) → records_from k (ps ++ qs) ≡ records_from k ps ++ records_from k qs → records_of (cond b (p ∷ from k (ps ++ qs)) (from k (ps ++ qs))) ≡ records_of (cond b (p ∷ from k ps) (from k ps)) ++ records_from k qs
+    by_test true e = ap (λ z. p.1 ∷ z) e
+    by_test false e = e
+
+-- all records on one stream are on it
+pub on_its : (k : ℕ) (recs : Records) → records_from k (on_output k recs) ≡ recs
+on_its k [] = refl
+on_its k (rec ∷ recs) = ap (λ b. records_of (cond b ((k, rec) ∷ from k (on_output k recs)) (from k (on_output k recs)))) (test_same k) ∙ ap (λ z. rec ∷ z) (on_its k recs)
+
+-- and on no other
+pub on_others : (k o : ℕ) (recs : Records) → (k == o) ≡ false → records_from o (on_output k recs) ≡ []
+on_others k o [] apart = refl
+on_others k o (rec ∷ recs) apart = ap (λ b. records_of (cond b ((k, rec) ∷ from o (on_output k recs)) (from o (on_output k recs)))) apart ∙ on_others k o recs apart
+
+-- they are the records
+pub records_all : (k : ℕ) (recs : Records) → records_of (on_output k recs) ≡ recs
+records_all k [] = refl
+records_all k (rec ∷ recs) = ap (λ z. rec ∷ z) (records_all k recs)
+
+pub all_more : (k : ℕ) (recs : Records) (rec : List ℕ) → on_output k (recs ++ rec ∷ []) ≡ on_output k recs ++ (k, rec) ∷ []
+all_more k [] rec = refl
+all_more k (r ∷ recs) rec = ap (λ z. (k, r) ∷ z) (all_more k recs rec)
+
+-- the record at hand is the last
+pub at_hand_last : (recs : Records) (rec : List ℕ) → at_hand_of (recs ++ rec ∷ []) ≡ rec
+at_hand_last [] rec = refl
+at_hand_last (r ∷ []) rec = refl
+at_hand_last (r ∷ s ∷ recs) rec = at_hand_last (s ∷ recs) rec
+
+-- the record last seen on an input
+abbrev pub last_on : ℕ → List Pair → List ℕ
+last_on i seen = at_hand_of (records_from i seen)
+
+pub last_is : (i : ℕ) (seen : List Pair) (rec : List ℕ) → last_on i (seen ++ (i, rec) ∷ []) ≡ rec
+last_is i seen rec = ap at_hand_of (on_both i seen ((i, rec) ∷ []) ∙ ap (λ b. records_from i seen ++ records_of (cond b ((i, rec) ∷ []) [])) (test_same i)) ∙ at_hand_last (records_from i seen) rec
+
+-- Histories
+
+-- as many are counted as were taken
+pub took_count : (i : ℕ) (h : List Event) → tooks_on i h ≡ length (taken_from i h)
+took_count i [] = refl
+took_count i (Took j ∷ h) = by_test (j == i) (took_count i h)
+  where
+    by_test : (b : Bool) → tooks_on i h ≡ length (taken_from i h) → one_more b (tooks_on i h) ≡ length (cond b (taken_from i h ++ last_seen_on i h ∷ []) (taken_from i h))
+    by_test true e = ap suc e ∙ sym (length_more (taken_from i h) (last_seen_on i h))
+    by_test false e = e
+took_count i (_ ∷ h) = took_count i h
+
+-- Outputs
+
+-- the pairs to outputs that are connected
+abbrev pub connected : List Bool → List Pair → List Pair
+connected outputs ps = filter (λ p. flag_at outputs p.0) ps
+
+-- a pair more on both sides
+more_before : (b : Bool) (p : Pair) (ps qs : List Pair) → records_of ps ≡ records_of qs → records_of (cond b (p ∷ ps) ps) ≡ records_of (cond b (p ∷ qs) qs)
+more_before true p ps qs e = ap (λ z. p.1 ∷ z) e
+more_before false p ps qs e = e
+
+-- an output that is connected gets all its pairs
+pub on_connected : (outputs : List Bool) (o : ℕ) (ps : List Pair) → flag_at outputs o ≡ true → records_from o (connected outputs ps) ≡ records_from o ps
+on_connected outputs o [] flag = refl
+on_connected outputs o (p ∷ ps) flag = by_test (p.0 == o) refl (flag_at outputs p.0) refl (on_connected outputs o ps flag)
+  where
+    by_test : (a : Bool) → (p.0 == o) ≡ a → (b : Bool) → flag_at outputs p.0 ≡ b → records_from o (connected outputs ps) ≡ records_from o ps →
+        records_from o (cond (flag_at outputs p.0) (p ∷ connected outputs ps) (connected outputs ps)) ≡ records_of (cond (p.0 == o) (p ∷ from o ps) (from o ps))
+    by_test a x true y e = ap (λ z. records_from o (cond z (p ∷ connected outputs ps) (connected outputs ps))) y ∙ more_before (p.0 == o) p (from o (connected outputs ps)) (from o ps) e
+    by_test false x false y e = ap (λ z. records_from o (cond z (p ∷ connected outputs ps) (connected outputs ps))) y ∙ e ∙ ap (λ z. records_of (cond z (p ∷ from o ps) (from o ps))) (sym x)
+    by_test true x false y e = (let z : true ≡ false = sym (ap (flag_at outputs) (same_number p.0 o x) ∙ flag) ∙ y in cc)
+
+-- and another one none
+pub on_unconnected : (outputs : List Bool) (o : ℕ) (ps : List Pair) → flag_at outputs o ≡ false → records_from o (connected outputs ps) ≡ []
+on_unconnected outputs o [] flag = refl
+on_unconnected outputs o (p ∷ ps) flag = by_test (p.0 == o) refl (flag_at outputs p.0) refl (on_unconnected outputs o ps flag)
+  where
+    by_test : (a : Bool) → (p.0 == o) ≡ a → (b : Bool) → flag_at outputs p.0 ≡ b → records_from o (connected outputs ps) ≡ [] →
+        records_from o (cond (flag_at outputs p.0) (p ∷ connected outputs ps) (connected outputs ps)) ≡ []
+    by_test a x false y e = ap (λ z. records_from o (cond z (p ∷ connected outputs ps) (connected outputs ps))) y ∙ e
+    by_test false x true y e = ap (λ z. records_from o (cond z (p ∷ connected outputs ps) (connected outputs ps))) y ∙ ap (λ z. records_of (cond z (p ∷ from o (connected outputs ps)) (from o (connected outputs ps)))) x ∙ e
+    by_test true x true y e = (let z : true ≡ false = sym y ∙ ap (flag_at outputs) (same_number p.0 o x) ∙ flag in cc)
+
+pub output_both : (k : ℕ) (recs more : Records) → on_output k (recs ++ more) ≡ on_output k recs ++ on_output k more
+output_both k [] more = refl
+output_both k (rec ∷ recs) more = ap (λ z. (k, rec) ∷ z) (output_both k recs more)

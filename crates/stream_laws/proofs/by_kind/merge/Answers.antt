@@ -1,0 +1,11 @@
+use Rattle.std.proofs.Common.{ap, length}
+use Rattle.pipe_model.specs.Table.{line_of}
+use Rattle.pipe_model.specs.Shape.{row_of}
+use Rattle.stream_laws.proofs.Merges.{merge_puts}
+use Rattle.stream_laws.proofs.by_kind.merge.Goals as goal
+
+pub returns : goal.returns
+returns c = λ range kind g unlimited ordered h done.
+    merge_puts c.args.strand.now g unlimited h done (length c.args.strand.now.ports.has_input) range
+    (ap (λ kind. (row_of c.args.strand.now (line_of kind).shape).plan) kind)
+    (ap (λ kind. (row_of c.args.strand.now (line_of kind).shape).early) kind) ordered

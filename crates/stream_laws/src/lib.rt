@@ -1,0 +1,8 @@
+//! What a strand by itself puts and takes, as functions on its whole lists: laws that do nothing.
+#![tactic(auto)]
+
+mod by_kind;
+mod by_shape;
+
+pub use by_kind::{collate, fan_in, look_up, merge};
+pub use by_shape::lists;
