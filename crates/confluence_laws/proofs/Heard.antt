@@ -1,5 +1,5 @@
 -- What a strand hears of what it asked for.
-use Rattle.std.proofs.Common.{◌≡◌, ℕ, Bool, true, false, List, refl, Some}
+use Rattle.std.proofs.Common.{◌≡◌, ℕ, Bool, true, List, refl, Some}
 use Rattle.pipe_model.specs.Event.{Event, Want, answers}
 use Rattle.pipe_model.specs.Event.Event.{Refused}
 use Rattle.pipe_model.specs.Event.Want.{Commit, Read, Any, Gate, Take, Write, Prime, Issue, Join, Sever, Done}

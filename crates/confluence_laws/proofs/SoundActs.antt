@@ -5,7 +5,7 @@ use Rattle.pipe_model.specs.Row.{Pair, Act, Goal, Known, sees, without}
 use Rattle.pipe_model.specs.Row.Act.{Writes, Repeats, Takes}
 use Rattle.pipe_model.specs.Shape.{writes}
 use Rattle.confluence_laws.proofs.Basics.{test_same}
-use Rattle.confluence_laws.proofs.Facts.{Fits, NoWrites, ThinActs, NoRepeats, has_take, taken}
+use Rattle.confluence_laws.proofs.Facts.{Fits, ThinActs, NoRepeats, has_take, taken}
 
 -- writes come first: what follows them fits
 pub fits_writes : (A : Known → Want → Type 0) (k : Known) (ps : List Pair) (acts : List Act) (goal : Goal) → Fits A k acts goal → Fits A k (writes ps ++ acts) goal

@@ -1,18 +1,18 @@
 -- The rows of stages that take what comes first, of GATE and of DAM are sound.
-use Rattle.std.proofs.Common.{◌≡◌, ◌⊎◌, inl, inr, ℕ, Bool, true, false, cond, ◌==◌, List, [], ◌∷◌, ◌++◌, refl, sym, ◌∙◌, ap, subst, arith, Some, None, ℤ, pos, eqb}
+use Rattle.std.proofs.Common.{inl, inr, ℕ, true, false, cond, ◌==◌, List, [], ◌∷◌, ◌++◌, refl, sym, ap, subst, arith, pos}
 use Rattle.pipe_model.specs.declared.net.Strand.{Strand}
-use Rattle.pipe_model.specs.Event.{Event, Want, answers}
-use Rattle.pipe_model.specs.Event.Event.{Saw, SawEnd, SawAllEnd, Primed}
-use Rattle.pipe_model.specs.Event.Want.{Read, Any, Gate, Prime}
-use Rattle.pipe_model.specs.Row.{Pair, Act, Goal, Known, Plan, Row, sees, without}
+use Rattle.pipe_model.specs.Event.{Event, Want}
+use Rattle.pipe_model.specs.Event.Event.{Saw, Primed}
+use Rattle.pipe_model.specs.Event.Want.{Any, Gate}
+use Rattle.pipe_model.specs.Row.{Pair, Known, Plan, Row, sees, without}
 use Rattle.pipe_model.specs.Row.Act.{Writes, Takes}
-use Rattle.pipe_model.specs.Row.Goal.{Asks, Ends}
-use Rattle.pipe_model.specs.Shape.{Stream, row, writes, ends, each_record, copied, first_plan, gate_plan, gate_pass, dam_plan, row_of}
+use Rattle.pipe_model.specs.Row.Goal.{Asks}
+use Rattle.pipe_model.specs.Shape.{row, ends, each_record, copied, first_plan, gate_plan, dam_plan, row_of}
 use Rattle.pipe_model.specs.Shape.Order.{WritesFirst}
 use Rattle.pipe_model.specs.Shape.Shape.{Dams}
-use Rattle.pipe_model.specs.Next.{learned, nothing_known}
+use Rattle.pipe_model.specs.Next.{learned}
 use Rattle.pipe_model.specs.Members.{has}
-use Rattle.confluence_laws.proofs.Facts.{Fits, IsLook, IsSound, IsFiniteRow, IsFiniteLook, NoRepeats, LooksAtAny, LooksAtGate, AsksDam, has_all, taken}
+use Rattle.confluence_laws.proofs.Facts.{Fits, IsLook, IsSound, IsFiniteRow, IsFiniteLook, NoRepeats, LooksAtAny, LooksAtGate, AsksDam}
 use Rattle.confluence_laws.proofs.SoundActs.{fits_writes, no_repeats, sees_new, without_new}
 use Rattle.confluence_laws.proofs.SoundLists.{IsLooking, list_row, list_sound, list_finite}
 

@@ -1,12 +1,12 @@
 -- The rows of stages with one list of records are sound, thin where nothing is written but by a record, and finite without endless pairs.
-use Rattle.std.proofs.Common.{◌≡◌, ℕ, Bool, true, false, cond, ◌&&◌, List, [], ◌∷◌, ◌++◌, refl, sym, ap, subst, arith, Option, Some, None, is_none, ℤ, pos}
-use Rattle.pipe_model.specs.Event.{Event, Want, answers}
+use Rattle.std.proofs.Common.{◌≡◌, ℕ, Bool, true, false, cond, ◌&&◌, List, [], ◌∷◌, refl, sym, ap, subst, arith, Option, Some, None, is_none, pos}
+use Rattle.pipe_model.specs.Event.{Event, Want}
 use Rattle.pipe_model.specs.Event.Event.{Saw, SawEnd}
 use Rattle.pipe_model.specs.Event.Want.{Read}
-use Rattle.pipe_model.specs.Row.{Pair, Act, Goal, Known, Plan, Row, sees, without}
+use Rattle.pipe_model.specs.Row.{Pair, Goal, Known, Plan, Row, sees, without}
 use Rattle.pipe_model.specs.Row.Act.{Takes}
 use Rattle.pipe_model.specs.Row.Goal.{Asks, Ends}
-use Rattle.pipe_model.specs.Shape.{Records, Outs, Stream, Order, writes, ends, records_of, acts_of, in_order, next_record, at_sight, last_pairs, list_plan, listed, source}
+use Rattle.pipe_model.specs.Shape.{Records, Outs, Stream, Order, writes, ends, records_of, acts_of, in_order, next_record, last_pairs, list_plan, listed, source}
 use Rattle.pipe_model.specs.Shape.Outs.{Pairs, Endless}
 use Rattle.pipe_model.specs.Shape.Order.{WritesFirst, TakesFirst}
 use Rattle.pipe_model.specs.Form.{has_none, are_finite}

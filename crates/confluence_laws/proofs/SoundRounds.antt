@@ -1,15 +1,13 @@
 -- The rows of stages that read a record of each input and then act are sound: they take only what they see, and read only what they don't.
-use Rattle.std.proofs.Common.{◌≡◌, ℕ, zero, suc, ◌+◌, ◌≤◌, ◌<◌, Bool, true, false, cond, ◌&&◌, ◌||◌, not, ◌==◌, List, [], ◌∷◌, ◌++◌, refl, sym, ◌∙◌, ap, subst, arith, Option, Some, None, pos}
+use Rattle.std.proofs.Common.{◌≡◌, ℕ, zero, suc, ◌+◌, ◌≤◌, ◌<◌, Bool, true, false, cond, ◌&&◌, ◌||◌, not, ◌==◌, List, [], ◌∷◌, refl, sym, ◌∙◌, ap, subst, arith, Option, Some, None, pos}
 use Rattle.std.specs.Prelude.{find, filter, map}
 use Rattle.std.specs.List.{range_with_len}
-use Rattle.std.proofs.lemmas.Bool.Decides.{nat_tests}
 use Rattle.pipe_model.specs.Event.{Event, Want, answers}
 use Rattle.pipe_model.specs.Event.Event.{Saw, SawEnd}
 use Rattle.pipe_model.specs.Event.Want.{Read}
-use Rattle.pipe_model.specs.Row.{Pair, Act, Goal, Known, Plan, Row, sees, without, without_all}
+use Rattle.pipe_model.specs.Row.{Pair, Goal, Known, Plan, sees, without, without_all}
 use Rattle.pipe_model.specs.Row.Act.{Takes}
-use Rattle.pipe_model.specs.Row.Goal.{Asks, Ends}
-use Rattle.pipe_model.specs.Shape.{Rounding, row, writes, ends, lacks, all_inputs, look, has_any, act_on, round_of, read_or_act, round_plan}
+use Rattle.pipe_model.specs.Shape.{Rounding, row, ends, lacks, all_inputs, look, has_any, round_of, read_or_act, round_plan}
 use Rattle.pipe_model.specs.Next.{learned, nothing_known}
 use Rattle.pipe_model.specs.Members.{has}
 use Rattle.confluence_laws.proofs.Basics.{both, not_so, found_at, same_number}
