@@ -1,0 +1,79 @@
+-- How many outputs have not refused.
+use Rattle.std.proofs.Common.{◌≡◌, ◌≢◌, ◌⊎◌, inl, inr, ℕ, zero, suc, ◌+◌, ◌*◌, ◌≤◌, ◌<◌, Bool, true, false, cond, ◌&&◌, ◌||◌, not, ◌==◌, List, [], ◌∷◌, ◌++◌, length, refl, sym, ◌∙◌, ap, subst, arith, Some, None, pos, negsuc}
+use Rattle.std.specs.List.{list_all}
+use Rattle.std.specs.Ordering.{int_eq}
+use Rattle.pipe_model.specs.declared.net.Strand.{Strand}
+use Rattle.pipe_model.specs.Event.{Event, Want, one_more, answers, is_took, tooks_on}
+use Rattle.pipe_model.specs.Event.Event.{Up, Saw, SawEnd, SawAllEnd, Took, Put, Refused, Primed, Ended}
+use Rattle.pipe_model.specs.Event.Want.{Commit, Read, Any, Gate, Take, Write, Prime, Issue, Join, Sever, Done}
+use Rattle.pipe_model.specs.Row.{Pair, Act, Goal, Known}
+use Rattle.pipe_model.specs.Row.Act.{Writes, Repeats, Takes}
+use Rattle.pipe_model.specs.Row.Goal.{Asks, Ends}
+use Rattle.pipe_model.specs.Table.{form}
+use Rattle.pipe_model.specs.Next.{Phase, Past, IsOwn, is_live, is_open, is_refused, doing, begins_plan, learned, nothing_known, first_phase, after, want_in, heard}
+use Rattle.pipe_model.specs.Members.{has, flag_at}
+use Rattle.pipe_model.specs.Row.{sees, without}
+use Rattle.pipe_model.specs.Next.Phase.{Starting, Doing, Lost}
+use Rattle.confluence_laws.proofs.Basics.{both, and_false, same_number, test_same, test_apart, equal_or_not}
+use Rattle.confluence_laws.proofs.Facts.{IsLook, IsFiniteLook, asked_by, reach_of, any_reach, has_all}
+use Rattle.confluence_laws.proofs.Sound.{sound_line}
+use Rattle.confluence_laws.proofs.Asked.{IsPlainStrand, finite_row}
+use Rattle.confluence_laws.proofs.Fitting.{PhaseFits, PhaseLives, past_of, still_wants, own_fits, own_knows, own_lives, IsOnce}
+use Rattle.confluence_laws.proofs.Sums.{over, over_same, over_more}
+use Rattle.confluence_laws.proofs.InSight.{count_on, count_none, count_saw, count_took, count_other}
+use Rattle.confluence_laws.proofs.Heard.{heard_plain}
+
+-- how many outputs have not refused
+abbrev pub open_from : ℕ → List Bool → List ℕ → ℕ
+open_from k [] refused = 0
+open_from k (flag ∷ flags) refused = one_more (flag && not (has refused k)) (open_from (suc k) flags refused)
+
+-- a refusal makes one open output less
+pub less_open : (k : ℕ) (flags : List Bool) (refused : List ℕ) (o n : ℕ) → flag_at flags o ≡ true → n ≡ k + o → has refused n ≡ false → suc (open_from k flags (n ∷ refused)) ≤ open_from k flags refused
+less_open k [] refused o n flag e free = cc
+less_open k (f ∷ flags) refused zero n flag e free = now (let z : n ≡ k = omega (arith, e) in z)
+  where
+    fewer : (k : ℕ) (flags : List Bool) → open_from k flags (n ∷ refused) ≤ open_from k flags refused
+    fewer k [] = omega arith
+    fewer k (f ∷ flags) = by_test (n == k) f (has refused k) (fewer (suc k) flags)
+      where
+        by_test : (a b c : Bool) {x y : ℕ} → x ≤ y → one_more (b && not (a || c)) x ≤ one_more (b && not c) y
+        by_test true true true p = p
+        by_test true true false p = omega (arith, p)
+        by_test false true true p = p
+        by_test false true false p = omega (arith, p)
+        by_test true false c p = p
+        by_test false false c p = p
+
+    now : n ≡ k → suc (one_more (f && not ((n == k) || has refused k)) (open_from (suc k) flags (n ∷ refused))) ≤ one_more (f && not (has refused k)) (open_from (suc k) flags refused)
+    now is =
+        let a : (n == k) ≡ true = subst (λ z. (n == z) ≡ true) is (test_same n) in
+        let b : has refused k ≡ false = subst (λ z. has refused z ≡ false) is free in
+        let flagged : f ≡ true = flag in
+        let r = fewer (suc k) flags in
+        by_eq (n == k) f (has refused k) a flagged b r
+      where
+        by_eq : (a b c : Bool) → a ≡ true → b ≡ true → c ≡ false → {x y : ℕ} → x ≤ y → suc (one_more (b && not (a || c)) x) ≤ one_more (b && not c) y
+        by_eq true true false p q r s = omega (arith, s)
+        by_eq true true true p q r s = cc
+        by_eq true false c p q r s = cc
+        by_eq false b c p q r s = cc
+less_open k (f ∷ flags) refused (suc o) n flag e free =
+    let r = less_open (suc k) flags refused o n flag (omega (arith, e)) free in
+    let apart : n ≢ k = λ z. omega (arith, z, e) in
+    by_test (n == k) f (has refused k) (test_apart n k apart) r
+  where
+    by_test : (a b c : Bool) → a ≡ false → {x y : ℕ} → suc x ≤ y → suc (one_more (b && not (a || c)) x) ≤ one_more (b && not c) y
+    by_test true b c e p = cc
+    by_test false true true e p = p
+    by_test false true false e p = omega (arith, p)
+    by_test false false c e p = p
+
+-- there are no more than outputs
+pub all_open : (k : ℕ) (flags : List Bool) → open_from k flags [] ≤ length flags
+all_open k [] = omega arith
+all_open k (f ∷ flags) = by_test f (all_open (suc k) flags)
+  where
+    by_test : (b : Bool) {x y : ℕ} → x ≤ y → one_more (b && true) x ≤ suc y
+    by_test true p = omega (arith, p)
+    by_test false p = omega (arith, p)

@@ -1,0 +1,161 @@
+-- What holds of all histories of a legal dispatch: they are the strands' own, and a record in sight on a rendezvous waits to be put.
+use Rattle.std.proofs.Common.{◌≡◌, ◌≢◌, ◌⊎◌, inl, inr, ℕ, ◌<◌, ◌+◌, ◌-◌, Bool, true, false, cond, ◌&&◌, not, ◌==◌, List, [], ◌∷◌, refl, sym, ◌∙◌, ap, subst, arith, Option, Some, None, slice_get}
+use Rattle.pipe_model.specs.declared.net.Net.{Net}
+use Rattle.pipe_model.specs.declared.net.Link.{Link}
+use Rattle.pipe_model.specs.declared.net.Strand.{Strand}
+use Rattle.pipe_model.specs.declared.step.Entry.{Entry}
+use Rattle.pipe_model.specs.Event.{Event, Want, puts_on, tooks_on, records_on, is_took, one_more, has_ended, in_sight, answers}
+use Rattle.pipe_model.specs.Event.Event.{Saw, SawAllEnd, Took, Severed, Ended}
+use Rattle.pipe_model.specs.Event.Want.{Commit, Read, Any, Gate, Take, Write, Prime, Issue, Join, Sever, Done}
+use Rattle.pipe_model.specs.Table.{form, line_of}
+use Rattle.pipe_model.specs.Form.{parting_by}
+use Rattle.pipe_model.specs.Form.{Meeting}
+use Rattle.pipe_model.specs.Form.Meeting.{Ordered, Braided, Loose}
+use Rattle.pipe_model.specs.Form.Parting.{Queued}
+use Rattle.pipe_model.specs.Next.{next, IsOwn}
+use Rattle.pipe_model.specs.State.{State, Who, past, same, nothing_yet, with_event, with_some_event, strand_at, link_in, link_out, issued_unit}
+use Rattle.pipe_model.specs.Licence.{none_left, want_after, want_at, tooks, is_level, offered, shown, at_hand, is_over, may_put, may_refuse, up_answer, read_answer, any_answer, write_answer, primed_answer, joined_answer, joined_by, all_over, answer, licence, level_of, first_part, primed_by, sight_of}
+use Rattle.pipe_model.specs.Play.{step, IsLicensed, play_from, IsLegalFrom, play, IsLegal}
+use Rattle.pipe_model.specs.WellFormed.{IsWellFormed, strands_of}
+use Rattle.pipe_model.specs.Settled.{is_thin, OnWalk, IsBraided, IsSettled, Meets}
+use Rattle.pipe_model.specs.Settled.OnWalk.{comes_from, passes}
+use Rattle.confluence_laws.proofs.Basics.{cond_some, both, the_event, same_number, equal_or_not, at_same, at_other, found_at, not_ended, from_in}
+use Rattle.confluence_laws.proofs.Facts.{Allows}
+use Rattle.confluence_laws.proofs.Sound.{sound_line}
+use Rattle.confluence_laws.proofs.Fitting.{past_of, stands_for}
+use Rattle.confluence_laws.proofs.Later.{over_there, not_writer, same_want, actor_goes_on}
+use Rattle.confluence_laws.proofs.Owns.{answers_it, saw_asked, sight_before, thin_never_any, thin_writes}
+
+-- a writer waits on the link, and what it wrote before was taken
+pub record IsWriting (net : Net) (st : State) (l : Link) : Type 0 where
+  pub shown_there : (rec : List ℕ) × (offered l.output (want_at net st none_left l.from) ≡ Some rec)
+  pub level : is_level st l ≡ true
+
+-- what holds of all histories of a legal dispatch
+pub record IsReached (net : Net) (st : State) : Type 0 where
+  -- each strand's history answers its own wants
+  pub own : (s : Who) (p : Strand) → strand_at net st s ≡ Some p → IsOwn p (past st s)
+  -- as long as a record is in sight, its writer waits
+  pub waits : (s : Who) (i : ℕ) (l : Link) → link_in net st s i ≡ Some l → l.queue ≡ false → has_ended (past st s) ≡ false → in_sight i (past st s) ≡ true → IsWriting net st l
+
+-- it holds before the first entry
+pub at_first : (net : Net) → IsReached net nothing_yet
+at_first net = record { own = λ s p e. tt; waits = λ s i l e q g x. cc }
+
+-- what a look shows is written there
+pub seen_there : (net : Net) (st : State) (l : Link) (rec : List ℕ) → l.queue ≡ false → shown net st none_left l ≡ Some rec → IsWriting net st l
+seen_there net st l rec plain got =
+    let open_now : cond (is_level st l) (offered l.output (want_at net st none_left l.from)) None ≡ Some rec =
+    ap (λ b. cond b (slice_get (records_on l.output (past st l.from)) (tooks st l)) (cond (is_level st l) (offered l.output (want_at net st none_left l.from)) None)) (sym plain) ∙ got in
+    let c = cond_some (is_level st l) (offered l.output (want_at net st none_left l.from)) open_now in
+    record { shown_there = (rec, c.1); level = c.0 }
+
+-- a look at an input that saw a record
+pub saw_it : (net : Net) (st : State) (t : Who) (k i : ℕ) (rec : List ℕ) → licence net st none_left t k ≡ Some (Saw i rec) → at_hand net st none_left (link_in net st t i) ≡ Some rec
+saw_it net st t k i rec may = by_look (saw_asked (want_at net st none_left t) i rec (answers_it net st t k (Saw i rec) may))
+  where
+    hand : ℕ → Option (List ℕ)
+    hand j = at_hand net st none_left (link_in net st t j)
+
+    read : (j : ℕ) (a : Option (List ℕ)) (over : Bool) → read_answer j a over ≡ Some (Saw i rec) → (j ≡ i) × (a ≡ Some rec)
+    read j (Some x) over p = (cc, cc)
+    read j None true p = cc
+    read j None false p = cc
+
+    any : (j : ℕ) (a : Option (List ℕ)) (over : Bool) → any_answer j a over ≡ Some (Saw i rec) → (j ≡ i) × (a ≡ Some rec)
+    any j (Some x) over p = (cc, cc)
+    any j None true p = cc
+    any j None false p = cc
+
+    at : (j : ℕ) → (j ≡ i) × (at_hand net st none_left (link_in net st t j) ≡ Some rec) → at_hand net st none_left (link_in net st t i) ≡ Some rec
+    at j x = subst (λ z. at_hand net st none_left (link_in net st t z) ≡ Some rec) x.0 x.1
+
+    does : (want : Want) → want_at net st none_left t ≡ Some want → answer (sight_of net st none_left t) k (Some want) ≡ Some (Saw i rec)
+    does want is = ap (answer (sight_of net st none_left t) k) (sym is) ∙ may
+
+    by_look : (want_at net st none_left t ≡ Some (Read i)) ⊎ ((want_at net st none_left t ≡ Some Any) ⊎ (want_at net st none_left t ≡ Some Gate)) → at_hand net st none_left (link_in net st t i) ≡ Some rec
+    by_look (inl is) =
+        at i (read i (at_hand net st none_left (link_in net st t i)) (is_over st (link_in net st t i)) (cond_some (k == i) (read_answer i (at_hand net st none_left (link_in net st t i)) (is_over st (link_in net st t i))) (does (Read i) is)).1)
+    by_look (inr (inl is)) = at k (any k (at_hand net st none_left (link_in net st t k)) (k == 0 && all_over net st t) (does Any is))
+    by_look (inr (inr is)) = at k (read k (at_hand net st none_left (link_in net st t k)) (k == 0 && is_over st (link_in net st t k)) (does Gate is))
+
+-- what is in sight after an event isn't what it took
+not_took : (i : ℕ) (f : Event) (h : List Event) → in_sight i (f ∷ h) ≡ true → is_took i f ≡ false
+not_took i (Took j) h p = (elim (j == i) as (λ b. (not b && in_sight i h) ≡ true → b ≡ false) [ true ↦ λ q. cc | false ↦ λ q. refl ]) p
+not_took i _ h p = refl
+
+-- One event more
+
+module _ (net : Net) (formed : IsWellFormed net) (st : State) (reached : IsReached net st) (t : Who) (k : ℕ) (f : Event) (licensed : licence net st none_left t k ≡ Some f) where
+  -- its strand's history answers its own wants, and the others are as they were
+  own_after : (s : Who) (p : Strand) → strand_at net st s ≡ Some p → IsOwn p (past (with_event st t f) s)
+  own_after s p e = elim (equal_or_not s t) [
+    | inl it ↦ subst (IsOwn p) (sym (ap (past (with_event st t f)) it ∙ at_same st t f))
+        (subst (λ w. answers w f ≡ true) (ap (λ x. want_after x (past st t)) (sym (ap (strand_at net st) it) ∙ e)) (answers_it net st t k f licensed), reached.own t p (sym (ap (strand_at net st) it) ∙ e))
+    | inr other ↦ subst (IsOwn p) (sym (at_other st t f s other)) (reached.own s p e)
+  ]
+
+  -- as long as a record is in sight, its writer waits still
+  waits_after : (s : Who) (i : ℕ) (l : Link) → link_in net st s i ≡ Some l → l.queue ≡ false → has_ended (past (with_event st t f) s) ≡ false → in_sight i (past (with_event st t f) s) ≡ true → IsWriting net (with_event st t f) l
+  waits_after s i l e plain going sight = still (elim (equal_or_not s t) [
+    | inl it ↦
+        let now : past (with_event st t f) s ≡ f ∷ past st t = ap (past (with_event st t f)) it ∙ at_same st t f in
+        let linked : link_in net st t i ≡ Some l = subst (λ z. link_in net st z i ≡ Some l) it e in
+        by_sight linked (sight_before i f (past st t) (subst (λ x. in_sight i x ≡ true) now sight))
+    | inr other ↦
+        reached.waits s i l e plain (subst (λ x. has_ended x ≡ false) (at_other st t f s other) going) (subst (λ x. in_sight i x ≡ true) (at_other st t f s other) sight)
+  ])
+    where
+      ends : (l.to ≡ s) × (l.input ≡ i) × (link_out net st l.from l.output ≡ Some l)
+      ends = from_in net formed st s i l e
+
+      by_sight : link_in net st t i ≡ Some l → (in_sight i (past st t) ≡ true) ⊎ ((rec : List ℕ) × (f ≡ Saw i rec)) → IsWriting net st l
+      by_sight linked (inl before) = reached.waits t i l linked plain (actor_goes_on net formed st t f k licensed) before
+      by_sight linked (inr now) =
+          let x = saw_it net st t k i now.0 (licensed ∙ ap Some now.1) in
+          seen_there net st l now.0 plain (ap (at_hand net st none_left) (sym linked) ∙ x)
+
+      open_there : has_ended (past st s) ≡ false
+      open_there = elim (equal_or_not s t) [
+        | inl it ↦ subst (λ x. has_ended (past st x) ≡ false) (sym it) (actor_goes_on net formed st t f k licensed)
+        | inr other ↦ subst (λ x. has_ended x ≡ false) (at_other st t f s other) going
+      ]
+
+      same_tooks : tooks_on i (past (with_event st t f) s) ≡ tooks_on i (past st s)
+      same_tooks = elim (equal_or_not s t) [
+        | inl it ↦
+            let now : past (with_event st t f) s ≡ f ∷ past st t = ap (past (with_event st t f)) it ∙ at_same st t f in
+            ap (tooks_on i) now ∙ ap (λ b. one_more b (tooks_on i (past st t))) (not_took i f (past st t) (subst (λ x. in_sight i x ≡ true) now sight)) ∙ ap (λ x. tooks_on i (past st x)) (sym it)
+        | inr other ↦ ap (tooks_on i) (at_other st t f s other)
+      ]
+
+      still : IsWriting net st l → IsWriting net (with_event st t f) l
+      still w =
+          let other = not_writer net formed st t f k licensed l w.shown_there.0 ends.2 plain w.level (subst (λ x. has_ended (past st x) ≡ false) (sym ends.0) open_there) w.shown_there.1 in
+          let from_is = at_other st t f l.from other in
+          record {
+            shown_there = (w.shown_there.0, ap (offered l.output) (same_want net formed st t f k licensed l.from from_is) ∙ w.shown_there.1);
+            level = ap (λ x. puts_on l.output x == tooks_on l.input (past (with_event st t f) l.to)) from_is
+                ∙ ap (λ n. puts_on l.output (past st l.from) == n) (subst (λ x. tooks_on l.input (past (with_event st t f) x) ≡ tooks_on l.input (past st x)) (sym ends.0) (subst (λ j. tooks_on j (past (with_event st t f) s) ≡ tooks_on j (past st s)) (sym ends.1) same_tooks))
+                ∙ w.level;
+          }
+
+  -- so all that holds of reached states holds after it
+  pub reached_after : IsReached net (with_event st t f)
+  reached_after = record { own = own_after; waits = waits_after }
+
+module _ (net : Net) (formed : IsWellFormed net) where
+  -- and after any licensed entry
+  pub step_reached : (st : State) (e : Entry) → IsReached net st → IsLicensed net st e → IsReached net (step net st e)
+  step_reached st e reached may =
+      let x = the_event (licence net st none_left e.strand e.stream) may in
+      subst (λ (z : Option Event). IsReached net (with_some_event st e.strand z)) (sym x.1) (reached_after net formed st reached e.strand e.stream x.0 x.1)
+
+  -- a legal dispatch leads from a reached state to a reached state
+  pub reached_from : (st : State) (es : List Entry) → IsReached net st → IsLegalFrom net st es → IsReached net (play_from net st es)
+  reached_from st [] reached legal = reached
+  reached_from st (e ∷ es) reached legal = reached_from (step net st e) es (step_reached st e reached legal.0) legal.1
+
+  -- a legal dispatch leads to a reached state
+  pub play_reached : (es : List Entry) → IsLegal net es → IsReached net (play net es)
+  play_reached es legal = reached_from nothing_yet es (at_first net) legal
