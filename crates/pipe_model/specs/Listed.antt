@@ -128,5 +128,5 @@ headed master (detail ∷ details) = master ∷ detail ∷ details
 abbrev pub collate_pairs : Range → Range → Records → Records → List Pair
 collate_pairs of_master of_detail masters details =
     on_output 0 (flat_map (λ master. headed master (filter (agree of_master of_detail master) details)) masters)
-    ++ on_output 1 (unmatched of_master of_detail masters details)
-    ++ on_output 2 (filter (λ detail. not (list_any (λ master. agree of_master of_detail master detail) masters)) details)
+    ++ (on_output 1 (unmatched of_master of_detail masters details)
+    ++ on_output 2 (filter (λ detail. not (list_any (λ master. agree of_master of_detail master detail) masters)) details))
