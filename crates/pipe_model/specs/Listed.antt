@@ -4,6 +4,7 @@ use Rattle.std.specs.List.{list_any, list_all}
 use Rattle.std.specs.declared.option.Option.TheVariants.{None}
 use Rattle.pipe_model.specs.declared.net.Strand.{Strand}
 use Rattle.pipe_model.specs.declared.range.Range.{Range}
+use Rattle.pipe_model.specs.declared.keys.SortKey.{SortKey}
 use Rattle.pipe_model.specs.Event.{Event, records_on, taken_from, code_of}
 use Rattle.pipe_model.specs.Row.{Pair}
 use Rattle.pipe_model.specs.Shape.{Records, Outs, Stream, Shape, last_pairs, all_inputs}
@@ -15,6 +16,7 @@ use Rattle.pipe_model.specs.Ranges.{part_of}
 use Rattle.pipe_model.specs.Keys.{is_less}
 use Rattle.pipe_model.specs.Inputs.{records_from}
 use Rattle.pipe_model.specs.JoiningRows.{on_output, agree, looked_up, first_of_key, unmatched}
+use Rattle.pipe_model.specs.OrderRows.{sorted}
 use Rattle.pipe_model.specs.Alone.{Given}
 
 -- One list of records
@@ -105,19 +107,13 @@ abbrev pub are_distinct : Range → Records → Bool
 are_distinct range [] = true
 are_distinct range (rec ∷ recs) = not (list_any (agree range range rec) recs) && are_distinct range recs
 
--- a record, before the first of others that isn't less
-abbrev pub inserted : Range → List ℕ → Records → Records
-inserted range rec [] = rec ∷ []
-inserted range rec (other ∷ others) = if is_less (part_of range other) (part_of range rec) then other ∷ inserted range rec others else rec ∷ other ∷ others
+-- the key of a range, from the least on
+abbrev pub ascending : Range → SortKey
+ascending range = record { range = range; descending = false }
 
--- the records in order, and those with one key as they came
-abbrev pub sorted : Range → Records → Records
-sorted range [] = []
-sorted range (rec ∷ recs) = inserted range rec (sorted range recs)
-
--- MERGE: where each input is sorted, the stable sort of its inputs one after another
+-- MERGE, where each input is sorted: what SORT makes of its inputs one after another
 abbrev pub merge_pairs : Range → (ℕ → Records) → ℕ → List Pair
-merge_pairs range inputs n = on_output 0 (sorted range (flat_map inputs (all_inputs n)))
+merge_pairs range inputs n = on_output 0 (sorted (ascending range ∷ []) (flat_map inputs (all_inputs n)))
 
 -- a master before its details, if it has any
 abbrev pub headed : List ℕ → Records → Records

@@ -10,7 +10,6 @@ use Rattle.pipe_model.specs.Shape.Shape.{Absent, Sources, Lists, Sinks, Firsts, 
 use Rattle.pipe_model.specs.Table.{form}
 use Rattle.pipe_model.specs.Next.{begins_plan, nothing_known}
 use Rattle.pipe_model.specs.Alone.{Given, IsAllAlone}
-use Rattle.pipe_model.specs.Inputs.{records_from}
 use Rattle.pipe_model.specs.JoiningRows.{on_output}
 use Rattle.pipe_model.specs.Listed.{pairs_after, taken_after, code_after, IsUnlimited, IsListed, Puts, Does}
 use Rattle.stream_laws.proofs.Streams.{at_hand_last}

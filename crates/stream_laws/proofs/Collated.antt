@@ -3,6 +3,7 @@ use Rattle.std.proofs.Common.{◌≡◌, ℕ, Bool, true, false, cond, ◌&&◌,
 use Rattle.std.proofs.lemmas.Bool.Decides.{nat_tests}
 use Rattle.std.specs.Prelude.{filter, flat_map}
 use Rattle.std.specs.List.{list_all, list_any}
+use Rattle.std.proofs.lemmas.List.{append-nil}
 use Rattle.pipe_model.specs.declared.range.Range.{Range}
 use Rattle.pipe_model.specs.Row.{Pair}
 use Rattle.pipe_model.specs.Shape.{Records}
@@ -11,8 +12,8 @@ use Rattle.pipe_model.specs.Keys.{is_less, is_same}
 use Rattle.pipe_model.specs.Inputs.{records_from}
 use Rattle.pipe_model.specs.JoiningRows.{on_output, agree, unmatched}
 use Rattle.pipe_model.specs.Listed.{are_sorted, are_distinct, headed, collate_pairs}
-use Rattle.stream_laws.proofs.Beginnings.{test_same, same_number}
-use Rattle.stream_laws.proofs.Streams.{on_both, on_its, on_others, output_both}
+use Rattle.stream_laws.proofs.Beginnings.{same_number}
+use Rattle.stream_laws.proofs.Streams.{on_both, on_others, output_both}
 use Rattle.stream_laws.proofs.KeyOrder.{less_one_way, less_between, same_is}
 use Rattle.stream_laws.proofs.Leasts.{all_imply, not_true, and_both}
 
@@ -197,17 +198,13 @@ module _ (of_master of_detail : Range) where
       turned : (k j : ℕ) → (j == k) ≡ false → (k == j) ≡ false
       turned k j e = grind (arith, nat_tests)
 
-      no_more' : (zs : Records) → zs ++ [] ≡ zs
-      no_more' [] = refl
-      no_more' (z ∷ zs) = ap (λ y. z ∷ y) (no_more' zs)
-
       by_test : (b : Bool) → (j == o) ≡ b → records_from o (on_output j xs) ++ records_from o (on_output k ys) ≡ records_from o (on_output k ys) ++ records_from o (on_output j xs)
       by_test true is =
           let z : records_from o (on_output k ys) ≡ [] = on_others k o ys (ap (λ y. k == y) (sym (same_number j o is)) ∙ turned k j apart) in
-          ap (λ y. records_from o (on_output j xs) ++ y) z ∙ no_more' (records_from o (on_output j xs)) ∙ ap (λ y. y ++ records_from o (on_output j xs)) (sym z)
+          ap (λ y. records_from o (on_output j xs) ++ y) z ∙ append-nil (records_from o (on_output j xs)) ∙ ap (λ y. y ++ records_from o (on_output j xs)) (sym z)
       by_test false is =
           let z : records_from o (on_output j xs) ≡ [] = on_others j o xs is in
-          ap (λ y. y ++ records_from o (on_output k ys)) z ∙ sym (no_more' (records_from o (on_output k ys))) ∙ ap (λ y. records_from o (on_output k ys) ++ y) (sym z)
+          ap (λ y. y ++ records_from o (on_output k ys)) z ∙ sym (append-nil (records_from o (on_output k ys))) ∙ ap (λ y. records_from o (on_output k ys) ++ y) (sym z)
 
   pub before_same : (xs ys zs : List Pair) → Alike ys zs → Alike (xs ++ ys) (xs ++ zs)
   before_same xs ys zs e o = on_both o xs ys ∙ ap (λ z. records_from o xs ++ z) (e o) ∙ sym (on_both o xs zs)
@@ -218,8 +215,8 @@ module _ (of_master of_detail : Range) where
       ap (records_from o) (sym (append_assoc (on_output 1 y) (on_output 0 a) (on_output 1 b ++ on_output 2 c))) ∙ on_both o (on_output 1 y ++ on_output 0 a) (on_output 1 b ++ on_output 2 c)
       ∙ ap (λ z. z ++ records_from o (on_output 1 b ++ on_output 2 c)) (swapped 1 0 refl y a o) ∙ sym (on_both o (on_output 0 a ++ on_output 1 y) (on_output 1 b ++ on_output 2 c))
       ∙ ap (records_from o) (
-        append_assoc (on_output 0 a) (on_output 1 y) (on_output 1 b ++ on_output 2 c)
-        ∙ ap (λ z. on_output 0 a ++ z) (sym (append_assoc (on_output 1 y) (on_output 1 b) (on_output 2 c)) ∙ ap (λ z. z ++ on_output 2 c) (sym (output_both 1 y b)))
+      append_assoc (on_output 0 a) (on_output 1 y) (on_output 1 b ++ on_output 2 c)
+      ∙ ap (λ z. on_output 0 a ++ z) (sym (append_assoc (on_output 1 y) (on_output 1 b) (on_output 2 c)) ∙ ap (λ z. z ++ on_output 2 c) (sym (output_both 1 y b)))
       )
 
   moved_2 : (y a b c : Records) → Alike (on_output 2 y ++ on_three a b c) (on_three a b (y ++ c))
@@ -241,11 +238,11 @@ module _ (of_master of_detail : Range) where
   pub match_round : (new : Bool) (m d : List ℕ) (ms ds : Records) → fits m d ≡ true → list_all (λ later. not (fits later d)) ms ≡ true →
       Alike (on_output 0 (cond new (m ∷ d ∷ []) (d ∷ [])) ++ left_pairs false (m ∷ ms) ds) (left_pairs new (m ∷ ms) (d ∷ ds))
   match_round new m d ms ds is none o = ap (records_from o) (
-    sym (append_assoc (on_output 0 (cond new (m ∷ d ∷ []) (d ∷ []))) (on_output 0 (left_0 false (m ∷ ms) ds)) (on_output 1 (left_1 false (m ∷ ms) ds) ++ on_output 2 (without_master (m ∷ ms) ds)))
-    ∙ ap (λ z. z ++ (on_output 1 (left_1 false (m ∷ ms) ds) ++ on_output 2 (without_master (m ∷ ms) ds))) (sym (output_both 0 (cond new (m ∷ d ∷ []) (d ∷ [])) (left_0 false (m ∷ ms) ds)) ∙ ap (on_output 0) (firsts new))
-    ∙ ap (λ z. on_output 0 (left_0 new (m ∷ ms) (d ∷ ds)) ++ (on_output 1 z ++ on_output 2 (without_master (m ∷ ms) ds))) (seconds new)
-    ∙ ap (λ z. on_output 0 (left_0 new (m ∷ ms) (d ∷ ds)) ++ (on_output 1 (left_1 new (m ∷ ms) (d ∷ ds)) ++ on_output 2 z)) thirds
-  )
+      sym (append_assoc (on_output 0 (cond new (m ∷ d ∷ []) (d ∷ []))) (on_output 0 (left_0 false (m ∷ ms) ds)) (on_output 1 (left_1 false (m ∷ ms) ds) ++ on_output 2 (without_master (m ∷ ms) ds)))
+      ∙ ap (λ z. z ++ (on_output 1 (left_1 false (m ∷ ms) ds) ++ on_output 2 (without_master (m ∷ ms) ds))) (sym (output_both 0 (cond new (m ∷ d ∷ []) (d ∷ [])) (left_0 false (m ∷ ms) ds)) ∙ ap (on_output 0) (firsts new))
+      ∙ ap (λ z. on_output 0 (left_0 new (m ∷ ms) (d ∷ ds)) ++ (on_output 1 z ++ on_output 2 (without_master (m ∷ ms) ds))) (seconds new)
+      ∙ ap (λ z. on_output 0 (left_0 new (m ∷ ms) (d ∷ ds)) ++ (on_output 1 (left_1 new (m ∷ ms) (d ∷ ds)) ++ on_output 2 z)) thirds
+      )
     where
       its : filter (fits m) (d ∷ ds) ≡ d ∷ filter (fits m) ds
       its = ap (λ z. cond z (d ∷ filter (fits m) ds) (filter (fits m) ds)) is

@@ -1,21 +1,20 @@
 -- FANIN puts its inputs one after another.
-use Rattle.std.proofs.Common.{◌≡◌, ◌≢◌, ℕ, zero, suc, ◌+◌, ◌<◌, ◌≤◌, Bool, true, false, cond, ◌&&◌, ◌||◌, not, ◌==◌, List, [], ◌∷◌, ◌++◌, refl, sym, ◌∙◌, ap, subst, arith, Some, None, pos, append_assoc}
+use Rattle.std.proofs.Common.{◌≡◌, ℕ, zero, suc, ◌+◌, ◌<◌, ◌≤◌, Bool, true, false, cond, ◌&&◌, ◌||◌, not, ◌==◌, List, [], ◌∷◌, ◌++◌, refl, sym, ◌∙◌, ap, subst, arith, Some, None, pos, append_assoc}
 use Rattle.std.specs.Prelude.{find, flat_map, nat_lt}
 use Rattle.std.specs.List.{range_with_len}
 use Rattle.std.proofs.lemmas.Bool.Decides.{nat_tests}
 use Rattle.pipe_model.specs.declared.net.Strand.{Strand}
 use Rattle.pipe_model.specs.Event.{Event}
 use Rattle.pipe_model.specs.Row.{Pair, Known}
-use Rattle.pipe_model.specs.Shape.{Records, can_read, turn_plan, all_inputs}
-use Rattle.pipe_model.specs.FanRows.{passed, fanning_in}
+use Rattle.pipe_model.specs.Shape.{Records, can_read, turn_plan}
+use Rattle.pipe_model.specs.FanRows.{fanning_in}
 use Rattle.pipe_model.specs.Inputs.{records_from, at_hand_causes}
 use Rattle.pipe_model.specs.JoiningRows.{on_output}
 use Rattle.pipe_model.specs.Table.{form}
 use Rattle.pipe_model.specs.Members.{has}
 use Rattle.pipe_model.specs.Alone.{Given, IsAllAlone}
 use Rattle.pipe_model.specs.Listed.{fan_in_pairs, IsUnlimited, Puts}
-use Rattle.stream_laws.proofs.Beginnings.{test_same}
-use Rattle.stream_laws.proofs.Streams.{no_more, on_both, on_others, output_both}
+use Rattle.stream_laws.proofs.Streams.{on_both, on_others, output_both}
 use Rattle.stream_laws.proofs.Places.{puts_connected}
 use Rattle.stream_laws.proofs.Turned.{caused, At, turns_begin, turns_over, read_all}
 

@@ -1,5 +1,5 @@
 -- Of the records in sight one goes before all others.
-use Rattle.std.proofs.Common.{◌≡◌, ◌⊎◌, inl, inr, ℕ, Bool, true, false, cond, ◌&&◌, ◌||◌, not, ◌==◌, List, [], ◌∷◌, ◌++◌, refl, sym, ◌∙◌, ap, subst, arith}
+use Rattle.std.proofs.Common.{◌≡◌, ℕ, Bool, true, false, cond, ◌&&◌, ◌||◌, not, ◌==◌, List, [], ◌∷◌, ◌++◌, refl, sym, ◌∙◌, ap, arith}
 use Rattle.std.specs.Prelude.{filter, nat_lt}
 use Rattle.std.specs.List.{list_all, list_any}
 use Rattle.std.proofs.lemmas.Bool.Decides.{nat_tests}
@@ -8,7 +8,7 @@ use Rattle.std.proofs.lemmas.List.Folds.{list_all-append, list_any-append}
 use Rattle.pipe_model.specs.declared.range.Range.{Range}
 use Rattle.pipe_model.specs.Row.{Pair}
 use Rattle.pipe_model.specs.Ranges.{part_of}
-use Rattle.pipe_model.specs.Keys.{is_less, is_same}
+use Rattle.pipe_model.specs.Keys.{is_less}
 use Rattle.pipe_model.specs.JoiningRows.{goes_first, is_least}
 use Rattle.pipe_model.specs.Shape.{Records, records_of}
 use Rattle.pipe_model.specs.Inputs.{records_from}
@@ -162,7 +162,7 @@ module _ (range : Range) where
         whole = refl;
         none_before = refl;
         none_behind = all_imply (λ x. not (goes_first range x m.least)) (λ x. not (goes_first range x p)) (q ∷ qs)
-        (λ x e. ap (λ z. not z) (goes_one_way range p x (only (goes_first range p x) (goes_first range x m.least) (goes_between range p x m.least is) (not_true (goes_first range x m.least) e)))) (pick_all (q ∷ qs) m);
+            (λ x e. ap (λ z. not z) (goes_one_way range p x (only (goes_first range p x) (goes_first range x m.least) (goes_between range p x m.least is) (not_true (goes_first range x m.least) e)))) (pick_all (q ∷ qs) m);
       }
         where
           only : (a b : Bool) → (a || b) ≡ true → b ≡ false → a ≡ true
@@ -191,8 +191,8 @@ module _ (range : Range) where
     parts : (records_from m.least.0 m.before ≡ []) × (records_from m.least.0 m.behind ≡ []) × (m.least.1 ≡ rec)
     parts =
         split (records_from m.least.0 m.before) m.least.1 (records_from m.least.0 m.behind) (
-          ap (λ z. records_from m.least.0 m.before ++ z) (sym (ap (λ b. records_of (cond b (m.least ∷ from m.least.0 m.behind) (from m.least.0 m.behind))) (test_same m.least.0)))
-          ∙ sym (on_both m.least.0 m.before (m.least ∷ m.behind)) ∙ ap (records_from m.least.0) (sym m.whole) ∙ alone
+        ap (λ z. records_from m.least.0 m.before ++ z) (sym (ap (λ b. records_of (cond b (m.least ∷ from m.least.0 m.behind) (from m.least.0 m.behind))) (test_same m.least.0)))
+        ∙ sym (on_both m.least.0 m.before (m.least ∷ m.behind)) ∙ ap (records_from m.least.0) (sym m.whole) ∙ alone
         )
 
     pub pick_rec : m.least.1 ≡ rec

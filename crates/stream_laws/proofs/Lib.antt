@@ -13,4 +13,5 @@ pub mod Leasts
 pub mod Sorts
 pub mod Merges
 pub mod Collated
+pub mod CollateRounds
 pub mod Collates

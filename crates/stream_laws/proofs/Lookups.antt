@@ -1,6 +1,7 @@
 -- LOOKUP puts each detail with the first master of its key, and at the end the masters that no detail matched.
-use Rattle.std.proofs.Common.{◌≡◌, ℕ, true, false, cond, ◌==◌, List, [], ◌∷◌, ◌++◌, refl, sym, ◌∙◌, ap, subst, Option, None, pos}
+use Rattle.std.proofs.Common.{◌≡◌, ℕ, cond, ◌==◌, List, [], ◌∷◌, ◌++◌, refl, sym, ◌∙◌, ap, subst, None, pos}
 use Rattle.std.specs.Prelude.{find, flat_map}
+use Rattle.std.proofs.lemmas.List.{append-nil}
 use Rattle.pipe_model.specs.declared.net.Strand.{Strand}
 use Rattle.pipe_model.specs.declared.range.Range.{Range}
 use Rattle.pipe_model.specs.Event.{Event}
@@ -11,9 +12,9 @@ use Rattle.pipe_model.specs.JoiningRows.{on_output, agree, first_of_key, looked_
 use Rattle.pipe_model.specs.Table.{form}
 use Rattle.pipe_model.specs.Alone.{Given, IsAllAlone}
 use Rattle.pipe_model.specs.Listed.{lookup_pairs, IsUnlimited, Puts}
-use Rattle.stream_laws.proofs.Streams.{no_more, on_both, on_its, on_others}
+use Rattle.stream_laws.proofs.Streams.{on_both, on_its, on_others}
 use Rattle.stream_laws.proofs.Places.{puts_connected}
-use Rattle.stream_laws.proofs.Turned.{caused, At, turns_begin, turns_over, read_all}
+use Rattle.stream_laws.proofs.Turned.{caused, turns_begin, turns_over, read_all}
 use Rattle.stream_laws.proofs.FanIns.{hand_causes}
 
 module _ (of_detail of_master : Range) where
@@ -35,10 +36,10 @@ module _ (of_detail of_master : Range) where
   unfolding causes
   each_looked_up masters seen are [] = refl
   each_looked_up masters seen are (rec ∷ rest) =
-      let still : records_from 1 (seen ++ (0, rec) ∷ []) ≡ masters = on_both 1 seen ((0, rec) ∷ []) ∙ no_more (records_from 1 seen) ∙ are in
+      let still : records_from 1 (seen ++ (0, rec) ∷ []) ≡ masters = on_both 1 seen ((0, rec) ∷ []) ∙ append-nil (records_from 1 seen) ∙ are in
       ap (λ z. z ++ caused (looking_up of_detail of_master) (seen ++ (0, rec) ∷ []) 0 rest) (
-        hand_causes (causes (seen ++ (0, rec) ∷ [])) seen 0 rec
-        ∙ ap (λ z. looked_up rec (find (λ master. agree of_master of_detail master rec) z)) still
+      hand_causes (causes (seen ++ (0, rec) ∷ [])) seen 0 rec
+      ∙ ap (λ z. looked_up rec (find (λ master. agree of_master of_detail master rec) z)) still
       )
       ∙ ap (λ z. looked_up rec (find (λ master. agree of_master of_detail master rec) masters) ++ z) (each_looked_up masters (seen ++ (0, rec) ∷ []) still rest)
 
@@ -51,10 +52,10 @@ module _ (s : Strand) (g : Given) (unlimited : IsUnlimited g) (W : List Event) (
       let c = read_all s g unlimited W done 2 (looking_up of_detail of_master) row_is 0 (1 ∷ []) (λ seen. refl) (g.inputs 0) masters (caused (looking_up of_detail of_master) [] 1 (g.inputs 1)) (ap (λ z. z ++ g.inputs 0) (sym (on_others 1 0 (g.inputs 1) refl))) b in
       let d = turns_over s g unlimited W done 2 (looking_up of_detail of_master) row_is both (0 ∷ 1 ∷ []) (caused (looking_up of_detail of_master) [] 1 (g.inputs 1) ++ caused (looking_up of_detail of_master) masters 0 (g.inputs 0)) refl c in
       subst (λ z. Puts s W z) (
-        ap (λ z. (z ++ caused (looking_up of_detail of_master) masters 0 (g.inputs 0)) ++ left (records_from 1 both) (records_from 0 both)) (no_pairs of_detail of_master [] (g.inputs 1))
-        ∙ ap (λ z. z ++ left (records_from 1 both) (records_from 0 both)) (each_looked_up of_detail of_master (g.inputs 1) masters (on_its 1 (g.inputs 1)) (g.inputs 0))
-        ∙ ap (λ z. found ++ left z (records_from 0 both)) (on_both 1 masters (on_output 0 (g.inputs 0)) ∙ ap (λ z. records_from 1 masters ++ z) (on_others 0 1 (g.inputs 0) refl) ∙ no_more (records_from 1 masters) ∙ on_its 1 (g.inputs 1))
-        ∙ ap (λ z. found ++ left (g.inputs 1) z) (on_both 0 masters (on_output 0 (g.inputs 0)) ∙ ap (λ z. z ++ records_from 0 (on_output 0 (g.inputs 0))) (on_others 1 0 (g.inputs 1) refl) ∙ on_its 0 (g.inputs 0))
+      ap (λ z. (z ++ caused (looking_up of_detail of_master) masters 0 (g.inputs 0)) ++ left (records_from 1 both) (records_from 0 both)) (no_pairs of_detail of_master [] (g.inputs 1))
+      ∙ ap (λ z. z ++ left (records_from 1 both) (records_from 0 both)) (each_looked_up of_detail of_master (g.inputs 1) masters (on_its 1 (g.inputs 1)) (g.inputs 0))
+      ∙ ap (λ z. found ++ left z (records_from 0 both)) (on_both 1 masters (on_output 0 (g.inputs 0)) ∙ ap (λ z. records_from 1 masters ++ z) (on_others 0 1 (g.inputs 0) refl) ∙ append-nil (records_from 1 masters) ∙ on_its 1 (g.inputs 1))
+      ∙ ap (λ z. found ++ left (g.inputs 1) z) (on_both 0 masters (on_output 0 (g.inputs 0)) ∙ ap (λ z. z ++ records_from 0 (on_output 0 (g.inputs 0))) (on_others 1 0 (g.inputs 1) refl) ∙ on_its 0 (g.inputs 0))
       ) (puts_connected s g unlimited W done _ both (pos 0) d)
     where
       masters : List Pair

@@ -1,29 +1,30 @@
 -- MERGE over sorted inputs puts their stable sort.
 use Rattle.std.proofs.Common.{◌≡◌, ◌⊎◌, inl, inr, ℕ, zero, suc, ◌+◌, ◌<◌, ◌≤◌, Bool, true, false, cond, ◌&&◌, ◌||◌, not, ◌==◌, List, [], ◌∷◌, ◌++◌, length, refl, sym, ◌∙◌, ap, subst, arith, None, pos, append_assoc}
 use Rattle.std.specs.Prelude.{filter, flat_map, nat_lt}
-use Rattle.std.specs.List.{list_all, list_any, range_with_len}
+use Rattle.std.specs.List.{list_all, range_with_len}
 use Rattle.std.proofs.lemmas.Bool.Decides.{nat_tests}
-use Rattle.std.proofs.lemmas.List.{length-append}
+use Rattle.std.proofs.lemmas.List.{append-nil, length-append}
 use Rattle.std.proofs.lemmas.List.Elements.{filter_agree}
 use Rattle.std.proofs.lemmas.List.Folds.{list_all-append}
 use Rattle.pipe_model.specs.declared.net.Strand.{Strand}
 use Rattle.pipe_model.specs.declared.range.Range.{Range}
 use Rattle.pipe_model.specs.Event.{Event}
-use Rattle.pipe_model.specs.Row.{Pair, Known, sees}
+use Rattle.pipe_model.specs.Row.{Pair, sees}
 use Rattle.pipe_model.specs.Shape.{Records, records_of, round_plan, all_inputs}
 use Rattle.pipe_model.specs.Ranges.{part_of}
 use Rattle.pipe_model.specs.Keys.{is_less, is_same}
 use Rattle.pipe_model.specs.Inputs.{records_from}
-use Rattle.pipe_model.specs.JoiningRows.{on_output, goes_first, is_least, merging}
+use Rattle.pipe_model.specs.JoiningRows.{on_output, goes_first, merging}
+use Rattle.pipe_model.specs.OrderRows.{sorted}
 use Rattle.pipe_model.specs.Table.{form}
 use Rattle.pipe_model.specs.Alone.{Given, IsAllAlone}
-use Rattle.pipe_model.specs.Listed.{sorted, are_sorted, merge_pairs, IsUnlimited, Puts}
+use Rattle.pipe_model.specs.Listed.{ascending, are_sorted, merge_pairs, IsUnlimited, Puts}
 use Rattle.stream_laws.proofs.Beginnings.{test_same, same_number}
-use Rattle.stream_laws.proofs.Streams.{from, no_more, on_both}
+use Rattle.stream_laws.proofs.Streams.{from, on_both}
 use Rattle.stream_laws.proofs.KeyOrder.{less_between, same_is}
 use Rattle.stream_laws.proofs.Sights.{sees_some}
 use Rattle.stream_laws.proofs.Places.{puts_connected}
-use Rattle.stream_laws.proofs.Rounded.{with_list, IsOver, IsSeen, IsOpen, Shows, Full, rounds_full, next_full, full_over}
+use Rattle.stream_laws.proofs.Rounded.{with_list, IsSeen, Shows, Full, rounds_full, next_full, full_over}
 use Rattle.stream_laws.proofs.Leasts.{all_imply, not_true, and_both, all_at, Pick, pick, pick_all, pick_rec, pick_only, pick_taken}
 use Rattle.stream_laws.proofs.Sorts.{Split, sorted_least, split_at}
 
@@ -204,10 +205,10 @@ module _ (s : Strand) (g : Given) (unlimited : IsUnlimited g) (W : List Event) (
     all_left = parts.whole ∙ ap (λ z. parts.front ++ (z ++ parts.back)) own.list
 
     -- so it is the first of the sorted records
-    sorted_is : sorted range (flat_map left (all_inputs n)) ≡ own.rec ∷ sorted range (flat_map (with_list i own.rest left) (all_inputs n))
+    sorted_is : sorted (ascending range ∷ []) (flat_map left (all_inputs n)) ≡ own.rec ∷ sorted (ascending range ∷ []) (flat_map (with_list i own.rest left) (all_inputs n))
     sorted_is =
-        ap (sorted range) all_left ∙ sorted_least range own.rec parts.front (own.rest ++ parts.back) (parts.all_front (λ x. before own.rec x) lower) none_behind
-        ∙ ap (λ z. own.rec ∷ sorted range z) (sym (parts.changed own.rest))
+        ap (sorted (ascending range ∷ [])) all_left ∙ sorted_least range own.rec parts.front (own.rest ++ parts.back) (parts.all_front (λ x. before own.rec x) lower) none_behind
+        ∙ ap (λ z. own.rec ∷ sorted (ascending range ∷ []) z) (sym (parts.changed own.rest))
 
     one_less : length (flat_map left (all_inputs n)) ≡ suc (length (flat_map (with_list i own.rest left) (all_inputs n)))
     one_less =
@@ -229,13 +230,13 @@ module _ (s : Strand) (g : Given) (unlimited : IsUnlimited g) (W : List Event) (
   all_empty left (suc m) b none = ap (λ z. z ++ flat_map left (range_with_len (b + 1) m)) (none b (omega arith) (omega arith)) ∙ all_empty left m (b + 1) (λ j le lt. none j (omega arith) (omega arith))
 
   merge_from : (fuel : ℕ) (pairs : List Pair) (left : ℕ → Records) → Stands pairs left → ((j : ℕ) → j < n → are_sorted range (left j) ≡ true) → length (flat_map left (all_inputs n)) < fuel →
-      Puts s W (pairs ++ on_output 0 (sorted range (flat_map left (all_inputs n))))
+      Puts s W (pairs ++ on_output 0 (sorted (ascending range ∷ []) (flat_map left (all_inputs n))))
   merge_from zero pairs left f ordered more = absurd (omega arith)
   merge_from (suc fuel) pairs left f ordered more = by_sight f.known.sight refl (λ pairs left f ordered more. merge_from fuel pairs left f ordered more)
     where
       Rest : Type 0
       Rest = (pairs : List Pair) (left : ℕ → Records) → Stands pairs left → ((j : ℕ) → j < n → are_sorted range (left j) ≡ true) → length (flat_map left (all_inputs n)) < fuel →
-          Puts s W (pairs ++ on_output 0 (sorted range (flat_map left (all_inputs n))))
+          Puts s W (pairs ++ on_output 0 (sorted (ascending range ∷ []) (flat_map left (all_inputs n))))
 
       none_left : f.known.sight ≡ [] → flat_map left (all_inputs n) ≡ []
       none_left empty = all_empty left n 0 (λ j le lt. none j (f.shows j (omega arith)))
@@ -244,10 +245,10 @@ module _ (s : Strand) (g : Given) (unlimited : IsUnlimited g) (W : List Event) (
           none j (inl x) = x.all
           none j (inr x) = (let z : [] ≡ x.rec ∷ [] = sym (ap (records_from j) empty) ∙ x.seen in cc)
 
-      by_sight : (sight : List Pair) → f.known.sight ≡ sight → Rest → Puts s W (pairs ++ on_output 0 (sorted range (flat_map left (all_inputs n))))
+      by_sight : (sight : List Pair) → f.known.sight ≡ sight → Rest → Puts s W (pairs ++ on_output 0 (sorted (ascending range ∷ []) (flat_map left (all_inputs n))))
       by_sight [] empty rest =
-          subst (λ z. Puts s W (pairs ++ on_output 0 (sorted range z))) (sym (none_left empty))
-          (subst (λ z. Puts s W z) (sym (no_more pairs)) (puts_connected s g unlimited W done pairs f.place.taken (pos 0) (full_over s g unlimited W done n (merging range) refl row_is pairs left f empty)))
+          subst (λ z. Puts s W (pairs ++ on_output 0 (sorted (ascending range ∷ []) z))) (sym (none_left empty))
+          (subst (λ z. Puts s W z) (sym (append-nil pairs)) (puts_connected s g unlimited W done pairs f.place.taken (pos 0) (full_over s g unlimited W done n (merging range) refl row_is pairs left f empty)))
       by_sight (p ∷ ps) some rest =
           let m : Pick range f.known.sight = subst (Pick range) (sym some) (pick range p ps) in
           let own_is = own pairs left f ordered p ps some m in
@@ -255,9 +256,9 @@ module _ (s : Strand) (g : Given) (unlimited : IsUnlimited g) (W : List Event) (
           let less = one_less pairs left f ordered p ps some m in
           let y = rest (pairs ++ (merging range).outs f.known) (with_list i_is own_is.rest left) (next pairs left f ordered p ps some m) (still_ordered pairs left f ordered p ps some m) (omega (arith, less)) in
           subst (λ z. Puts s W z) (
-            append_assoc pairs ((merging range).outs f.known) (on_output 0 (sorted range (flat_map (with_list i_is own_is.rest left) (all_inputs n))))
-            ∙ ap (λ z. pairs ++ (z ++ on_output 0 (sorted range (flat_map (with_list i_is own_is.rest left) (all_inputs n))))) (puts_it pairs left f ordered p ps some m)
-            ∙ ap (λ z. pairs ++ on_output 0 z) (sym (sorted_is pairs left f ordered p ps some m))
+          append_assoc pairs ((merging range).outs f.known) (on_output 0 (sorted (ascending range ∷ []) (flat_map (with_list i_is own_is.rest left) (all_inputs n))))
+          ∙ ap (λ z. pairs ++ (z ++ on_output 0 (sorted (ascending range ∷ []) (flat_map (with_list i_is own_is.rest left) (all_inputs n))))) (puts_it pairs left f ordered p ps some m)
+          ∙ ap (λ z. pairs ++ on_output 0 z) (sym (sorted_is pairs left f ordered p ps some m))
           ) y
 
   pub merge_puts : (form s).row.early ≡ None → ((j : ℕ) → j < n → are_sorted range (g.inputs j) ≡ true) → Puts s W (merge_pairs range g.inputs n)

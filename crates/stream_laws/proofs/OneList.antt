@@ -2,6 +2,7 @@
 use Rattle.std.proofs.Common.{◌≡◌, Bool, true, false, cond, ◌||◌, List, [], ◌∷◌, ◌++◌, length, refl, sym, ◌∙◌, ap, subst, Some, None, slice_get, ℤ, append_assoc}
 use Rattle.std.specs.Prelude.{filter}
 use Rattle.std.proofs.lemmas.List.Elements.{filter-append}
+use Rattle.std.proofs.lemmas.List.{append-nil}
 use Rattle.pipe_model.specs.declared.net.Strand.{Strand}
 use Rattle.pipe_model.specs.Event.{Event}
 use Rattle.pipe_model.specs.Event.Event.{Saw, SawEnd}
@@ -21,7 +22,7 @@ use Rattle.pipe_model.specs.Alone.{Given, IsAllAlone}
 use Rattle.pipe_model.specs.Inputs.{records_from}
 use Rattle.pipe_model.specs.JoiningRows.{on_output}
 use Rattle.pipe_model.specs.Listed.{pairs_at, pairs_after, pairs_of, taken_after, taken_of, code_after, ending_of, IsUnlimited, Does}
-use Rattle.stream_laws.proofs.Streams.{no_more, at_end, past_end, on_both, records_all, all_more, last_on, last_is, connected}
+use Rattle.stream_laws.proofs.Streams.{at_end, past_end, on_both, records_all, output_both, last_on, last_is, connected}
 use Rattle.stream_laws.proofs.Places.{took, Reaches, take_one, write_all, write_rest, read_one, read_end, begins, IsDone, finish, puts_connected}
 
 -- the acts of a record that causes a finite list of pairs
@@ -39,12 +40,12 @@ module _ (s : Strand) (g : Given) (unlimited : IsUnlimited g) (W : List Event) (
   gives_no_more : (k : Known) (code : ℤ) (put taken : List Pair) → Reaches s g unlimited W done k (Doing [] (Ends code)) put taken → Gives put taken [] [] code
   gives_no_more k code put taken r =
       let f = finish s g unlimited W done k code put taken r in
-      (taken, subst (λ z. IsDone s g unlimited W done z taken code) (sym (no_more put)) f, sym (no_more (records_from 0 taken)))
+      (taken, subst (λ z. IsDone s g unlimited W done z taken code) (sym (append-nil put)) f, sym (append-nil (records_from 0 taken)))
 
   -- more before
-  gives_before : (put taken : List Pair) (ps qs : List Pair) (more : List Pair) (recs : Records) (code : ℤ) (x : List Pair) → records_from 0 more ≡ records_from 0 taken ++ recs →
+  gives_before : (put taken : List Pair) (ps qs more : List Pair) (recs : Records) (code : ℤ) → records_from 0 more ≡ records_from 0 taken ++ recs →
       (rest : Records) → Gives (put ++ connected s.ports.has_output ps) more qs rest code → Gives put taken (ps ++ qs) (recs ++ rest) code
-  gives_before put taken ps qs more recs code x e rest (all, is, on_it) = (
+  gives_before put taken ps qs more recs code e rest (all, is, on_it) = (
     all,
     subst (λ z. IsDone s g unlimited W done z all code) (append_assoc put (connected s.ports.has_output ps) (connected s.ports.has_output qs) ∙ ap (λ z. put ++ z) (sym (filter-append (λ (p : Pair). flag_at s.ports.has_output p.0) ps qs))) is,
     on_it ∙ ap (λ z. z ++ rest) e ∙ append_assoc (records_from 0 taken) recs rest,
@@ -63,12 +64,12 @@ module _ (s : Strand) (g : Given) (unlimited : IsUnlimited g) (W : List Event) (
   reads : (recs rest : Records) (k : Known) (put taken : List Pair) → k.seen ≡ on_output 0 recs → g.inputs 0 ≡ records_from 0 taken ++ rest → Reaches s g unlimited W done k (Doing [] (Asks (Read 0))) put taken →
       Gives put taken (pairs_after t recs rest) (taken_after t recs rest) (code_after t recs rest)
   reads recs [] k put taken seen list r =
-      let hand : slice_get (g.inputs 0) (length (records_from 0 taken)) ≡ None = ap (λ z. slice_get z (length (records_from 0 taken))) (list ∙ no_more (records_from 0 taken)) ∙ past_end (records_from 0 taken) in
+      let hand : slice_get (g.inputs 0) (length (records_from 0 taken)) ≡ None = ap (λ z. slice_get z (length (records_from 0 taken))) (list ∙ append-nil (records_from 0 taken)) ∙ past_end (records_from 0 taken) in
       let k' : Known = learned k (SawEnd 0) in
       let a = subst (λ (z : Plan). Reaches s g unlimited W done k' (begins_plan s.ports.has_output [] z) put taken) (plan_is k') (read_end s g unlimited W done k 0 put taken r hand) in
       let b = subst (λ z. Reaches s g unlimited W done k' (Doing (filter (is_live s.ports.has_output []) (writes (last_pairs t.last z))) (Ends (t.code z))) put taken) (ap records_of seen ∙ records_all 0 recs) a in
       let d = finish s g unlimited W done k' (t.code recs) (put ++ connected s.ports.has_output (last_pairs t.last recs)) taken (write_rest s g unlimited W done k' (last_pairs t.last recs) (Ends (t.code recs)) put taken b) in
-      (taken, d, sym (no_more (records_from 0 taken)))
+      (taken, d, sym (append-nil (records_from 0 taken)))
   reads recs (rec ∷ rest) k put taken seen list r =
       let hand : slice_get (g.inputs 0) (length (records_from 0 taken)) ≡ Some rec = ap (λ z. slice_get z (length (records_from 0 taken))) list ∙ at_end (records_from 0 taken) rec rest in
       let a = subst (λ (z : Plan). Reaches s g unlimited W done seen_it (begins_plan s.ports.has_output [] z) put taken) (plan_is seen_it) (read_one s g unlimited W done k 0 rec put taken r hand) in
@@ -82,7 +83,7 @@ module _ (s : Strand) (g : Given) (unlimited : IsUnlimited g) (W : List Event) (
       seen_it = learned k (Saw 0 rec)
 
       now_seen : seen_it.seen ≡ on_output 0 now
-      now_seen = ap (λ z. z ++ (0, rec) ∷ []) seen ∙ sym (all_more 0 recs rec)
+      now_seen = ap (λ z. z ++ (0, rec) ∷ []) seen ∙ sym (output_both 0 recs (rec ∷ []))
 
       Rest : Type 0
       Rest = (k' : Known) (put' taken' : List Pair) → k'.seen ≡ on_output 0 now → g.inputs 0 ≡ records_from 0 taken' ++ rest → Reaches s g unlimited W done k' (Doing [] (Asks (Read 0))) put' taken' →
@@ -101,7 +102,7 @@ module _ (s : Strand) (g : Given) (unlimited : IsUnlimited g) (W : List Event) (
           let z = acts_done order seen_it (pairs_at t.outs now) (next_record t now) put taken y in
           let more : List Pair = taken ++ (0, last_on 0 seen_it.seen) ∷ [] in
           let it : records_from 0 more ≡ records_from 0 taken ++ rec ∷ [] = on_both 0 taken ((0, last_on 0 seen_it.seen) ∷ []) ∙ ap (λ z. records_from 0 taken ++ z ∷ []) (last_is 0 k.seen rec) in
-          gives_before put taken (pairs_at t.outs now) (cond (t.stops now) [] (pairs_after t now rest)) more (rec ∷ []) (cond (t.stops now) (t.code now) (code_after t now rest)) more it (cond (t.stops now) [] (taken_after t now rest))
+          gives_before put taken (pairs_at t.outs now) (cond (t.stops now) [] (pairs_after t now rest)) more (rec ∷ []) (cond (t.stops now) (t.code now) (code_after t now rest)) it (cond (t.stops now) [] (taken_after t now rest))
           (by_stops (t.stops now) (took 0 seen_it) (put ++ connected s.ports.has_output (pairs_at t.outs now)) more now_seen (list ∙ sym (ap (λ z. z ++ rest) it ∙ append_assoc (records_from 0 taken) (rec ∷ []) rest)) z go)
 
   -- what a strand of one list does
@@ -109,7 +110,7 @@ module _ (s : Strand) (g : Given) (unlimited : IsUnlimited g) (W : List Event) (
   one_list early =
       let a = subst (λ (z : Plan). Reaches s g unlimited W done nothing_known (begins_plan s.ports.has_output [] z) [] []) (plan_is nothing_known) (begins s g unlimited W done early) in
       let b = write_rest s g unlimited W done nothing_known t.before (next_record t []) [] [] a in
-      let x = gives_before [] [] t.before (cond (t.stops []) [] (pairs_after t [] (g.inputs 0))) [] [] (ending_of t (g.inputs 0)) [] refl (taken_of t (g.inputs 0)) (by_stops (t.stops []) b) in
+      let x = gives_before [] [] t.before (cond (t.stops []) [] (pairs_after t [] (g.inputs 0))) [] [] (ending_of t (g.inputs 0)) refl (taken_of t (g.inputs 0)) (by_stops (t.stops []) b) in
       record {
         puts = puts_connected s g unlimited W done (pairs_of t (g.inputs 0)) x.0 (ending_of t (g.inputs 0)) x.1;
         taken = x.1.takes 0 ∙ x.2;

@@ -1,9 +1,10 @@
 -- Where a strand stands on the way through its whole history by itself: by what it knows, its phase, and the pairs that it put and took.
-use Rattle.std.proofs.Common.{◌≡◌, ℕ, Bool, true, false, cond, ◌&&◌, not, ◌==◌, List, [], ◌∷◌, ◌++◌, length, refl, sym, ◌∙◌, ap, subst, Some, None, is_none, slice_get, ℤ, pos, negsuc, append_assoc}
+use Rattle.std.proofs.Common.{◌≡◌, ℕ, Bool, true, false, cond, ◌&&◌, ◌==◌, List, [], ◌∷◌, ◌++◌, length, refl, sym, ◌∙◌, ap, subst, Some, None, slice_get, ℤ, pos, negsuc, append_assoc}
 use Rattle.std.specs.Prelude.{filter}
+use Rattle.std.proofs.lemmas.List.{append-nil}
 use Rattle.pipe_model.specs.declared.net.Strand.{Strand}
-use Rattle.pipe_model.specs.Event.{Event, Want, records_on, tooks_on, taken_from, last_seen_on, has_ended, code_of, puts_on}
-use Rattle.pipe_model.specs.Event.Event.{Up, Saw, SawEnd, Took, Put, Ended}
+use Rattle.pipe_model.specs.Event.{Event, Want, records_on, taken_from, last_seen_on, has_ended, code_of, puts_on}
+use Rattle.pipe_model.specs.Event.Event.{Up, Saw, SawEnd, Took, Put, Refused, Ended}
 use Rattle.pipe_model.specs.Event.Want.{Commit, Read, Take, Write, Done}
 use Rattle.pipe_model.specs.Row.{Pair, Act, Goal, Known, without}
 use Rattle.pipe_model.specs.Row.Act.{Writes, Takes}
@@ -13,13 +14,12 @@ use Rattle.pipe_model.specs.Table.{form}
 use Rattle.pipe_model.specs.Members.{flag_at}
 use Rattle.pipe_model.specs.Next.{Phase, Past, is_live, after, begins_plan, learned, nothing_known, first_phase, past_by, want_in, wanted_by, next}
 use Rattle.pipe_model.specs.Next.Phase.{Starting, Doing, Lost}
-use Rattle.pipe_model.specs.Licence.{read_answer, write_answer}
-use Rattle.pipe_model.specs.Alone.{Given, takes_more, alone_event, IsAllAlone}
+use Rattle.pipe_model.specs.Alone.{Given, takes_more, look_alone, alone_event, IsAllAlone}
 use Rattle.pipe_model.specs.Inputs.{records_from}
 use Rattle.pipe_model.specs.Listed.{IsUnlimited, Puts}
 use Rattle.stream_laws.proofs.Beginnings.{Within, test_same, same_number, from_start, grows, is_all}
 use Rattle.stream_laws.proofs.Beginnings.Within.{all}
-use Rattle.stream_laws.proofs.Streams.{no_more, on_both, last_on, last_is, took_count, connected, on_connected, on_unconnected}
+use Rattle.stream_laws.proofs.Streams.{on_both, last_on, last_is, took_count, connected, on_connected, on_unconnected}
 
 abbrev pub mk : Known → Phase → Past
 mk k f = record { known = k; refused = []; phase = f }
@@ -53,10 +53,7 @@ module _ (s : Strand) (g : Given) (unlimited : IsUnlimited g) (W : List Event) (
   put_one k o rec acts goal put taken (h, x) = (
     Put o rec ∷ h,
     record {
-      within = on k (Doing (Writes o rec ∷ acts) goal) put taken h x (Put o rec) (Write o rec) refl (
-          ap (λ b. cond b (write_answer o rec (takes_more (g.limits o) (puts_on o h)) (not (takes_more (g.limits o) (puts_on o h)))) None) (test_same o)
-          ∙ ap (λ b. write_answer o rec (takes_more b (puts_on o h)) (not (takes_more b (puts_on o h)))) (unlimited o)
-          );
+      within = on k (Doing (Writes o rec ∷ acts) goal) put taken h x (Put o rec) (Write o rec) refl (ap (λ b. Some (cond (takes_more b (puts_on o h)) (Put o rec) (Refused o))) (unlimited o));
       going = x.going;
       past = ap (λ (p : Past). after (form s).row s.ports.has_output p p.phase (Put o rec)) x.past;
       puts = λ q. by_test q (o == q) (x.puts q) ∙ sym (on_both q put ((o, rec) ∷ []));
@@ -67,14 +64,14 @@ module _ (s : Strand) (g : Given) (unlimited : IsUnlimited g) (W : List Event) (
     where
       by_test : (q : ℕ) (b : Bool) → records_on q h ≡ records_from q put → cond b (records_on q h ++ rec ∷ []) (records_on q h) ≡ records_from q put ++ records_of (cond b ((o, rec) ∷ []) [])
       by_test q true e = ap (λ z. z ++ rec ∷ []) e
-      by_test q false e = e ∙ sym (no_more (records_from q put))
+      by_test q false e = e ∙ sym (append-nil (records_from q put))
 
   -- it takes a record
   pub take_one : (k : Known) (i : ℕ) (acts : List Act) (goal : Goal) (put taken : List Pair) → Reaches k (Doing (Takes i ∷ acts) goal) put taken → Reaches (took i k) (Doing acts goal) put (taken ++ (i, last_on i k.seen) ∷ [])
   take_one k i acts goal put taken (h, x) = (
     Took i ∷ h,
     record {
-      within = on k (Doing (Takes i ∷ acts) goal) put taken h x (Took i) (Take i) refl (ap (λ b. cond b (Some (Took i)) None) (test_same i));
+      within = on k (Doing (Takes i ∷ acts) goal) put taken h x (Took i) (Take i) refl refl;
       going = x.going;
       past = ap (λ (p : Past). after (form s).row s.ports.has_output p p.phase (Took i)) x.past;
       puts = x.puts;
@@ -85,12 +82,12 @@ module _ (s : Strand) (g : Given) (unlimited : IsUnlimited g) (W : List Event) (
     where
       by_test : (q : ℕ) (b : Bool) → (i == q) ≡ b → taken_from q h ≡ records_from q taken → cond b (taken_from q h ++ last_seen_on q h ∷ []) (taken_from q h) ≡ records_from q taken ++ records_of (cond b ((i, last_on i k.seen) ∷ []) [])
       by_test q true is e = ap (λ z. z ++ last_seen_on q h ∷ []) e ∙ ap (λ z. records_from q taken ++ z ∷ []) (x.last q ∙ ap (λ z. last_on z k.seen) (sym (same_number i q is)))
-      by_test q false is e = e ∙ sym (no_more (records_from q taken))
+      by_test q false is e = e ∙ sym (append-nil (records_from q taken))
 
   -- it puts all that it is to write to outputs that are connected
   pub write_all : (k : Known) (ps : List Pair) (acts : List Act) (goal : Goal) (put taken : List Pair) → Reaches k (Doing (filter (is_live s.ports.has_output []) (writes ps ++ acts)) goal) put taken →
       Reaches k (Doing (filter (is_live s.ports.has_output []) acts) goal) (put ++ connected s.ports.has_output ps) taken
-  write_all k [] acts goal put taken r = subst (λ z. Reaches k (Doing (filter (is_live s.ports.has_output []) acts) goal) z taken) (sym (no_more put)) r
+  write_all k [] acts goal put taken r = subst (λ z. Reaches k (Doing (filter (is_live s.ports.has_output []) acts) goal) z taken) (sym (append-nil put)) r
   write_all k (p ∷ ps) acts goal put taken r = by_test (flag_at s.ports.has_output p.0) r (λ q x. write_all k ps acts goal q taken x)
     where
       by_test : (b : Bool) → Reaches k (Doing (cond (b && true) (Writes p.0 p.1 ∷ filter (is_live s.ports.has_output []) (writes ps ++ acts)) (filter (is_live s.ports.has_output []) (writes ps ++ acts))) goal) put taken →
@@ -107,10 +104,7 @@ module _ (s : Strand) (g : Given) (unlimited : IsUnlimited g) (W : List Event) (
   read_one k i rec put taken (h, x) hand = (
     Saw i rec ∷ h,
     record {
-      within = on k (Doing [] (Asks (Read i))) put taken h x (Saw i rec) (Read i) refl (
-          ap (λ b. cond b (read_answer i (slice_get (g.inputs i) (tooks_on i h)) (is_none (slice_get (g.inputs i) (tooks_on i h)))) None) (test_same i)
-          ∙ ap (λ z. read_answer i z (is_none z)) (ap (slice_get (g.inputs i)) (took_count i h ∙ ap length (x.takes i)) ∙ hand)
-          );
+      within = on k (Doing [] (Asks (Read i))) put taken h x (Saw i rec) (Read i) refl (ap (λ z. Some (look_alone i z)) (ap (slice_get (g.inputs i)) (took_count i h ∙ ap length (x.takes i)) ∙ hand));
       going = x.going;
       past = ap (λ (p : Past). after (form s).row s.ports.has_output p p.phase (Saw i rec)) x.past ∙ ap (λ b. cond b (mk (learned k (Saw i rec)) (begins_plan s.ports.has_output [] ((form s).row.plan (learned k (Saw i rec))))) (mk k Lost)) (test_same i);
       puts = x.puts;
@@ -123,7 +117,7 @@ module _ (s : Strand) (g : Given) (unlimited : IsUnlimited g) (W : List Event) (
       by_test q true is e = ap (λ b. cond b rec (last_seen_on q h)) is ∙ subst (λ z. rec ≡ last_on z (k.seen ++ (i, rec) ∷ [])) (same_number i q is) (sym (last_is i k.seen rec))
       by_test q false is e =
           ap (λ b. cond b rec (last_seen_on q h)) is ∙ e
-          ∙ ap at_hand_of (sym (on_both q k.seen ((i, rec) ∷ []) ∙ ap (λ b. records_from q k.seen ++ records_of (cond b ((i, rec) ∷ []) [])) is ∙ no_more (records_from q k.seen)))
+          ∙ ap at_hand_of (sym (on_both q k.seen ((i, rec) ∷ []) ∙ ap (λ b. records_from q k.seen ++ records_of (cond b ((i, rec) ∷ []) [])) is ∙ append-nil (records_from q k.seen)))
 
   -- it sees the end of an input
   pub read_end : (k : Known) (i : ℕ) (put taken : List Pair) → Reaches k (Doing [] (Asks (Read i))) put taken → slice_get (g.inputs i) (length (records_from i taken)) ≡ None →
@@ -131,10 +125,7 @@ module _ (s : Strand) (g : Given) (unlimited : IsUnlimited g) (W : List Event) (
   read_end k i put taken (h, x) hand = (
     SawEnd i ∷ h,
     record {
-      within = on k (Doing [] (Asks (Read i))) put taken h x (SawEnd i) (Read i) refl (
-          ap (λ b. cond b (read_answer i (slice_get (g.inputs i) (tooks_on i h)) (is_none (slice_get (g.inputs i) (tooks_on i h)))) None) (test_same i)
-          ∙ ap (λ z. read_answer i z (is_none z)) (ap (slice_get (g.inputs i)) (took_count i h ∙ ap length (x.takes i)) ∙ hand)
-          );
+      within = on k (Doing [] (Asks (Read i))) put taken h x (SawEnd i) (Read i) refl (ap (λ z. Some (look_alone i z)) (ap (slice_get (g.inputs i)) (took_count i h ∙ ap length (x.takes i)) ∙ hand));
       going = x.going;
       past = ap (λ (p : Past). after (form s).row s.ports.has_output p p.phase (SawEnd i)) x.past ∙ ap (λ b. cond b (mk (learned k (SawEnd i)) (begins_plan s.ports.has_output [] ((form s).row.plan (learned k (SawEnd i))))) (mk k Lost)) (test_same i);
       puts = x.puts;
@@ -198,4 +189,4 @@ module _ (s : Strand) (g : Given) (unlimited : IsUnlimited g) (W : List Event) (
 
   -- it puts all that is left to write
   pub write_rest : (k : Known) (ps : List Pair) (goal : Goal) (put taken : List Pair) → Reaches k (Doing (filter (is_live s.ports.has_output []) (writes ps)) goal) put taken → Reaches k (Doing [] goal) (put ++ connected s.ports.has_output ps) taken
-  write_rest k ps goal put taken r = write_all k ps [] goal put taken (subst (λ z. Reaches k (Doing (filter (is_live s.ports.has_output []) z) goal) put taken) (sym (no_more (writes ps))) r)
+  write_rest k ps goal put taken r = write_all k ps [] goal put taken (subst (λ z. Reaches k (Doing (filter (is_live s.ports.has_output []) z) goal) put taken) (sym (append-nil (writes ps))) r)

@@ -3,23 +3,24 @@ use Rattle.std.proofs.Common.{◌≡◌, ◌⊎◌, inl, inr, ℕ, zero, suc, �
 use Rattle.std.specs.Prelude.{filter, find}
 use Rattle.std.proofs.lemmas.Bool.Decides.{nat_tests}
 use Rattle.std.proofs.lemmas.List.Elements.{filter-append}
+use Rattle.std.proofs.lemmas.List.{append-nil}
 use Rattle.pipe_model.specs.declared.net.Strand.{Strand}
 use Rattle.pipe_model.specs.Event.{Event}
 use Rattle.pipe_model.specs.Event.Event.{Saw, SawEnd}
 use Rattle.pipe_model.specs.Event.Want.{Read}
-use Rattle.pipe_model.specs.Row.{Pair, Act, Plan, Known, sees, without}
+use Rattle.pipe_model.specs.Row.{Pair, Plan, Known, sees, without}
 use Rattle.pipe_model.specs.Row.Act.{Takes}
-use Rattle.pipe_model.specs.Row.Goal.{Asks, Ends}
-use Rattle.pipe_model.specs.Shape.{Records, Rounding, writes, records_of, lacks, all_inputs, look, ends, has_any, act_on, round_of, read_or_act, round_plan}
+use Rattle.pipe_model.specs.Row.Goal.{Asks}
+use Rattle.pipe_model.specs.Shape.{Records, Rounding, records_of, lacks, all_inputs, look, ends, has_any, act_on, round_of, read_or_act, round_plan}
 use Rattle.pipe_model.specs.Inputs.{records_from}
 use Rattle.pipe_model.specs.Table.{form}
 use Rattle.pipe_model.specs.Members.{has, flag_at}
-use Rattle.pipe_model.specs.Next.{is_live, begins_plan, learned, nothing_known}
+use Rattle.pipe_model.specs.Next.{begins_plan, learned, nothing_known}
 use Rattle.pipe_model.specs.Next.Phase.{Doing}
 use Rattle.pipe_model.specs.Alone.{Given, IsAllAlone}
 use Rattle.pipe_model.specs.Listed.{IsUnlimited}
 use Rattle.stream_laws.proofs.Beginnings.{test_same, same_number}
-use Rattle.stream_laws.proofs.Streams.{no_more, length_more, at_end, past_end, on_both, last_on, connected}
+use Rattle.stream_laws.proofs.Streams.{length_more, at_end, past_end, on_both, last_on, connected}
 use Rattle.stream_laws.proofs.Sights.{sees_none, sees_some, without_own, without_others, now_own, now_others, finds_it, finds_none, rest_of}
 use Rattle.stream_laws.proofs.Places.{took, Reaches, take_one, write_all, read_one, read_end, begins, IsDone, finish}
 
@@ -114,7 +115,7 @@ module _ (s : Strand) (g : Given) (unlimited : IsUnlimited g) (W : List Event) (
         record {
           taken = x.taken;
           reaches = subst (λ (z : Plan). Reaches s g unlimited W done k' (begins_plan s.ports.has_output [] z) (connected s.ports.has_output pairs) x.taken) (plan_is k')
-          (read_one s g unlimited W done k i rec (connected s.ports.has_output pairs) x.taken (now (Some i) next_is x) hand);
+              (read_one s g unlimited W done k i rec (connected s.ports.has_output pairs) x.taken (now (Some i) next_is x) hand);
           lists = x.lists;
         }
 
@@ -122,12 +123,12 @@ module _ (s : Strand) (g : Given) (unlimited : IsUnlimited g) (W : List Event) (
     pub round_end : (i : ℕ) → find (lacks k.sight k.ends) (all_inputs n) ≡ Some i → left i ≡ [] → At k pairs left → At (learned k (SawEnd i)) pairs left
     round_end i next_is list x =
         let l = x.lists i in
-        let hand : slice_get (g.inputs i) (length (records_from i x.taken)) ≡ None = ap (λ z. slice_get z (length (records_from i x.taken))) (l.1 ∙ ap (λ z. l.0 ++ z) list ∙ no_more l.0) ∙ ap (slice_get l.0) (sym l.2) ∙ past_end l.0 in
+        let hand : slice_get (g.inputs i) (length (records_from i x.taken)) ≡ None = ap (λ z. slice_get z (length (records_from i x.taken))) (l.1 ∙ ap (λ z. l.0 ++ z) list ∙ append-nil l.0) ∙ ap (slice_get l.0) (sym l.2) ∙ past_end l.0 in
         let k' : Known = learned k (SawEnd i) in
         record {
           taken = x.taken;
           reaches = subst (λ (z : Plan). Reaches s g unlimited W done k' (begins_plan s.ports.has_output [] z) (connected s.ports.has_output pairs) x.taken) (plan_is k')
-          (read_end s g unlimited W done k i (connected s.ports.has_output pairs) x.taken (now (Some i) next_is x) hand);
+              (read_end s g unlimited W done k i (connected s.ports.has_output pairs) x.taken (now (Some i) next_is x) hand);
           lists = x.lists;
         }
 
@@ -156,19 +157,17 @@ module _ (s : Strand) (g : Given) (unlimited : IsUnlimited g) (W : List Event) (
         by_test : (j : ℕ) (b : Bool) → (i == j) ≡ b → (past : Records) × (g.inputs j ≡ past ++ cond b rest (left j)) × (length past ≡ length (records_from j (x.taken ++ (i, last_on i k.seen) ∷ [])))
         by_test j true is =
             let l = x.lists i in
-            let it : i ≡ j = same_number i j is in
-            (
+            let it : i ≡ j = same_number i j is in (
               l.0 ++ rec ∷ [],
               ap g.inputs (sym it) ∙ l.1 ∙ ap (λ z. l.0 ++ z) list ∙ sym (append_assoc l.0 (rec ∷ []) rest),
               length_more l.0 rec ∙ ap suc l.2 ∙ sym (length_more (records_from i x.taken) (last_on i k.seen))
-              ∙ ap length (ap (λ z. records_from i x.taken ++ records_of (cond z ((i, last_on i k.seen) ∷ []) [])) (sym (test_same i)) ∙ sym (on_both i x.taken ((i, last_on i k.seen) ∷ [])) ∙ ap (λ z. records_from z (x.taken ++ (i, last_on i k.seen) ∷ [])) it),
+                  ∙ ap length (ap (λ z. records_from i x.taken ++ records_of (cond z ((i, last_on i k.seen) ∷ []) [])) (sym (test_same i)) ∙ sym (on_both i x.taken ((i, last_on i k.seen) ∷ [])) ∙ ap (λ z. records_from z (x.taken ++ (i, last_on i k.seen) ∷ [])) it),
             )
         by_test j false is =
-            let l = x.lists j in
-            (
+            let l = x.lists j in (
               l.0,
               l.1,
-              l.2 ∙ ap length (sym (on_both j x.taken ((i, last_on i k.seen) ∷ []) ∙ ap (λ z. records_from j x.taken ++ records_of (cond z ((i, last_on i k.seen) ∷ []) [])) is ∙ no_more (records_from j x.taken))),
+              l.2 ∙ ap length (sym (on_both j x.taken ((i, last_on i k.seen) ∷ []) ∙ ap (λ z. records_from j x.taken ++ records_of (cond z ((i, last_on i k.seen) ∷ []) [])) is ∙ append-nil (records_from j x.taken))),
             )
 
   -- all inputs have ended or have a record in sight

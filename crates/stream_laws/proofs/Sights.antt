@@ -1,13 +1,14 @@
 -- What is in sight on an input, and the first input that passes a test.
-use Rattle.std.proofs.Common.{◌≡◌, ◌⊎◌, inl, inr, ℕ, zero, suc, ◌+◌, ◌<◌, ◌≤◌, Bool, true, false, cond, ◌||◌, not, ◌==◌, List, [], ◌∷◌, ◌++◌, refl, sym, ◌∙◌, ap, arith, Some, None}
-use Rattle.std.specs.Prelude.{find, nat_lt}
+use Rattle.std.proofs.Common.{◌≡◌, ◌⊎◌, inl, inr, ℕ, zero, suc, ◌+◌, ◌<◌, ◌≤◌, Bool, true, false, cond, ◌||◌, ◌==◌, List, [], ◌∷◌, ◌++◌, refl, sym, ◌∙◌, ap, arith, Some, None}
+use Rattle.std.specs.Prelude.{find}
 use Rattle.std.specs.List.{range_with_len}
 use Rattle.std.proofs.lemmas.Bool.Decides.{nat_tests}
+use Rattle.std.proofs.lemmas.List.{append-nil}
 use Rattle.pipe_model.specs.Row.{Pair, sees, without}
 use Rattle.pipe_model.specs.Shape.{Records, records_of}
 use Rattle.pipe_model.specs.Inputs.{records_from}
 use Rattle.stream_laws.proofs.Beginnings.{test_same, same_number}
-use Rattle.stream_laws.proofs.Streams.{from, no_more, on_both}
+use Rattle.stream_laws.proofs.Streams.{from, on_both}
 
 -- nothing is in sight where no record is
 pub sees_none : (i : ℕ) (sight : List Pair) → records_from i sight ≡ [] → sees i sight ≡ false
@@ -64,7 +65,7 @@ now_own i sight rec none =
 pub now_others : (i j : ℕ) (sight : List Pair) (rec : List ℕ) → (i == j) ≡ false → records_from j (without i sight ++ (i, rec) ∷ []) ≡ records_from j sight
 now_others i j sight rec apart =
     on_both j (without i sight) ((i, rec) ∷ []) ∙ ap (λ b. records_from j (without i sight) ++ records_of (cond b ((i, rec) ∷ []) [])) apart
-    ∙ no_more (records_from j (without i sight)) ∙ without_others i j sight apart
+    ∙ append-nil (records_from j (without i sight)) ∙ without_others i j sight apart
 
 -- The first input that passes
 

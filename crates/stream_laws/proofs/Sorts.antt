@@ -1,5 +1,5 @@
 -- The stable sort, and lists one after another.
-use Rattle.std.proofs.Common.{◌≡◌, ◌⊎◌, inl, inr, ℕ, zero, suc, ◌+◌, ◌<◌, ◌≤◌, Bool, true, false, cond, ◌&&◌, ◌||◌, not, ◌==◌, List, [], ◌∷◌, ◌++◌, refl, sym, ◌∙◌, ap, arith, append_assoc}
+use Rattle.std.proofs.Common.{◌≡◌, ◌⊎◌, inl, inr, ℕ, zero, suc, ◌+◌, ◌<◌, ◌≤◌, Bool, true, false, cond, ◌&&◌, not, ◌==◌, List, [], ◌∷◌, ◌++◌, refl, sym, ◌∙◌, ap, arith, append_assoc}
 use Rattle.std.specs.Prelude.{flat_map}
 use Rattle.std.specs.List.{list_all, range_with_len}
 use Rattle.std.proofs.lemmas.Bool.Decides.{nat_tests}
@@ -8,8 +8,11 @@ use Rattle.pipe_model.specs.declared.range.Range.{Range}
 use Rattle.pipe_model.specs.Shape.{Records}
 use Rattle.pipe_model.specs.Ranges.{part_of}
 use Rattle.pipe_model.specs.Keys.{is_less}
-use Rattle.pipe_model.specs.Listed.{inserted, sorted}
+use Rattle.pipe_model.specs.declared.keys.SortKey.{SortKey}
+use Rattle.pipe_model.specs.OrderRows.{goes_before, inserted, sorted}
+use Rattle.pipe_model.specs.Listed.{ascending}
 use Rattle.stream_laws.proofs.Beginnings.{test_same}
+use Rattle.stream_laws.proofs.KeyOrder.{same_is}
 use Rattle.stream_laws.proofs.Leasts.{and_both, not_true}
 use Rattle.stream_laws.proofs.Rounded.{with_list}
 
@@ -17,31 +20,43 @@ module _ (range : Range) where
   abbrev pub before : List ℕ → List ℕ → Bool
   before a b = is_less (part_of range a) (part_of range b)
 
-  all_inserted : (f : List ℕ → Bool) (rec : List ℕ) (xs : Records) → f rec ≡ true → list_all f xs ≡ true → list_all f (inserted range rec xs) ≡ true
+  abbrev keys : List SortKey
+  keys = ascending range ∷ []
+
+  -- a record goes before another one by the range alone
+  goes_is : (a b : List ℕ) → goes_before keys a b ≡ before a b
+  goes_is a b = ap (λ z. cond z false (before a b)) (same_is (part_of range a) (part_of range b)) ∙ by_test (before a b) (is_less (part_of range b) (part_of range a))
+    where
+      by_test : (x y : Bool) → cond (not x && not y) false x ≡ x
+      by_test true y = refl
+      by_test false true = refl
+      by_test false false = refl
+
+  all_inserted : (f : List ℕ → Bool) (rec : List ℕ) (xs : Records) → f rec ≡ true → list_all f xs ≡ true → list_all f (inserted keys rec xs) ≡ true
   all_inserted f rec [] here all = ap (λ z. z && true) here
   all_inserted f rec (x ∷ xs) here all =
       let b = and_both (f x) (list_all f xs) all in
-      by_test (before x rec) b.0 b.1 (all_inserted f rec xs here b.1)
+      by_test (goes_before keys x rec) b.0 b.1 (all_inserted f rec xs here b.1)
     where
-      by_test : (c : Bool) → f x ≡ true → list_all f xs ≡ true → list_all f (inserted range rec xs) ≡ true → list_all f (cond c (x ∷ inserted range rec xs) (rec ∷ x ∷ xs)) ≡ true
-      by_test true one rest more = ap (λ z. z && list_all f (inserted range rec xs)) one ∙ more
+      by_test : (c : Bool) → f x ≡ true → list_all f xs ≡ true → list_all f (inserted keys rec xs) ≡ true → list_all f (cond c (x ∷ inserted keys rec xs) (rec ∷ x ∷ xs)) ≡ true
+      by_test true one rest more = ap (λ z. z && list_all f (inserted keys rec xs)) one ∙ more
       by_test false one rest more = ap (λ z. z && (f x && list_all f xs)) here ∙ ap (λ z. z && list_all f xs) one ∙ rest
 
-  all_sorted : (f : List ℕ → Bool) (xs : Records) → list_all f xs ≡ true → list_all f (sorted range xs) ≡ true
+  all_sorted : (f : List ℕ → Bool) (xs : Records) → list_all f xs ≡ true → list_all f (sorted keys xs) ≡ true
   all_sorted f [] all = refl
-  all_sorted f (x ∷ xs) all = let b = and_both (f x) (list_all f xs) all in all_inserted f x (sorted range xs) b.0 (all_sorted f xs b.1)
+  all_sorted f (x ∷ xs) all = let b = and_both (f x) (list_all f xs) all in all_inserted f x (sorted keys xs) b.0 (all_sorted f xs b.1)
 
   -- a record that none goes before stands first
-  inserted_first : (rec : List ℕ) (xs : Records) → list_all (λ x. not (before x rec)) xs ≡ true → inserted range rec xs ≡ rec ∷ xs
+  inserted_first : (rec : List ℕ) (xs : Records) → list_all (λ x. not (before x rec)) xs ≡ true → inserted keys rec xs ≡ rec ∷ xs
   inserted_first rec [] all = refl
-  inserted_first rec (x ∷ xs) all = ap (λ b. cond b (x ∷ inserted range rec xs) (rec ∷ x ∷ xs)) (not_true (before x rec) (and_both (not (before x rec)) (list_all (λ x. not (before x rec)) xs) all).0)
+  inserted_first rec (x ∷ xs) all = ap (λ b. cond b (x ∷ inserted keys rec xs) (rec ∷ x ∷ xs)) (goes_is x rec ∙ not_true (before x rec) (and_both (not (before x rec)) (list_all (λ x. not (before x rec)) xs) all).0)
 
   -- so the first of the least records of a list is the first of the sorted list
-  pub sorted_least : (rec : List ℕ) (xs ys : Records) → list_all (λ x. before rec x) xs ≡ true → list_all (λ y. not (before y rec)) ys ≡ true → sorted range (xs ++ rec ∷ ys) ≡ rec ∷ sorted range (xs ++ ys)
-  sorted_least rec [] ys behind none = inserted_first rec (sorted range ys) (all_sorted (λ y. not (before y rec)) ys none)
+  pub sorted_least : (rec : List ℕ) (xs ys : Records) → list_all (λ x. before rec x) xs ≡ true → list_all (λ y. not (before y rec)) ys ≡ true → sorted keys (xs ++ rec ∷ ys) ≡ rec ∷ sorted keys (xs ++ ys)
+  sorted_least rec [] ys behind none = inserted_first rec (sorted keys ys) (all_sorted (λ y. not (before y rec)) ys none)
   sorted_least rec (x ∷ xs) ys behind none =
       let b = and_both (before rec x) (list_all (λ x. before rec x) xs) behind in
-      ap (inserted range x) (sorted_least rec xs ys b.1 none) ∙ ap (λ z. cond z (rec ∷ inserted range x (sorted range (xs ++ ys))) (x ∷ rec ∷ sorted range (xs ++ ys))) b.0
+      ap (inserted keys x) (sorted_least rec xs ys b.1 none) ∙ ap (λ z. cond z (rec ∷ inserted keys x (sorted keys (xs ++ ys))) (x ∷ rec ∷ sorted keys (xs ++ ys))) (goes_is rec x ∙ b.0)
 
 -- Lists one after another
 

@@ -1,6 +1,7 @@
 -- The records of one stream.
 use Rattle.std.proofs.Common.{◌≡◌, ℕ, suc, Bool, true, false, cond, ◌==◌, List, [], ◌∷◌, ◌++◌, length, refl, sym, ◌∙◌, ap, Some, None, slice_get}
 use Rattle.std.specs.Prelude.{filter}
+use Rattle.std.proofs.lemmas.List.{map-append}
 use Rattle.pipe_model.specs.Event.{Event, one_more, tooks_on, taken_from, last_seen_on}
 use Rattle.pipe_model.specs.Event.Event.{Took}
 use Rattle.pipe_model.specs.Row.{Pair}
@@ -11,10 +12,6 @@ use Rattle.pipe_model.specs.JoiningRows.{on_output}
 use Rattle.stream_laws.proofs.Beginnings.{test_same, same_number}
 
 -- Lists
-
-pub no_more : {A : Type 0} (xs : List A) → xs ++ [] ≡ xs
-no_more [] = refl
-no_more (x ∷ xs) = ap (λ z. x ∷ z) (no_more xs)
 
 pub length_more : {A : Type 0} (xs : List A) (x : A) → length (xs ++ x ∷ []) ≡ suc (length xs)
 length_more [] x = refl
@@ -59,9 +56,8 @@ pub records_all : (k : ℕ) (recs : Records) → records_of (on_output k recs) �
 records_all k [] = refl
 records_all k (rec ∷ recs) = ap (λ z. rec ∷ z) (records_all k recs)
 
-pub all_more : (k : ℕ) (recs : Records) (rec : List ℕ) → on_output k (recs ++ rec ∷ []) ≡ on_output k recs ++ (k, rec) ∷ []
-all_more k [] rec = refl
-all_more k (r ∷ recs) rec = ap (λ z. (k, r) ∷ z) (all_more k recs rec)
+pub output_both : (k : ℕ) (recs more : Records) → on_output k (recs ++ more) ≡ on_output k recs ++ on_output k more
+output_both k recs more = map-append (λ rec. (k, rec)) recs more
 
 -- the record at hand is the last
 pub at_hand_last : (recs : Records) (rec : List ℕ) → at_hand_of (recs ++ rec ∷ []) ≡ rec
@@ -120,7 +116,3 @@ on_unconnected outputs o (p ∷ ps) flag = by_test (p.0 == o) refl (flag_at outp
     by_test a x false y e = ap (λ z. records_from o (cond z (p ∷ connected outputs ps) (connected outputs ps))) y ∙ e
     by_test false x true y e = ap (λ z. records_from o (cond z (p ∷ connected outputs ps) (connected outputs ps))) y ∙ ap (λ z. records_of (cond z (p ∷ from o (connected outputs ps)) (from o (connected outputs ps)))) x ∙ e
     by_test true x true y e = (let z : true ≡ false = sym y ∙ ap (flag_at outputs) (same_number p.0 o x) ∙ flag in cc)
-
-pub output_both : (k : ℕ) (recs more : Records) → on_output k (recs ++ more) ≡ on_output k recs ++ on_output k more
-output_both k [] more = refl
-output_both k (rec ∷ recs) more = ap (λ z. (k, rec) ∷ z) (output_both k recs more)

@@ -1,12 +1,13 @@
 -- What a strand does by itself that reads one input at a time.
-use Rattle.std.proofs.Common.{◌≡◌, ℕ, Bool, true, false, cond, List, [], ◌∷◌, ◌++◌, length, refl, sym, ◌∙◌, ap, subst, Option, Some, None, slice_get, pos, append_assoc}
+use Rattle.std.proofs.Common.{◌≡◌, ℕ, cond, List, [], ◌∷◌, ◌++◌, length, refl, sym, ◌∙◌, ap, subst, Option, Some, None, slice_get, pos, append_assoc}
 use Rattle.std.specs.Prelude.{filter, find}
 use Rattle.std.proofs.lemmas.List.Elements.{filter-append}
+use Rattle.std.proofs.lemmas.List.{append-nil}
 use Rattle.pipe_model.specs.declared.net.Strand.{Strand}
 use Rattle.pipe_model.specs.Event.{Event}
 use Rattle.pipe_model.specs.Event.Event.{Saw, SawEnd}
 use Rattle.pipe_model.specs.Event.Want.{Read}
-use Rattle.pipe_model.specs.Row.{Pair, Act, Plan, Known}
+use Rattle.pipe_model.specs.Row.{Pair, Plan, Known}
 use Rattle.pipe_model.specs.Row.Act.{Takes}
 use Rattle.pipe_model.specs.Row.Goal.{Asks, Ends}
 use Rattle.pipe_model.specs.Shape.{Records, Turning, writes, records_of, can_read, read_next, turn_after, turn_plan}
@@ -18,7 +19,7 @@ use Rattle.pipe_model.specs.Next.{is_live, begins_plan, learned, nothing_known}
 use Rattle.pipe_model.specs.Next.Phase.{Doing}
 use Rattle.pipe_model.specs.Alone.{Given, IsAllAlone}
 use Rattle.pipe_model.specs.Listed.{IsUnlimited}
-use Rattle.stream_laws.proofs.Streams.{no_more, at_end, past_end, on_both, last_on, last_is, connected}
+use Rattle.stream_laws.proofs.Streams.{at_end, past_end, on_both, last_on, last_is, connected}
 use Rattle.stream_laws.proofs.Places.{took, Reaches, take_one, write_all, write_rest, read_one, read_end, begins, IsDone, finish}
 use Rattle.stream_laws.proofs.Beginnings.{test_same}
 
@@ -42,11 +43,14 @@ module _ (s : Strand) (g : Given) (unlimited : IsUnlimited g) (W : List Event) (
   At seen ends pairs = (k : Known) × Stands seen ends pairs k
 
   pub turns_begin : (form s).row.early ≡ None → At [] [] []
-  turns_begin early = (nothing_known, record {
-    saw = refl;
-    over = refl;
-    reaches = subst (λ (z : Plan). Reaches s g unlimited W done nothing_known (begins_plan s.ports.has_output [] z) [] []) (plan_is nothing_known) (begins s g unlimited W done early);
-  })
+  turns_begin early = (
+    nothing_known,
+    record {
+      saw = refl;
+      over = refl;
+      reaches = subst (λ (z : Plan). Reaches s g unlimited W done nothing_known (begins_plan s.ports.has_output [] z) [] []) (plan_is nothing_known) (begins s g unlimited W done early);
+    },
+  )
 
   -- it writes the pairs of a record and takes it
   acts_done : (k : Known) (i : ℕ) (ps last : List Pair) (m : Option ℕ) (put taken : List Pair) → Reaches s g unlimited W done k (begins_plan s.ports.has_output [] (read_next (writes ps ++ Takes i ∷ []) last m)) put taken →
@@ -71,26 +75,30 @@ module _ (s : Strand) (g : Given) (unlimited : IsUnlimited g) (W : List Event) (
         let k' : Known = learned k (Saw i rec) in
         let now : k'.seen ≡ seen ++ (i, rec) ∷ [] = ap (λ z. z ++ (i, rec) ∷ []) x.saw in
         let a = subst (λ (z : Plan). Reaches s g unlimited W done k' (begins_plan s.ports.has_output [] z) (connected s.ports.has_output pairs) seen) (plan_is k') (read_one s g unlimited W done k i rec (connected s.ports.has_output pairs) seen (asks_it k x) hand) in
-        let b = acts_done k' i (t.outs k'.seen) (t.last k'.seen) (find (can_read n k'.ends) (t.order n k'.seen)) (connected s.ports.has_output pairs) seen a in
-        (took i k', record {
-          saw = now;
-          over = x.over;
-          reaches = subst (λ z. Reaches s g unlimited W done (took i k') (begins_plan s.ports.has_output [] (turn_after n t (took i k') [])) z (seen ++ (i, rec) ∷ []))
-          (sym (filter-append (λ (p : Pair). flag_at s.ports.has_output p.0) pairs (t.outs k'.seen)) ∙ ap (λ z. connected s.ports.has_output (pairs ++ t.outs z)) now)
-          (subst (λ z. Reaches s g unlimited W done (took i k') (begins_plan s.ports.has_output [] (turn_after n t (took i k') [])) (connected s.ports.has_output pairs ++ connected s.ports.has_output (t.outs k'.seen)) (seen ++ (i, z) ∷ []))
-          (last_is i k.seen rec) b);
-        })
+        let b = acts_done k' i (t.outs k'.seen) (t.last k'.seen) (find (can_read n k'.ends) (t.order n k'.seen)) (connected s.ports.has_output pairs) seen a in (
+          took i k',
+          record {
+            saw = now;
+            over = x.over;
+            reaches = subst (λ z. Reaches s g unlimited W done (took i k') (begins_plan s.ports.has_output [] (turn_after n t (took i k') [])) z (seen ++ (i, rec) ∷ []))
+                (sym (filter-append (λ (p : Pair). flag_at s.ports.has_output p.0) pairs (t.outs k'.seen)) ∙ ap (λ z. connected s.ports.has_output (pairs ++ t.outs z)) now)
+                (subst (λ z. Reaches s g unlimited W done (took i k') (begins_plan s.ports.has_output [] (turn_after n t (took i k') [])) (connected s.ports.has_output pairs ++ connected s.ports.has_output (t.outs k'.seen)) (seen ++ (i, z) ∷ []))
+                (last_is i k.seen rec) b);
+          },
+        )
 
     -- its end
     pub turn_end : g.inputs i ≡ records_from i seen → At seen ends pairs → At seen (i ∷ ends) pairs
     turn_end list (k, x) =
         let hand : slice_get (g.inputs i) (length (records_from i seen)) ≡ None = ap (λ z. slice_get z (length (records_from i seen))) list ∙ past_end (records_from i seen) in
-        let k' : Known = learned k (SawEnd i) in
-        (k', record {
-          saw = x.saw;
-          over = ap (λ z. i ∷ z) x.over;
-          reaches = subst (λ (z : Plan). Reaches s g unlimited W done k' (begins_plan s.ports.has_output [] z) (connected s.ports.has_output pairs) seen) (plan_is k') (read_end s g unlimited W done k i (connected s.ports.has_output pairs) seen (asks_it k x) hand);
-        })
+        let k' : Known = learned k (SawEnd i) in (
+          k',
+          record {
+            saw = x.saw;
+            over = ap (λ z. i ∷ z) x.over;
+            reaches = subst (λ (z : Plan). Reaches s g unlimited W done k' (begins_plan s.ports.has_output [] z) (connected s.ports.has_output pairs) seen) (plan_is k') (read_end s g unlimited W done k i (connected s.ports.has_output pairs) seen (asks_it k x) hand);
+          },
+        )
 
   -- no input is left
   pub turns_over : (seen : List Pair) (ends : List ℕ) (pairs : List Pair) → find (can_read n ends) (t.order n seen) ≡ None → At seen ends pairs → IsDone s g unlimited W done (connected s.ports.has_output (pairs ++ t.last seen)) seen (pos 0)
@@ -106,7 +114,7 @@ module _ (s : Strand) (g : Given) (unlimited : IsUnlimited g) (W : List Event) (
   pub read_all : (i : ℕ) (ends : List ℕ) → ((seen : List Pair) → find (can_read n ends) (t.order n seen) ≡ Some i) → (rest : Records) (seen pairs : List Pair) → g.inputs i ≡ records_from i seen ++ rest → At seen ends pairs →
       At (seen ++ on_output i rest) (i ∷ ends) (pairs ++ caused t seen i rest)
   read_all i ends next_is [] seen pairs list x =
-      subst (λ z. At z (i ∷ ends) (pairs ++ [])) (sym (no_more seen)) (subst (λ z. At seen (i ∷ ends) z) (sym (no_more pairs)) (turn_end seen ends pairs i (next_is seen) (list ∙ no_more (records_from i seen)) x))
+      subst (λ z. At z (i ∷ ends) (pairs ++ [])) (sym (append-nil seen)) (subst (λ z. At seen (i ∷ ends) z) (sym (append-nil pairs)) (turn_end seen ends pairs i (next_is seen) (list ∙ append-nil (records_from i seen)) x))
   read_all i ends next_is (rec ∷ rest) seen pairs list x =
       let outs : List Pair = t.outs (seen ++ (i, rec) ∷ []) in
       let a = turn_saw seen ends pairs i (next_is seen) rec rest list x in

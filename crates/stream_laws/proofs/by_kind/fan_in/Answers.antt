@@ -1,5 +1,4 @@
 use Rattle.std.proofs.Common.{ap, length}
-use Rattle.pipe_model.specs.Row.{Row}
 use Rattle.pipe_model.specs.Table.{line_of}
 use Rattle.pipe_model.specs.Shape.{row_of}
 use Rattle.stream_laws.proofs.FanIns.{fan_in_puts}
