@@ -15,3 +15,4 @@ pub mod Merges
 pub mod Collated
 pub mod CollateRounds
 pub mod Collates
+pub mod Examples
