@@ -17,7 +17,7 @@ use Rattle.pipe_model.specs.Members.{has}
 use Rattle.pipe_model.specs.Next.{learned, nothing_known}
 use Rattle.pipe_model.specs.Alone.{Given, IsAllAlone}
 use Rattle.pipe_model.specs.Listed.{IsUnlimited, Puts}
-use Rattle.stream_laws.proofs.Beginnings.{test_same}
+use Rattle.confluence_laws.proofs.Basics.{test_same}
 use Rattle.stream_laws.proofs.Streams.{from}
 use Rattle.stream_laws.proofs.Sights.{without_others, now_own, now_others}
 use Rattle.stream_laws.proofs.Places.{took}

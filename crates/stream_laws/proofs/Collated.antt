@@ -12,10 +12,10 @@ use Rattle.pipe_model.specs.Keys.{is_less, is_same}
 use Rattle.pipe_model.specs.Inputs.{records_from}
 use Rattle.pipe_model.specs.JoiningRows.{on_output, agree, unmatched}
 use Rattle.pipe_model.specs.Listed.{are_sorted, are_distinct, headed, collate_pairs}
-use Rattle.stream_laws.proofs.Beginnings.{same_number}
+use Rattle.confluence_laws.proofs.Basics.{same_number, both as and_both}
 use Rattle.stream_laws.proofs.Streams.{on_both, on_others, output_both}
 use Rattle.stream_laws.proofs.KeyOrder.{less_one_way, less_between, same_is}
-use Rattle.stream_laws.proofs.Leasts.{all_imply, not_true, and_both}
+use Rattle.stream_laws.proofs.Leasts.{all_imply, not_true}
 
 -- Tests
 

@@ -16,9 +16,9 @@ use Rattle.pipe_model.specs.JoiningRows.Turn.{Match, Master, Detail}
 use Rattle.pipe_model.specs.Table.{form}
 use Rattle.pipe_model.specs.Alone.{Given, IsAllAlone}
 use Rattle.pipe_model.specs.Listed.{are_sorted, are_distinct, collate_pairs, IsUnlimited, Puts}
+use Rattle.confluence_laws.proofs.Basics.{both as and_both}
 use Rattle.stream_laws.proofs.Sights.{sees_some}
 use Rattle.stream_laws.proofs.Places.{puts_connected}
-use Rattle.stream_laws.proofs.Leasts.{and_both}
 use Rattle.stream_laws.proofs.Rounded.{with_list, IsOver, IsSeen, Shows, Full, full_over}
 use Rattle.stream_laws.proofs.CollateRounds.{none_in_sight, puts_alike, one_more_is, both, count_of, count_one, turn_is, takes_is, outs_are, Stand, after_detail, after_master, start}
 use Rattle.stream_laws.proofs.Collated.{fits, rising, match_apart, master_apart, detail_apart, Alike, left_pairs, left_is, before_same, match_round, master_round, detail_round}

@@ -1,5 +1,5 @@
 -- Examples of what stages put by themselves.
-use Rattle.std.specs.Prelude.{◌≡◌, ℕ, zero, suc, Bool, true, false, List, [], ◌∷◌, map, codes, refl, if◌then◌else◌, pos}
+use Rattle.std.specs.Prelude.{◌≡◌, ℕ, zero, suc, Bool, true, false, List, [], ◌∷◌, map, codes, refl, pos}
 use Rattle.std.specs.declared.option.Option.{Option}
 use Rattle.std.specs.declared.option.Option.TheVariants.{Some, None}
 use Rattle.pipe_model.specs.declared.net.Strand.{Strand}
@@ -7,12 +7,10 @@ use Rattle.pipe_model.specs.declared.kind.Kind.{Kind}
 use Rattle.pipe_model.specs.declared.kind.Kind.TheVariants as Kinds
 use Rattle.pipe_model.specs.declared.range.Range.{Range}
 use Rattle.pipe_model.specs.declared.range.Span.TheVariants.{Columns}
-use Rattle.pipe_model.specs.Event.{Event, Want, records_on, taken_from, code_of}
-use Rattle.pipe_model.specs.Row.{Pair}
+use Rattle.pipe_model.specs.Event.{Event, records_on}
 use Rattle.pipe_model.specs.Shape.{Records, Stream, each_record, copied}
 use Rattle.pipe_model.specs.Next.{next}
 use Rattle.pipe_model.specs.Alone.{Given, alone_event}
-use Rattle.pipe_model.specs.Inputs.{records_from}
 use Rattle.pipe_model.specs.Listed.{pairs_of, taken_of, ending_of, are_sorted, are_distinct, fan_in_pairs, lookup_pairs, merge_pairs, collate_pairs}
 
 -- the first column of a record is its key

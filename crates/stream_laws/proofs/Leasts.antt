@@ -12,7 +12,7 @@ use Rattle.pipe_model.specs.Keys.{is_less}
 use Rattle.pipe_model.specs.JoiningRows.{goes_first, is_least}
 use Rattle.pipe_model.specs.Shape.{Records, records_of}
 use Rattle.pipe_model.specs.Inputs.{records_from}
-use Rattle.stream_laws.proofs.Beginnings.{test_same, same_number}
+use Rattle.confluence_laws.proofs.Basics.{test_same, same_number, both as and_both}
 use Rattle.stream_laws.proofs.Streams.{from, on_both}
 use Rattle.stream_laws.proofs.KeyOrder.{less_one_way, less_between, same_is}
 
@@ -99,10 +99,6 @@ all_imply f h (x ∷ xs) imply all = by_test (f x) refl all (all_imply f h xs im
 pub not_true : (b : Bool) → not b ≡ true → b ≡ false
 not_true true e = cc
 not_true false e = refl
-
-pub and_both : (a b : Bool) → (a && b) ≡ true → (a ≡ true) × (b ≡ true)
-and_both true b e = (refl, e)
-and_both false b e = cc
 
 -- one that fails
 all_fails : {A : Type 0} (f : A → Bool) (us : List A) (x : A) (vs : List A) → f x ≡ false → list_all f (us ++ x ∷ vs) ≡ false

@@ -1,4 +1,3 @@
-pub mod Beginnings
 pub mod Streams
 pub mod Places
 pub mod OneList

@@ -19,13 +19,13 @@ use Rattle.pipe_model.specs.OrderRows.{sorted}
 use Rattle.pipe_model.specs.Table.{form}
 use Rattle.pipe_model.specs.Alone.{Given, IsAllAlone}
 use Rattle.pipe_model.specs.Listed.{ascending, are_sorted, merge_pairs, IsUnlimited, Puts}
-use Rattle.stream_laws.proofs.Beginnings.{test_same, same_number}
+use Rattle.confluence_laws.proofs.Basics.{test_same, same_number, both as and_both}
 use Rattle.stream_laws.proofs.Streams.{from, on_both}
 use Rattle.stream_laws.proofs.KeyOrder.{less_between, same_is}
 use Rattle.stream_laws.proofs.Sights.{sees_some}
 use Rattle.stream_laws.proofs.Places.{puts_connected}
 use Rattle.stream_laws.proofs.Rounded.{with_list, IsSeen, Shows, Full, rounds_full, next_full, full_over}
-use Rattle.stream_laws.proofs.Leasts.{all_imply, not_true, and_both, all_at, Pick, pick, pick_all, pick_rec, pick_only, pick_taken}
+use Rattle.stream_laws.proofs.Leasts.{all_imply, not_true, all_at, Pick, pick, pick_all, pick_rec, pick_only, pick_taken}
 use Rattle.stream_laws.proofs.Sorts.{Split, sorted_least, split_at}
 
 -- of the numbers from one on, that which is a certain one

@@ -22,7 +22,8 @@ use Rattle.pipe_model.specs.Alone.{Given, IsAllAlone}
 use Rattle.pipe_model.specs.Inputs.{records_from}
 use Rattle.pipe_model.specs.JoiningRows.{on_output}
 use Rattle.pipe_model.specs.Listed.{pairs_at, pairs_after, pairs_of, taken_after, taken_of, code_after, ending_of, IsUnlimited, Does}
-use Rattle.stream_laws.proofs.Streams.{at_end, past_end, on_both, records_all, output_both, last_on, last_is, connected}
+use Rattle.confluence_laws.proofs.Within.{at_end, past_end}
+use Rattle.stream_laws.proofs.Streams.{on_both, records_all, output_both, last_on, last_is, connected}
 use Rattle.stream_laws.proofs.Places.{took, Reaches, take_one, write_all, write_rest, read_one, read_end, begins, IsDone, finish, puts_connected}
 
 -- the acts of a record that causes a finite list of pairs

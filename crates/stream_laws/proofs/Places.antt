@@ -17,9 +17,11 @@ use Rattle.pipe_model.specs.Next.Phase.{Starting, Doing, Lost}
 use Rattle.pipe_model.specs.Alone.{Given, takes_more, look_alone, alone_event, IsAllAlone}
 use Rattle.pipe_model.specs.Inputs.{records_from}
 use Rattle.pipe_model.specs.Listed.{IsUnlimited, Puts}
-use Rattle.stream_laws.proofs.Beginnings.{Within, test_same, same_number, from_start, grows, is_all}
-use Rattle.stream_laws.proofs.Beginnings.Within.{all}
-use Rattle.stream_laws.proofs.Streams.{on_both, last_on, last_is, took_count, connected, on_connected, on_unconnected}
+use Rattle.confluence_laws.proofs.Basics.{test_same, same_number}
+use Rattle.confluence_laws.proofs.Neighbours.{took_count}
+use Rattle.confluence_laws.proofs.Within.{Within, from_start, grows, is_all}
+use Rattle.confluence_laws.proofs.Within.Within.{all}
+use Rattle.stream_laws.proofs.Streams.{on_both, last_on, last_is, connected, on_connected, on_unconnected}
 
 abbrev pub mk : Known → Phase → Past
 mk k f = record { known = k; refused = []; phase = f }
@@ -104,7 +106,7 @@ module _ (s : Strand) (g : Given) (unlimited : IsUnlimited g) (W : List Event) (
   read_one k i rec put taken (h, x) hand = (
     Saw i rec ∷ h,
     record {
-      within = on k (Doing [] (Asks (Read i))) put taken h x (Saw i rec) (Read i) refl (ap (λ z. Some (look_alone i z)) (ap (slice_get (g.inputs i)) (took_count i h ∙ ap length (x.takes i)) ∙ hand));
+      within = on k (Doing [] (Asks (Read i))) put taken h x (Saw i rec) (Read i) refl (ap (λ z. Some (look_alone i z)) (ap (slice_get (g.inputs i)) (sym (took_count i h) ∙ ap length (x.takes i)) ∙ hand));
       going = x.going;
       past = ap (λ (p : Past). after (form s).row s.ports.has_output p p.phase (Saw i rec)) x.past ∙ ap (λ b. cond b (mk (learned k (Saw i rec)) (begins_plan s.ports.has_output [] ((form s).row.plan (learned k (Saw i rec))))) (mk k Lost)) (test_same i);
       puts = x.puts;
@@ -125,7 +127,7 @@ module _ (s : Strand) (g : Given) (unlimited : IsUnlimited g) (W : List Event) (
   read_end k i put taken (h, x) hand = (
     SawEnd i ∷ h,
     record {
-      within = on k (Doing [] (Asks (Read i))) put taken h x (SawEnd i) (Read i) refl (ap (λ z. Some (look_alone i z)) (ap (slice_get (g.inputs i)) (took_count i h ∙ ap length (x.takes i)) ∙ hand));
+      within = on k (Doing [] (Asks (Read i))) put taken h x (SawEnd i) (Read i) refl (ap (λ z. Some (look_alone i z)) (ap (slice_get (g.inputs i)) (sym (took_count i h) ∙ ap length (x.takes i)) ∙ hand));
       going = x.going;
       past = ap (λ (p : Past). after (form s).row s.ports.has_output p p.phase (SawEnd i)) x.past ∙ ap (λ b. cond b (mk (learned k (SawEnd i)) (begins_plan s.ports.has_output [] ((form s).row.plan (learned k (SawEnd i))))) (mk k Lost)) (test_same i);
       puts = x.puts;

@@ -19,8 +19,10 @@ use Rattle.pipe_model.specs.Next.{begins_plan, learned, nothing_known}
 use Rattle.pipe_model.specs.Next.Phase.{Doing}
 use Rattle.pipe_model.specs.Alone.{Given, IsAllAlone}
 use Rattle.pipe_model.specs.Listed.{IsUnlimited}
-use Rattle.stream_laws.proofs.Beginnings.{test_same, same_number}
-use Rattle.stream_laws.proofs.Streams.{length_more, at_end, past_end, on_both, last_on, connected}
+use Rattle.confluence_laws.proofs.Neighbours.{length_more}
+use Rattle.confluence_laws.proofs.Within.{at_end, past_end}
+use Rattle.confluence_laws.proofs.Basics.{test_same, same_number}
+use Rattle.stream_laws.proofs.Streams.{on_both, last_on, connected}
 use Rattle.stream_laws.proofs.Sights.{sees_none, sees_some, without_own, without_others, now_own, now_others, finds_it, finds_none, rest_of}
 use Rattle.stream_laws.proofs.Places.{took, Reaches, take_one, write_all, read_one, read_end, begins, IsDone, finish}
 

@@ -7,7 +7,7 @@ use Rattle.std.proofs.lemmas.List.{append-nil}
 use Rattle.pipe_model.specs.Row.{Pair, sees, without}
 use Rattle.pipe_model.specs.Shape.{Records, records_of}
 use Rattle.pipe_model.specs.Inputs.{records_from}
-use Rattle.stream_laws.proofs.Beginnings.{test_same, same_number}
+use Rattle.confluence_laws.proofs.Basics.{test_same, same_number}
 use Rattle.stream_laws.proofs.Streams.{from, on_both}
 
 -- nothing is in sight where no record is

@@ -11,9 +11,9 @@ use Rattle.pipe_model.specs.Keys.{is_less}
 use Rattle.pipe_model.specs.declared.keys.SortKey.{SortKey}
 use Rattle.pipe_model.specs.OrderRows.{goes_before, inserted, sorted}
 use Rattle.pipe_model.specs.Listed.{ascending}
-use Rattle.stream_laws.proofs.Beginnings.{test_same}
+use Rattle.confluence_laws.proofs.Basics.{test_same, both as and_both}
 use Rattle.stream_laws.proofs.KeyOrder.{same_is}
-use Rattle.stream_laws.proofs.Leasts.{and_both, not_true}
+use Rattle.stream_laws.proofs.Leasts.{not_true}
 use Rattle.stream_laws.proofs.Rounded.{with_list}
 
 module _ (range : Range) where

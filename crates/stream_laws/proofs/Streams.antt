@@ -1,31 +1,13 @@
 -- The records of one stream.
-use Rattle.std.proofs.Common.{◌≡◌, ℕ, suc, Bool, true, false, cond, ◌==◌, List, [], ◌∷◌, ◌++◌, length, refl, sym, ◌∙◌, ap, Some, None, slice_get}
+use Rattle.std.proofs.Common.{◌≡◌, ℕ, Bool, true, false, cond, ◌==◌, List, [], ◌∷◌, ◌++◌, refl, sym, ◌∙◌, ap}
 use Rattle.std.specs.Prelude.{filter}
 use Rattle.std.proofs.lemmas.List.{map-append}
-use Rattle.pipe_model.specs.Event.{Event, one_more, tooks_on, taken_from, last_seen_on}
-use Rattle.pipe_model.specs.Event.Event.{Took}
 use Rattle.pipe_model.specs.Row.{Pair}
 use Rattle.pipe_model.specs.Shape.{Records, at_hand_of, records_of}
 use Rattle.pipe_model.specs.Members.{flag_at}
 use Rattle.pipe_model.specs.Inputs.{records_from}
 use Rattle.pipe_model.specs.JoiningRows.{on_output}
-use Rattle.stream_laws.proofs.Beginnings.{test_same, same_number}
-
--- Lists
-
-pub length_more : {A : Type 0} (xs : List A) (x : A) → length (xs ++ x ∷ []) ≡ suc (length xs)
-length_more [] x = refl
-length_more (z ∷ zs) x = ap suc (length_more zs x)
-
--- behind a list stands what is appended
-pub at_end : {A : Type 0} (xs : List A) (x : A) (ys : List A) → slice_get (xs ++ x ∷ ys) (length xs) ≡ Some x
-at_end [] x ys = refl
-at_end (z ∷ zs) x ys = at_end zs x ys
-
--- or nothing
-pub past_end : {A : Type 0} (xs : List A) → slice_get xs (length xs) ≡ None
-past_end [] = refl
-past_end (x ∷ xs) = past_end xs
+use Rattle.confluence_laws.proofs.Basics.{test_same, same_number}
 
 -- Streams
 
@@ -71,18 +53,6 @@ last_on i seen = at_hand_of (records_from i seen)
 
 pub last_is : (i : ℕ) (seen : List Pair) (rec : List ℕ) → last_on i (seen ++ (i, rec) ∷ []) ≡ rec
 last_is i seen rec = ap at_hand_of (on_both i seen ((i, rec) ∷ []) ∙ ap (λ b. records_from i seen ++ records_of (cond b ((i, rec) ∷ []) [])) (test_same i)) ∙ at_hand_last (records_from i seen) rec
-
--- Histories
-
--- as many are counted as were taken
-pub took_count : (i : ℕ) (h : List Event) → tooks_on i h ≡ length (taken_from i h)
-took_count i [] = refl
-took_count i (Took j ∷ h) = by_test (j == i) (took_count i h)
-  where
-    by_test : (b : Bool) → tooks_on i h ≡ length (taken_from i h) → one_more b (tooks_on i h) ≡ length (cond b (taken_from i h ++ last_seen_on i h ∷ []) (taken_from i h))
-    by_test true e = ap suc e ∙ sym (length_more (taken_from i h) (last_seen_on i h))
-    by_test false e = e
-took_count i (_ ∷ h) = took_count i h
 
 -- Outputs
 

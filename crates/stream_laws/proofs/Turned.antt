@@ -19,9 +19,10 @@ use Rattle.pipe_model.specs.Next.{is_live, begins_plan, learned, nothing_known}
 use Rattle.pipe_model.specs.Next.Phase.{Doing}
 use Rattle.pipe_model.specs.Alone.{Given, IsAllAlone}
 use Rattle.pipe_model.specs.Listed.{IsUnlimited}
-use Rattle.stream_laws.proofs.Streams.{at_end, past_end, on_both, last_on, last_is, connected}
+use Rattle.confluence_laws.proofs.Within.{at_end, past_end}
+use Rattle.confluence_laws.proofs.Basics.{test_same}
+use Rattle.stream_laws.proofs.Streams.{on_both, last_on, last_is, connected}
 use Rattle.stream_laws.proofs.Places.{took, Reaches, take_one, write_all, write_rest, read_one, read_end, begins, IsDone, finish}
-use Rattle.stream_laws.proofs.Beginnings.{test_same}
 
 -- the pairs that records of one input cause, behind some others
 abbrev pub caused : Turning → List Pair → ℕ → Records → List Pair

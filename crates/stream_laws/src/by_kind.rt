@@ -9,8 +9,7 @@ use pipe_model::Strand;
 
 /// FANIN puts its inputs one after another.
 pub fn fan_in(strand: &Strand)
-    requires kind { strand.now.kind ≡ Kinds.FanIn }
-    ensures { (g : Given) → IsUnlimited g → (h : List Event) → IsAllAlone strand.now g h →
+    ensures { strand.now.kind ≡ Kinds.FanIn → (g : Given) → IsUnlimited g → (h : List Event) → IsAllAlone strand.now g h →
         Puts strand.now h (fan_in_pairs g.inputs (length strand.now.ports.has_input)) }
 {}
 

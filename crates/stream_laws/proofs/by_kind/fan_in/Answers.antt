@@ -5,7 +5,7 @@ use Rattle.stream_laws.proofs.FanIns.{fan_in_puts}
 use Rattle.stream_laws.proofs.by_kind.fan_in.Goals as goal
 
 pub returns : goal.returns
-returns c = λ g unlimited h done.
+returns c = λ kind g unlimited h done.
     fan_in_puts c.args.strand.now g unlimited h done (length c.args.strand.now.ports.has_input)
-    (ap (λ kind. (row_of c.args.strand.now (line_of kind).shape).plan) c.requires.kind)
-    (ap (λ kind. (row_of c.args.strand.now (line_of kind).shape).early) c.requires.kind)
+    (ap (λ kind. (row_of c.args.strand.now (line_of kind).shape).plan) kind)
+    (ap (λ kind. (row_of c.args.strand.now (line_of kind).shape).early) kind)
