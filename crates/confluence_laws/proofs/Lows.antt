@@ -17,7 +17,7 @@ use Rattle.pipe_model.specs.Licence.{none_left, want_after, want_at, puts, tooks
 use Rattle.pipe_model.specs.WellFormed.{IsWellFormed}
 use Rattle.pipe_model.specs.Settled.{is_thin, walk, joins_at, first_link, fork, is_braided, meets, meets_at, is_settled}
 use Rattle.pipe_model.specs.Plain.{IsPlain}
-use Rattle.pipe_model.specs.Tags.{Pick, or_none, written, before_put, tag_of, tag_on, next_on, is_less, least, input_of, first_tagged}
+use Rattle.pipe_model.specs.Tags.{Pick, or_none, written, before_put, tag_of, tag_on, next_on, comes_before, least, input_of, first_tagged}
 use Rattle.pipe_model.specs.Alone.{Given, taken_by, list_on, whole, lists_of, tag_orders, IsFirstPass, IsTaggedPass}
 use Rattle.confluence_laws.proofs.Asked.{plain_strand}
 use Rattle.confluence_laws.proofs.Basics.{cond_some, both, the_event, same_number, test_same, not_ended, found_at, all_at, at_place, in_below, from_in, more_tooks, more_puts, less_is, less_not, less_too, put_asked}

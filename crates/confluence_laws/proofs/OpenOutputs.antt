@@ -10,7 +10,7 @@ use Rattle.pipe_model.specs.Row.{Pair, Act, Goal, Known}
 use Rattle.pipe_model.specs.Row.Act.{Writes, Repeats, Takes}
 use Rattle.pipe_model.specs.Row.Goal.{Asks, Ends}
 use Rattle.pipe_model.specs.Table.{form}
-use Rattle.pipe_model.specs.Next.{Phase, Past, IsOwn, is_live, is_open, is_refused, doing, begins_plan, learned, nothing_known, first_phase, after, want_in, heard}
+use Rattle.pipe_model.specs.Next.{Phase, Past, IsOwn, is_live, is_open, is_refused, doing, begins_plan, known_after, nothing_known, first_phase, after, want_in, after_answer}
 use Rattle.pipe_model.specs.Members.{has, flag_at}
 use Rattle.pipe_model.specs.Row.{sees, without}
 use Rattle.pipe_model.specs.Next.Phase.{Starting, Doing, Lost}

@@ -19,7 +19,7 @@ use Rattle.pipe_model.specs.WellFormed.{IsWellFormed, IsOfStage, strands_of}
 use Rattle.pipe_model.specs.Alone.{Given, list_on, inputs_of, primes, limit_of, whole, cut, lists_of, tag_orders, alone_event, IsAlone, IsAllAlone, IsTaggedPass, IsSecondPass, is_early, worst_of_early, barred_history, IsBarred, IsPlainReading}
 use Rattle.pipe_model.specs.Plain.{IsPlain, is_primed_later, waits_for_first}
 use Rattle.pipe_model.specs.Settled.{fork}
-use Rattle.pipe_model.specs.Tags.{Tag, Pick, Counts, or_none, before_put, written, tag_on, tag_of, next_on, is_less, lesser, least, input_of}
+use Rattle.pipe_model.specs.Tags.{Tag, Pick, Counts, or_none, before_put, written, tag_on, tag_of, next_on, comes_before, lesser, least, input_of}
 use Rattle.std.specs.Prelude.{nat_lt}
 use Rattle.std.proofs.lemmas.Bool.Decides.{nat_tests}
 use Rattle.confluence_laws.proofs.Asked.{plain_strand}

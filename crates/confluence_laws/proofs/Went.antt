@@ -17,7 +17,7 @@ use Rattle.pipe_model.specs.Row.{Act, Goal, Row}
 use Rattle.pipe_model.specs.Row.Act.{Writes, Repeats, Takes}
 use Rattle.pipe_model.specs.Row.Goal.{Asks, Ends}
 use Rattle.pipe_model.specs.Table.{form}
-use Rattle.pipe_model.specs.Next.{Phase, Past, after, want_in, next, learned, first_phase, is_live, is_refused, begins_plan, doing, IsOwn, noted, gives_up, heard}
+use Rattle.pipe_model.specs.Next.{Phase, Past, after, want_in, next, known_after, first_phase, is_live, is_refused, begins_plan, doing, IsOwn, refused_after, gives_up, after_answer}
 use Rattle.pipe_model.specs.Next.Phase.{Starting, Doing, Lost}
 use Rattle.pipe_model.specs.State.{State, Who, past, below, nothing_yet, members, strand_at, with_event, with_some_event}
 use Rattle.pipe_model.specs.Licence.{none_left, want_after, want_at, commits_to, stands_at, early_code, worst_early, level_of, up_answer, answer, licence, sight_of}
@@ -137,9 +137,9 @@ module _ (w : Row) (outputs : List Bool) where
   up_step p (Starting (negsuc (suc n))) h e at it is = absurd is
   up_step p (Starting (pos (suc n))) h e at it is = absurd is
   up_step p (Doing [] (Asks want)) h e at it is =
-      let now = learned p.known e in
-      let refused = noted p.refused e in
-      subst (λ b. UpTo (cond b (heard w outputs p e) (record p { phase = Lost })).phase (e ∷ h)) (sym it)
+      let now = known_after p.known e in
+      let refused = refused_after p.refused e in
+      subst (λ b. UpTo (cond b (after_answer w outputs p e) (record p { phase = Lost })).phase (e ∷ h)) (sym it)
       (elim (gives_up w outputs refused e) as (λ b. UpTo (cond b (Doing [] (Ends (pos 0))) (begins_plan outputs refused (w.plan now))) (e ∷ h)) [
         | true ↦ stops (e ∷ h) (went_on e h is)
         | false ↦ went_doing (filter (is_live outputs refused) (w.plan now).acts) (w.plan now).goal (e ∷ h) (went_on e h is)

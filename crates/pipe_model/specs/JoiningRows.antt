@@ -10,11 +10,8 @@ use Rattle.pipe_model.specs.Ranges.{part_of}
 use Rattle.pipe_model.specs.Keys.{is_less, is_same}
 use Rattle.pipe_model.specs.Row.{Pair, Known}
 use Rattle.pipe_model.specs.Shape.{Records, Turning, Rounding, records_of}
+use Rattle.pipe_model.specs.Counts.{all_on}
 use Rattle.pipe_model.specs.Inputs.{records_from, at_hand_causes}
-
--- records, all to be written on one output
-abbrev pub on_output : ℕ → Records → List Pair
-on_output o recs = map (λ rec. (o, rec)) recs
 
 -- a master and a detail have one key: the part of each that its range names
 abbrev pub agree : Range → Range → List ℕ → List ℕ → Bool
@@ -29,8 +26,8 @@ first_of_key range (master ∷ masters) = master ∷ filter (λ later. not (agre
 
 -- a detail, and the master with its key
 abbrev pub looked_up : List ℕ → Option (List ℕ) → List Pair
-looked_up detail None = on_output 1 (detail ∷ [])
-looked_up detail (Some master) = on_output 0 (detail ∷ master ∷ [])
+looked_up detail None = all_on 1 (detail ∷ [])
+looked_up detail (Some master) = all_on 0 (detail ∷ master ∷ [])
 
 -- of some masters those that no detail matched
 abbrev pub unmatched : Range → Range → Records → Records → Records
@@ -41,7 +38,7 @@ abbrev pub looking_up : Range → Range → Turning
 looking_up of_detail of_master = record {
   order = λ inputs seen. 1 ∷ 0 ∷ [];
   outs = λ seen. at_hand_causes (λ i rec. if i == 1 then [] else looked_up rec (find (λ master. agree of_master of_detail master rec) (records_from 1 seen))) seen;
-  last = λ seen. on_output 2 (unmatched of_master of_detail (first_of_key of_master (records_from 1 seen)) (records_from 0 seen));
+  last = λ seen. all_on 2 (unmatched of_master of_detail (first_of_key of_master (records_from 1 seen)) (records_from 0 seen));
 }
 
 -- COLLATE: masters come on input 0, details on input 1
@@ -83,9 +80,9 @@ turn_of of_master of_detail (master ∷ _) (detail ∷ _) =
 
 -- the pairs of a turn, by the master and the detail in sight, and how many details have matched the master so far
 abbrev pub collated : Turn → Records → Records → ℕ → List Pair
-collated Match master detail n = on_output 0 (if n == 1 then master ++ detail else detail)
-collated Master master detail n = on_output 1 (if n == 0 then master else [])
-collated Detail master detail n = on_output 2 detail
+collated Match master detail n = all_on 0 (if n == 1 then master ++ detail else detail)
+collated Master master detail n = all_on 1 (if n == 0 then master else [])
+collated Detail master detail n = all_on 2 detail
 
 -- the input whose record a turn takes
 abbrev pub taken_in : Turn → ℕ
@@ -117,6 +114,6 @@ is_least range sight p = list_all (λ q. not (goes_first range q p)) sight
 abbrev pub merging : Range → Rounding
 merging range = record {
   strict = false;
-  outs = λ k. on_output 0 (records_of (filter (is_least range k.sight) k.sight));
+  outs = λ k. all_on 0 (records_of (filter (is_least range k.sight) k.sight));
   takes = λ k i. list_any (λ p. p.0 == i && is_least range k.sight p) k.sight;
 }

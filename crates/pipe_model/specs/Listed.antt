@@ -15,7 +15,8 @@ use Rattle.pipe_model.specs.Members.{flag_at}
 use Rattle.pipe_model.specs.Ranges.{part_of}
 use Rattle.pipe_model.specs.Keys.{is_less}
 use Rattle.pipe_model.specs.Inputs.{records_from}
-use Rattle.pipe_model.specs.JoiningRows.{on_output, agree, looked_up, first_of_key, unmatched}
+use Rattle.pipe_model.specs.Counts.{all_on}
+use Rattle.pipe_model.specs.JoiningRows.{agree, looked_up, first_of_key, unmatched}
 use Rattle.pipe_model.specs.OrderRows.{sorted}
 use Rattle.pipe_model.specs.Alone.{Given}
 
@@ -77,8 +78,8 @@ IsListed s Absent g h = Does s h [] [] (pos 28)
 IsListed s (Sources pairs) g h = Does s h pairs [] (pos 0)
 IsListed s (Lists order t) g h = are_finite (t s.ports.has_output).outs ≡ true →
     Does s h (pairs_of (t s.ports.has_output) (g.inputs 0)) (taken_of (t s.ports.has_output) (g.inputs 0)) (ending_of (t s.ports.has_output) (g.inputs 0))
-IsListed s (Sinks keeping) g h = Does s h (on_output 0 (g.inputs 0)) (g.inputs 0) (pos 0)
-IsListed s Queues g h = Does s h (on_output 0 (g.inputs 0)) (g.inputs 0) (pos 0)
+IsListed s (Sinks keeping) g h = Does s h (all_on 0 (g.inputs 0)) (g.inputs 0) (pos 0)
+IsListed s Queues g h = Does s h (all_on 0 (g.inputs 0)) (g.inputs 0) (pos 0)
 IsListed s _ g h = Unit {0}
 
 -- its outputs take all
@@ -87,13 +88,13 @@ IsUnlimited g = (o : ℕ) → g.limits o ≡ None
 
 -- FANIN: its inputs one after another
 abbrev pub fan_in_pairs : (ℕ → Records) → ℕ → List Pair
-fan_in_pairs inputs n = on_output 0 (flat_map inputs (all_inputs n))
+fan_in_pairs inputs n = all_on 0 (flat_map inputs (all_inputs n))
 
 -- LOOKUP: each detail with the first master of its key, or else alone; and behind them the masters that no detail matched
 abbrev pub lookup_pairs : Range → Range → Records → Records → List Pair
 lookup_pairs of_detail of_master details masters =
     flat_map (λ detail. looked_up detail (find (λ master. agree of_master of_detail master detail) masters)) details
-    ++ on_output 2 (unmatched of_master of_detail (first_of_key of_master masters) details)
+    ++ all_on 2 (unmatched of_master of_detail (first_of_key of_master masters) details)
 
 -- Records in order
 
@@ -113,7 +114,7 @@ ascending range = record { range = range; descending = false }
 
 -- MERGE, where each input is sorted: what SORT makes of its inputs one after another
 abbrev pub merge_pairs : Range → (ℕ → Records) → ℕ → List Pair
-merge_pairs range inputs n = on_output 0 (sorted (ascending range ∷ []) (flat_map inputs (all_inputs n)))
+merge_pairs range inputs n = all_on 0 (sorted (ascending range ∷ []) (flat_map inputs (all_inputs n)))
 
 -- a master before its details, if it has any
 abbrev pub headed : List ℕ → Records → Records
@@ -123,6 +124,6 @@ headed master (detail ∷ details) = master ∷ detail ∷ details
 -- COLLATE, where both inputs are sorted and no two masters have one key: each master with details, and they behind it; the masters without; the details without
 abbrev pub collate_pairs : Range → Range → Records → Records → List Pair
 collate_pairs of_master of_detail masters details =
-    on_output 0 (flat_map (λ master. headed master (filter (agree of_master of_detail master) details)) masters)
-    ++ (on_output 1 (unmatched of_master of_detail masters details)
-    ++ on_output 2 (filter (λ detail. not (list_any (λ master. agree of_master of_detail master detail) masters)) details))
+    all_on 0 (flat_map (λ master. headed master (filter (agree of_master of_detail master) details)) masters)
+    ++ (all_on 1 (unmatched of_master of_detail masters details)
+    ++ all_on 2 (filter (λ detail. not (list_any (λ master. agree of_master of_detail master detail) masters)) details))

@@ -10,7 +10,7 @@ use Rattle.pipe_model.specs.Row.{Row}
 use Rattle.pipe_model.specs.Row.Act.{Writes, Repeats, Takes}
 use Rattle.pipe_model.specs.Row.Goal.{Asks, Ends}
 use Rattle.pipe_model.specs.Table.{form}
-use Rattle.pipe_model.specs.Next.{Phase, Past, after, want_in, next, learned, first_phase, is_refused, begins_plan, doing, IsOwn}
+use Rattle.pipe_model.specs.Next.{Phase, Past, after, want_in, next, known_after, first_phase, is_refused, begins_plan, doing, IsOwn}
 use Rattle.pipe_model.specs.Next.Phase.{Starting, Doing, Lost}
 use Rattle.confluence_laws.proofs.Fitting.{past_of, still_wants, stands_for}
 
@@ -35,7 +35,7 @@ awaits_step w outputs p (Starting (pos zero)) h _ at it is = cc
 awaits_step w outputs p (Starting (negsuc (suc n))) h e at it is = absurd is
 awaits_step w outputs p (Starting (pos (suc n))) h e at it is = absurd is
 awaits_step w outputs p (Doing [] (Asks want)) h e at it is =
-    let now = learned p.known e in
+    let now = known_after p.known e in
     subst (λ b. Awaits (cond b (record { known = now; refused = p.refused; phase = begins_plan outputs p.refused (w.plan now) }) (record p { phase = Lost })).phase (e ∷ h)) (sym it) tt
 awaits_step w outputs p (Doing [] (Ends code)) h e at it is = tt
 awaits_step w outputs p (Doing (Writes o rec ∷ acts) goal) h (Put o' rec') at it is = tt

@@ -10,7 +10,7 @@ use Rattle.pipe_model.specs.Shape.Shape.{Absent, Sources, Lists, Sinks, Firsts, 
 use Rattle.pipe_model.specs.Table.{form}
 use Rattle.pipe_model.specs.Next.{begins_plan, nothing_known}
 use Rattle.pipe_model.specs.Alone.{Given, IsAllAlone}
-use Rattle.pipe_model.specs.JoiningRows.{on_output}
+use Rattle.pipe_model.specs.Counts.{all_on}
 use Rattle.pipe_model.specs.Listed.{pairs_after, taken_after, code_after, IsUnlimited, IsListed, Puts, Does}
 use Rattle.stream_laws.proofs.Streams.{at_hand_last}
 use Rattle.stream_laws.proofs.Places.{Reaches, write_rest, begins, ends_early, finish, puts_connected}
@@ -18,7 +18,7 @@ use Rattle.stream_laws.proofs.OneList.{one_list}
 
 -- A strand that copies
 
-pairs_copied : (recs rest : Records) → pairs_after (each_record copied) recs rest ≡ on_output 0 rest
+pairs_copied : (recs rest : Records) → pairs_after (each_record copied) recs rest ≡ all_on 0 rest
 pairs_copied recs [] = refl
 pairs_copied recs (rec ∷ rest) = ap (λ z. (0, z) ∷ pairs_after (each_record copied) (recs ++ rec ∷ []) rest) (at_hand_last recs rec) ∙ ap (λ z. (0, rec) ∷ z) (pairs_copied (recs ++ rec ∷ []) rest)
 
@@ -31,7 +31,7 @@ code_copied recs [] = refl
 code_copied recs (rec ∷ rest) = code_copied (recs ++ rec ∷ []) rest
 
 module _ (s : Strand) (g : Given) (unlimited : IsUnlimited g) (W : List Event) (done : IsAllAlone s g W) where
-  copies : (order : Order) → (form s).row.plan ≡ (row_of s (Lists order (λ outputs. each_record copied))).plan → (form s).row.early ≡ None → Does s W (on_output 0 (g.inputs 0)) (g.inputs 0) (pos 0)
+  copies : (order : Order) → (form s).row.plan ≡ (row_of s (Lists order (λ outputs. each_record copied))).plan → (form s).row.early ≡ None → Does s W (all_on 0 (g.inputs 0)) (g.inputs 0) (pos 0)
   copies order plan early =
       let x = one_list s g unlimited W done order (each_record copied) plan refl early in
       record {

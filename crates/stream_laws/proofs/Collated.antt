@@ -10,7 +10,8 @@ use Rattle.pipe_model.specs.Shape.{Records}
 use Rattle.pipe_model.specs.Ranges.{part_of}
 use Rattle.pipe_model.specs.Keys.{is_less, is_same}
 use Rattle.pipe_model.specs.Inputs.{records_from}
-use Rattle.pipe_model.specs.JoiningRows.{on_output, agree, unmatched}
+use Rattle.pipe_model.specs.Counts.{all_on}
+use Rattle.pipe_model.specs.JoiningRows.{agree, unmatched}
 use Rattle.pipe_model.specs.Listed.{are_sorted, are_distinct, headed, collate_pairs}
 use Rattle.confluence_laws.proofs.Basics.{same_number, both as and_both}
 use Rattle.stream_laws.proofs.Streams.{on_both, on_others, output_both}
@@ -177,7 +178,7 @@ module _ (of_master of_detail : Range) where
   left_1 new (m ∷ ms) ds = cond (new && not (list_any (fits m) ds)) (m ∷ unmatched of_master of_detail ms ds) (unmatched of_master of_detail ms ds)
 
   abbrev pub on_three : Records → Records → Records → List Pair
-  on_three a b c = on_output 0 a ++ (on_output 1 b ++ on_output 2 c)
+  on_three a b c = all_on 0 a ++ (all_on 1 b ++ all_on 2 c)
 
   abbrev pub left_pairs : Bool → Records → Records → List Pair
   left_pairs new ms ds = on_three (left_0 new ms ds) (left_1 new ms ds) (without_master ms ds)
@@ -192,56 +193,56 @@ module _ (of_master of_detail : Range) where
   Alike ps qs = (o : ℕ) → records_from o ps ≡ records_from o qs
 
   -- pairs of two streams can change places
-  swapped : (j k : ℕ) → (j == k) ≡ false → (xs ys : Records) → Alike (on_output j xs ++ on_output k ys) (on_output k ys ++ on_output j xs)
-  swapped j k apart xs ys o = on_both o (on_output j xs) (on_output k ys) ∙ by_test (j == o) refl ∙ sym (on_both o (on_output k ys) (on_output j xs))
+  swapped : (j k : ℕ) → (j == k) ≡ false → (xs ys : Records) → Alike (all_on j xs ++ all_on k ys) (all_on k ys ++ all_on j xs)
+  swapped j k apart xs ys o = on_both o (all_on j xs) (all_on k ys) ∙ by_test (j == o) refl ∙ sym (on_both o (all_on k ys) (all_on j xs))
     where
       turned : (k j : ℕ) → (j == k) ≡ false → (k == j) ≡ false
       turned k j e = grind (arith, nat_tests)
 
-      by_test : (b : Bool) → (j == o) ≡ b → records_from o (on_output j xs) ++ records_from o (on_output k ys) ≡ records_from o (on_output k ys) ++ records_from o (on_output j xs)
+      by_test : (b : Bool) → (j == o) ≡ b → records_from o (all_on j xs) ++ records_from o (all_on k ys) ≡ records_from o (all_on k ys) ++ records_from o (all_on j xs)
       by_test true is =
-          let z : records_from o (on_output k ys) ≡ [] = on_others k o ys (ap (λ y. k == y) (sym (same_number j o is)) ∙ turned k j apart) in
-          ap (λ y. records_from o (on_output j xs) ++ y) z ∙ append-nil (records_from o (on_output j xs)) ∙ ap (λ y. y ++ records_from o (on_output j xs)) (sym z)
+          let z : records_from o (all_on k ys) ≡ [] = on_others k o ys (ap (λ y. k == y) (sym (same_number j o is)) ∙ turned k j apart) in
+          ap (λ y. records_from o (all_on j xs) ++ y) z ∙ append-nil (records_from o (all_on j xs)) ∙ ap (λ y. y ++ records_from o (all_on j xs)) (sym z)
       by_test false is =
-          let z : records_from o (on_output j xs) ≡ [] = on_others j o xs is in
-          ap (λ y. y ++ records_from o (on_output k ys)) z ∙ sym (append-nil (records_from o (on_output k ys))) ∙ ap (λ y. records_from o (on_output k ys) ++ y) (sym z)
+          let z : records_from o (all_on j xs) ≡ [] = on_others j o xs is in
+          ap (λ y. y ++ records_from o (all_on k ys)) z ∙ sym (append-nil (records_from o (all_on k ys))) ∙ ap (λ y. records_from o (all_on k ys) ++ y) (sym z)
 
   pub before_same : (xs ys zs : List Pair) → Alike ys zs → Alike (xs ++ ys) (xs ++ zs)
   before_same xs ys zs e o = on_both o xs ys ∙ ap (λ z. records_from o xs ++ z) (e o) ∙ sym (on_both o xs zs)
 
   -- what is put first on output 1 or 2 stands first there
-  moved_1 : (y a b c : Records) → Alike (on_output 1 y ++ on_three a b c) (on_three a (y ++ b) c)
+  moved_1 : (y a b c : Records) → Alike (all_on 1 y ++ on_three a b c) (on_three a (y ++ b) c)
   moved_1 y a b c o =
-      ap (records_from o) (sym (append_assoc (on_output 1 y) (on_output 0 a) (on_output 1 b ++ on_output 2 c))) ∙ on_both o (on_output 1 y ++ on_output 0 a) (on_output 1 b ++ on_output 2 c)
-      ∙ ap (λ z. z ++ records_from o (on_output 1 b ++ on_output 2 c)) (swapped 1 0 refl y a o) ∙ sym (on_both o (on_output 0 a ++ on_output 1 y) (on_output 1 b ++ on_output 2 c))
+      ap (records_from o) (sym (append_assoc (all_on 1 y) (all_on 0 a) (all_on 1 b ++ all_on 2 c))) ∙ on_both o (all_on 1 y ++ all_on 0 a) (all_on 1 b ++ all_on 2 c)
+      ∙ ap (λ z. z ++ records_from o (all_on 1 b ++ all_on 2 c)) (swapped 1 0 refl y a o) ∙ sym (on_both o (all_on 0 a ++ all_on 1 y) (all_on 1 b ++ all_on 2 c))
       ∙ ap (records_from o) (
-      append_assoc (on_output 0 a) (on_output 1 y) (on_output 1 b ++ on_output 2 c)
-      ∙ ap (λ z. on_output 0 a ++ z) (sym (append_assoc (on_output 1 y) (on_output 1 b) (on_output 2 c)) ∙ ap (λ z. z ++ on_output 2 c) (sym (output_both 1 y b)))
+      append_assoc (all_on 0 a) (all_on 1 y) (all_on 1 b ++ all_on 2 c)
+      ∙ ap (λ z. all_on 0 a ++ z) (sym (append_assoc (all_on 1 y) (all_on 1 b) (all_on 2 c)) ∙ ap (λ z. z ++ all_on 2 c) (sym (output_both 1 y b)))
       )
 
-  moved_2 : (y a b c : Records) → Alike (on_output 2 y ++ on_three a b c) (on_three a b (y ++ c))
+  moved_2 : (y a b c : Records) → Alike (all_on 2 y ++ on_three a b c) (on_three a b (y ++ c))
   moved_2 y a b c o =
-      ap (records_from o) (sym (append_assoc (on_output 2 y) (on_output 0 a) (on_output 1 b ++ on_output 2 c))) ∙ on_both o (on_output 2 y ++ on_output 0 a) (on_output 1 b ++ on_output 2 c)
-      ∙ ap (λ z. z ++ records_from o (on_output 1 b ++ on_output 2 c)) (swapped 2 0 refl y a o) ∙ sym (on_both o (on_output 0 a ++ on_output 2 y) (on_output 1 b ++ on_output 2 c))
-      ∙ ap (records_from o) (append_assoc (on_output 0 a) (on_output 2 y) (on_output 1 b ++ on_output 2 c))
-      ∙ before_same (on_output 0 a) (on_output 2 y ++ (on_output 1 b ++ on_output 2 c)) (on_output 1 b ++ on_output 2 (y ++ c)) second o
+      ap (records_from o) (sym (append_assoc (all_on 2 y) (all_on 0 a) (all_on 1 b ++ all_on 2 c))) ∙ on_both o (all_on 2 y ++ all_on 0 a) (all_on 1 b ++ all_on 2 c)
+      ∙ ap (λ z. z ++ records_from o (all_on 1 b ++ all_on 2 c)) (swapped 2 0 refl y a o) ∙ sym (on_both o (all_on 0 a ++ all_on 2 y) (all_on 1 b ++ all_on 2 c))
+      ∙ ap (records_from o) (append_assoc (all_on 0 a) (all_on 2 y) (all_on 1 b ++ all_on 2 c))
+      ∙ before_same (all_on 0 a) (all_on 2 y ++ (all_on 1 b ++ all_on 2 c)) (all_on 1 b ++ all_on 2 (y ++ c)) second o
     where
-      second : Alike (on_output 2 y ++ (on_output 1 b ++ on_output 2 c)) (on_output 1 b ++ on_output 2 (y ++ c))
+      second : Alike (all_on 2 y ++ (all_on 1 b ++ all_on 2 c)) (all_on 1 b ++ all_on 2 (y ++ c))
       second o =
-          ap (records_from o) (sym (append_assoc (on_output 2 y) (on_output 1 b) (on_output 2 c))) ∙ on_both o (on_output 2 y ++ on_output 1 b) (on_output 2 c)
-          ∙ ap (λ z. z ++ records_from o (on_output 2 c)) (swapped 2 1 refl y b o) ∙ sym (on_both o (on_output 1 b ++ on_output 2 y) (on_output 2 c))
-          ∙ ap (records_from o) (append_assoc (on_output 1 b) (on_output 2 y) (on_output 2 c) ∙ ap (λ z. on_output 1 b ++ z) (sym (output_both 2 y c)))
+          ap (records_from o) (sym (append_assoc (all_on 2 y) (all_on 1 b) (all_on 2 c))) ∙ on_both o (all_on 2 y ++ all_on 1 b) (all_on 2 c)
+          ∙ ap (λ z. z ++ records_from o (all_on 2 c)) (swapped 2 1 refl y b o) ∙ sym (on_both o (all_on 1 b ++ all_on 2 y) (all_on 2 c))
+          ∙ ap (records_from o) (append_assoc (all_on 1 b) (all_on 2 y) (all_on 2 c) ∙ ap (λ z. all_on 1 b ++ z) (sym (output_both 2 y c)))
 
   -- Rounds
 
   -- a detail with the master's key
   pub match_round : (new : Bool) (m d : List ℕ) (ms ds : Records) → fits m d ≡ true → list_all (λ later. not (fits later d)) ms ≡ true →
-      Alike (on_output 0 (cond new (m ∷ d ∷ []) (d ∷ [])) ++ left_pairs false (m ∷ ms) ds) (left_pairs new (m ∷ ms) (d ∷ ds))
+      Alike (all_on 0 (cond new (m ∷ d ∷ []) (d ∷ [])) ++ left_pairs false (m ∷ ms) ds) (left_pairs new (m ∷ ms) (d ∷ ds))
   match_round new m d ms ds is none o = ap (records_from o) (
-      sym (append_assoc (on_output 0 (cond new (m ∷ d ∷ []) (d ∷ []))) (on_output 0 (left_0 false (m ∷ ms) ds)) (on_output 1 (left_1 false (m ∷ ms) ds) ++ on_output 2 (without_master (m ∷ ms) ds)))
-      ∙ ap (λ z. z ++ (on_output 1 (left_1 false (m ∷ ms) ds) ++ on_output 2 (without_master (m ∷ ms) ds))) (sym (output_both 0 (cond new (m ∷ d ∷ []) (d ∷ [])) (left_0 false (m ∷ ms) ds)) ∙ ap (on_output 0) (firsts new))
-      ∙ ap (λ z. on_output 0 (left_0 new (m ∷ ms) (d ∷ ds)) ++ (on_output 1 z ++ on_output 2 (without_master (m ∷ ms) ds))) (seconds new)
-      ∙ ap (λ z. on_output 0 (left_0 new (m ∷ ms) (d ∷ ds)) ++ (on_output 1 (left_1 new (m ∷ ms) (d ∷ ds)) ++ on_output 2 z)) thirds
+      sym (append_assoc (all_on 0 (cond new (m ∷ d ∷ []) (d ∷ []))) (all_on 0 (left_0 false (m ∷ ms) ds)) (all_on 1 (left_1 false (m ∷ ms) ds) ++ all_on 2 (without_master (m ∷ ms) ds)))
+      ∙ ap (λ z. z ++ (all_on 1 (left_1 false (m ∷ ms) ds) ++ all_on 2 (without_master (m ∷ ms) ds))) (sym (output_both 0 (cond new (m ∷ d ∷ []) (d ∷ [])) (left_0 false (m ∷ ms) ds)) ∙ ap (all_on 0) (firsts new))
+      ∙ ap (λ z. all_on 0 (left_0 new (m ∷ ms) (d ∷ ds)) ++ (all_on 1 z ++ all_on 2 (without_master (m ∷ ms) ds))) (seconds new)
+      ∙ ap (λ z. all_on 0 (left_0 new (m ∷ ms) (d ∷ ds)) ++ (all_on 1 (left_1 new (m ∷ ms) (d ∷ ds)) ++ all_on 2 z)) thirds
       )
     where
       its : filter (fits m) (d ∷ ds) ≡ d ∷ filter (fits m) ds
@@ -260,9 +261,9 @@ module _ (of_master of_detail : Range) where
 
   -- a master that goes before all details that are left
   pub master_round : (new : Bool) (m : List ℕ) (ms ds : Records) → list_all (λ later. not (fits m later)) ds ≡ true →
-      Alike (on_output 1 (cond new (m ∷ []) []) ++ left_pairs true ms ds) (left_pairs new (m ∷ ms) ds)
+      Alike (all_on 1 (cond new (m ∷ []) []) ++ left_pairs true ms ds) (left_pairs new (m ∷ ms) ds)
   master_round new m ms ds none o =
-      ap (λ z. records_from o (on_output 1 (cond new (m ∷ []) []) ++ z)) (starts ms) ∙ moved_1 (cond new (m ∷ []) []) (with_details ms ds) (unmatched of_master of_detail ms ds) (without_master ms ds) o
+      ap (λ z. records_from o (all_on 1 (cond new (m ∷ []) []) ++ z)) (starts ms) ∙ moved_1 (cond new (m ∷ []) []) (with_details ms ds) (unmatched of_master of_detail ms ds) (without_master ms ds) o
       ∙ ap (λ z. records_from o (on_three z (cond new (m ∷ []) [] ++ unmatched of_master of_detail ms ds) (without_master ms ds))) (firsts new)
       ∙ ap (λ z. records_from o (on_three (left_0 new (m ∷ ms) ds) z (without_master ms ds))) (seconds new)
       ∙ ap (λ z. records_from o (on_three (left_0 new (m ∷ ms) ds) (left_1 new (m ∷ ms) ds) z)) (sym (no_master m ms ds none))
@@ -281,7 +282,7 @@ module _ (of_master of_detail : Range) where
 
   -- a detail that goes before all masters that are left
   pub detail_round : (new : Bool) (ms : Records) (d : List ℕ) (ds : Records) → list_all (λ m. not (fits m d)) ms ≡ true →
-      Alike (on_output 2 (d ∷ []) ++ left_pairs new ms ds) (left_pairs new ms (d ∷ ds))
+      Alike (all_on 2 (d ∷ []) ++ left_pairs new ms ds) (left_pairs new ms (d ∷ ds))
   detail_round new ms d ds none o =
       moved_2 (d ∷ []) (left_0 new ms ds) (left_1 new ms ds) (without_master ms ds) o
       ∙ ap (λ z. records_from o (on_three z (left_1 new ms ds) (d ∷ without_master ms ds))) (firsts new ms none)

@@ -11,7 +11,8 @@ use Rattle.pipe_model.specs.Shape.{Records, round_plan}
 use Rattle.pipe_model.specs.Ranges.{part_of}
 use Rattle.pipe_model.specs.Keys.{is_less}
 use Rattle.pipe_model.specs.Inputs.{records_from}
-use Rattle.pipe_model.specs.JoiningRows.{on_output, agree, beside_master, turn_of, collating}
+use Rattle.pipe_model.specs.Counts.{all_on}
+use Rattle.pipe_model.specs.JoiningRows.{agree, beside_master, turn_of, collating}
 use Rattle.pipe_model.specs.JoiningRows.Turn.{Match, Master, Detail}
 use Rattle.pipe_model.specs.Table.{form}
 use Rattle.pipe_model.specs.Alone.{Given, IsAllAlone}
@@ -72,7 +73,7 @@ module _ (s : Strand) (g : Given) (unlimited : IsUnlimited g) (W : List Event) (
         let y = after_master s g unlimited W done of_master of_detail row_is pairs left e k x a (takes_is of_master of_detail k Master t (sees_some 0 k.sight a.rec [] a.seen)) in
         let l : length (left 0) ≡ suc (length a.rest) = ap length a.list in
         let z = rest (pairs ++ (collating of_master of_detail).outs k) (with_list 0 a.rest left) 0 y.0 y.1 (later_masters a.rec a.rest (left 1) (subst (λ z. AreOrdered z (left 1)) a.list ordered)) (omega (arith, l, more)) in
-        put_behind pairs ((collating of_master of_detail).outs k) (on_output 1 (cond (e == 0) (a.rec ∷ []) [])) (left_pairs of_master of_detail true a.rest (left 1)) (left_pairs of_master of_detail (e == 0) (left 0) (left 1)) o
+        put_behind pairs ((collating of_master of_detail).outs k) (all_on 1 (cond (e == 0) (a.rec ∷ []) [])) (left_pairs of_master of_detail true a.rest (left 1)) (left_pairs of_master of_detail (e == 0) (left 0) (left 1)) o
         (λ q. master_round of_master of_detail (e == 0) a.rec a.rest (left 1) none q ∙ ap (λ z. records_from q (left_pairs of_master of_detail (e == 0) z (left 1))) (sym a.list)) z
 
     -- a detail goes
@@ -86,7 +87,7 @@ module _ (s : Strand) (g : Given) (unlimited : IsUnlimited g) (W : List Event) (
         (λ m is. let c = x.count m is in let d : count_of of_master of_detail (m ∷ []) (records_from 1 k.sight) ≡ 0 = ap (count_of of_master of_detail (m ∷ [])) b.seen ∙ no_match m (sym seen ∙ is) in omega (arith, c, d)) in
         let l : length (left 1) ≡ suc (length b.rest) = ap length b.list in
         let z = rest (pairs ++ (collating of_master of_detail).outs k) (with_list 1 b.rest left) e y.0 y.1 (later_details b.rec (left 0) b.rest (subst (λ z. AreOrdered (left 0) z) b.list ordered)) (omega (arith, l, more)) in
-        put_behind pairs ((collating of_master of_detail).outs k) (on_output 2 (b.rec ∷ [])) (left_pairs of_master of_detail (e == 0) (left 0) b.rest) (left_pairs of_master of_detail (e == 0) (left 0) (left 1)) o
+        put_behind pairs ((collating of_master of_detail).outs k) (all_on 2 (b.rec ∷ [])) (left_pairs of_master of_detail (e == 0) (left 0) b.rest) (left_pairs of_master of_detail (e == 0) (left 0) (left 1)) o
         (λ q. detail_round of_master of_detail (e == 0) (left 0) b.rec b.rest none q ∙ ap (λ z. records_from q (left_pairs of_master of_detail (e == 0) (left 0) z)) (sym b.list)) z
 
     -- they match
@@ -94,15 +95,15 @@ module _ (s : Strand) (g : Given) (unlimited : IsUnlimited g) (W : List Event) (
     they_match a b fit none =
         let t = turn_is of_master of_detail k (a.rec ∷ []) (b.rec ∷ []) a.seen b.seen ∙ ap (λ z. cond z Match (cond (is_less (part_of of_master a.rec) (part_of of_detail b.rec)) Master Detail)) fit in
         let n : count_of of_master of_detail (a.rec ∷ []) (beside_master k.told) ≡ e + 1 = x.count a.rec a.seen ∙ ap (λ z. e + count_of of_master of_detail (a.rec ∷ []) z) b.seen ∙ ap (λ z. e + z) (count_one of_master of_detail a.rec b.rec true fit) in
-        let o = outs_are of_master of_detail k Match (a.rec ∷ []) (b.rec ∷ []) (e + 1) t a.seen b.seen n ∙ ap (λ z. on_output 0 (cond z (a.rec ∷ b.rec ∷ []) (b.rec ∷ []))) (one_more_is (e + 1) e refl) in
+        let o = outs_are of_master of_detail k Match (a.rec ∷ []) (b.rec ∷ []) (e + 1) t a.seen b.seen n ∙ ap (λ z. all_on 0 (cond z (a.rec ∷ b.rec ∷ []) (b.rec ∷ []))) (one_more_is (e + 1) e refl) in
         let y = after_detail s g unlimited W done of_master of_detail row_is pairs left e k x b (takes_is of_master of_detail k Match t (sees_some 1 k.sight b.rec [] b.seen)) (e + 1)
         (λ m is. let it : m ≡ a.rec = head_is m (sym is ∙ a.seen) in ap (λ z. count_of of_master of_detail (z ∷ []) (beside_master k.told)) it ∙ n) in
         let l : length (left 1) ≡ suc (length b.rest) = ap length b.list in
         let z = rest (pairs ++ (collating of_master of_detail).outs k) (with_list 1 b.rest left) (e + 1) y.0 y.1 (later_details b.rec (left 0) b.rest (subst (λ z. AreOrdered (left 0) z) b.list ordered)) (omega (arith, l, more)) in
-        put_behind pairs ((collating of_master of_detail).outs k) (on_output 0 (cond (e == 0) (a.rec ∷ b.rec ∷ []) (b.rec ∷ []))) (left_pairs of_master of_detail (e + 1 == 0) (left 0) b.rest) (left_pairs of_master of_detail (e == 0) (left 0) (left 1)) o
+        put_behind pairs ((collating of_master of_detail).outs k) (all_on 0 (cond (e == 0) (a.rec ∷ b.rec ∷ []) (b.rec ∷ []))) (left_pairs of_master of_detail (e + 1 == 0) (left 0) b.rest) (left_pairs of_master of_detail (e == 0) (left 0) (left 1)) o
         (λ q.
-        ap (λ z. records_from q (on_output 0 (cond (e == 0) (a.rec ∷ b.rec ∷ []) (b.rec ∷ [])) ++ left_pairs of_master of_detail z (left 0) b.rest)) (not_zero e)
-        ∙ ap (λ z. records_from q (on_output 0 (cond (e == 0) (a.rec ∷ b.rec ∷ []) (b.rec ∷ [])) ++ left_pairs of_master of_detail false z b.rest)) a.list
+        ap (λ z. records_from q (all_on 0 (cond (e == 0) (a.rec ∷ b.rec ∷ []) (b.rec ∷ [])) ++ left_pairs of_master of_detail z (left 0) b.rest)) (not_zero e)
+        ∙ ap (λ z. records_from q (all_on 0 (cond (e == 0) (a.rec ∷ b.rec ∷ []) (b.rec ∷ [])) ++ left_pairs of_master of_detail false z b.rest)) a.list
         ∙ match_round of_master of_detail (e == 0) a.rec b.rec a.rest b.rest fit none q
         ∙ ap (λ z. records_from q (left_pairs of_master of_detail (e == 0) z (b.rec ∷ b.rest))) (sym a.list) ∙ ap (λ z. records_from q (left_pairs of_master of_detail (e == 0) (left 0) z)) (sym b.list)
         ) z

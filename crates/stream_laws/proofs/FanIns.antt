@@ -9,7 +9,7 @@ use Rattle.pipe_model.specs.Row.{Pair, Known}
 use Rattle.pipe_model.specs.Shape.{Records, can_read, turn_plan}
 use Rattle.pipe_model.specs.FanRows.{fanning_in}
 use Rattle.pipe_model.specs.Inputs.{records_from, at_hand_causes}
-use Rattle.pipe_model.specs.JoiningRows.{on_output}
+use Rattle.pipe_model.specs.Counts.{all_on}
 use Rattle.pipe_model.specs.Table.{form}
 use Rattle.pipe_model.specs.Members.{has}
 use Rattle.pipe_model.specs.Alone.{Given, IsAllAlone}
@@ -25,7 +25,7 @@ hand_causes outs (p ∷ []) i rec = refl
 hand_causes outs (p ∷ q ∷ ps) i rec = hand_causes outs (q ∷ ps) i rec
 
 -- all records of an input are passed
-all_passed : (seen : List Pair) (i : ℕ) (rest : Records) → caused fanning_in seen i rest ≡ on_output 0 rest
+all_passed : (seen : List Pair) (i : ℕ) (rest : Records) → caused fanning_in seen i rest ≡ all_on 0 rest
 all_passed seen i [] = refl
 all_passed seen i (rec ∷ rest) =
     ap (λ z. z ++ caused fanning_in (seen ++ (i, rec) ∷ []) i rest) (hand_causes (λ i rec. (0, rec) ∷ []) seen i rec)
@@ -83,7 +83,7 @@ module _ (s : Strand) (g : Given) (unlimited : IsUnlimited g) (W : List Event) (
   abbrev IsUnread : ℕ → List Pair → Type 0
   IsUnread a seen = (j : ℕ) → a ≤ j → records_from j seen ≡ []
 
-  inputs_from : (m a : ℕ) → a + m ≡ n → (seen pairs : List Pair) → IsUnread a seen → At s g unlimited W done n fanning_in row_is seen (down a) pairs → Puts s W (pairs ++ on_output 0 (flat_map g.inputs (range_with_len a m)))
+  inputs_from : (m a : ℕ) → a + m ≡ n → (seen pairs : List Pair) → IsUnread a seen → At s g unlimited W done n fanning_in row_is seen (down a) pairs → Puts s W (pairs ++ all_on 0 (flat_map g.inputs (range_with_len a m)))
   inputs_from zero a sum seen pairs unread x =
       let it : a ≡ n = omega arith in
       puts_connected s g unlimited W done (pairs ++ []) seen (pos 0)
@@ -91,14 +91,14 @@ module _ (s : Strand) (g : Given) (unlimited : IsUnlimited g) (W : List Event) (
   inputs_from (suc m) a sum seen pairs unread x =
       let lt : a < n = omega arith in
       let y = read_all s g unlimited W done n fanning_in row_is a (down a) (λ seen. next_from n n 0 a (omega arith) (omega arith) lt) (g.inputs a) seen pairs (ap (λ z. z ++ g.inputs a) (sym (unread a (omega arith)))) x in
-      let z = subst (λ z. At s g unlimited W done n fanning_in row_is (seen ++ on_output a (g.inputs a)) (down (suc a)) (pairs ++ z)) (all_passed seen a (g.inputs a)) y in
-      let still : IsUnread (suc a) (seen ++ on_output a (g.inputs a)) =
-      λ j le. on_both j seen (on_output a (g.inputs a)) ∙ ap (λ z. z ++ records_from j (on_output a (g.inputs a))) (unread j (omega arith)) ∙ on_others a j (g.inputs a) (apart a j le) in
-      let w = inputs_from m (suc a) (omega (arith, sum)) (seen ++ on_output a (g.inputs a)) (pairs ++ on_output 0 (g.inputs a)) still z in
+      let z = subst (λ z. At s g unlimited W done n fanning_in row_is (seen ++ all_on a (g.inputs a)) (down (suc a)) (pairs ++ z)) (all_passed seen a (g.inputs a)) y in
+      let still : IsUnread (suc a) (seen ++ all_on a (g.inputs a)) =
+      λ j le. on_both j seen (all_on a (g.inputs a)) ∙ ap (λ z. z ++ records_from j (all_on a (g.inputs a))) (unread j (omega arith)) ∙ on_others a j (g.inputs a) (apart a j le) in
+      let w = inputs_from m (suc a) (omega (arith, sum)) (seen ++ all_on a (g.inputs a)) (pairs ++ all_on 0 (g.inputs a)) still z in
       subst (λ z. Puts s W z)
-      (append_assoc pairs (on_output 0 (g.inputs a)) (on_output 0 (flat_map g.inputs (range_with_len (suc a) m)))
+      (append_assoc pairs (all_on 0 (g.inputs a)) (all_on 0 (flat_map g.inputs (range_with_len (suc a) m)))
       ∙ ap (λ z. pairs ++ z) (sym (output_both 0 (g.inputs a) (flat_map g.inputs (range_with_len (suc a) m))))
-      ∙ ap (λ z. pairs ++ on_output 0 (g.inputs a ++ flat_map g.inputs (range_with_len z m))) plus) w
+      ∙ ap (λ z. pairs ++ all_on 0 (g.inputs a ++ flat_map g.inputs (range_with_len z m))) plus) w
     where
       apart : (a j : ℕ) → suc a ≤ j → (a == j) ≡ false
       apart a j le = grind (arith, nat_tests)

@@ -8,7 +8,8 @@ use Rattle.pipe_model.specs.Event.{Event}
 use Rattle.pipe_model.specs.Row.{Pair, Known}
 use Rattle.pipe_model.specs.Shape.{Records, turn_plan}
 use Rattle.pipe_model.specs.Inputs.{records_from}
-use Rattle.pipe_model.specs.JoiningRows.{on_output, agree, first_of_key, looked_up, unmatched, looking_up}
+use Rattle.pipe_model.specs.Counts.{all_on}
+use Rattle.pipe_model.specs.JoiningRows.{agree, first_of_key, looked_up, unmatched, looking_up}
 use Rattle.pipe_model.specs.Table.{form}
 use Rattle.pipe_model.specs.Alone.{Given, IsAllAlone}
 use Rattle.pipe_model.specs.Listed.{lookup_pairs, IsUnlimited, Puts}
@@ -54,18 +55,18 @@ module _ (s : Strand) (g : Given) (unlimited : IsUnlimited g) (W : List Event) (
       subst (λ z. Puts s W z) (
       ap (λ z. (z ++ caused (looking_up of_detail of_master) masters 0 (g.inputs 0)) ++ left (records_from 1 both) (records_from 0 both)) (no_pairs of_detail of_master [] (g.inputs 1))
       ∙ ap (λ z. z ++ left (records_from 1 both) (records_from 0 both)) (each_looked_up of_detail of_master (g.inputs 1) masters (on_its 1 (g.inputs 1)) (g.inputs 0))
-      ∙ ap (λ z. found ++ left z (records_from 0 both)) (on_both 1 masters (on_output 0 (g.inputs 0)) ∙ ap (λ z. records_from 1 masters ++ z) (on_others 0 1 (g.inputs 0) refl) ∙ append-nil (records_from 1 masters) ∙ on_its 1 (g.inputs 1))
-      ∙ ap (λ z. found ++ left (g.inputs 1) z) (on_both 0 masters (on_output 0 (g.inputs 0)) ∙ ap (λ z. z ++ records_from 0 (on_output 0 (g.inputs 0))) (on_others 1 0 (g.inputs 1) refl) ∙ on_its 0 (g.inputs 0))
+      ∙ ap (λ z. found ++ left z (records_from 0 both)) (on_both 1 masters (all_on 0 (g.inputs 0)) ∙ ap (λ z. records_from 1 masters ++ z) (on_others 0 1 (g.inputs 0) refl) ∙ append-nil (records_from 1 masters) ∙ on_its 1 (g.inputs 1))
+      ∙ ap (λ z. found ++ left (g.inputs 1) z) (on_both 0 masters (all_on 0 (g.inputs 0)) ∙ ap (λ z. z ++ records_from 0 (all_on 0 (g.inputs 0))) (on_others 1 0 (g.inputs 1) refl) ∙ on_its 0 (g.inputs 0))
       ) (puts_connected s g unlimited W done _ both (pos 0) d)
     where
       masters : List Pair
-      masters = on_output 1 (g.inputs 1)
+      masters = all_on 1 (g.inputs 1)
 
       both : List Pair
-      both = masters ++ on_output 0 (g.inputs 0)
+      both = masters ++ all_on 0 (g.inputs 0)
 
       found : List Pair
       found = flat_map (λ detail. looked_up detail (find (λ master. agree of_master of_detail master detail) (g.inputs 1))) (g.inputs 0)
 
       left : Records → Records → List Pair
-      left masters details = on_output 2 (unmatched of_master of_detail (first_of_key of_master masters) details)
+      left masters details = all_on 2 (unmatched of_master of_detail (first_of_key of_master masters) details)

@@ -14,7 +14,8 @@ use Rattle.pipe_model.specs.Shape.{Records, records_of, round_plan, all_inputs}
 use Rattle.pipe_model.specs.Ranges.{part_of}
 use Rattle.pipe_model.specs.Keys.{is_less, is_same}
 use Rattle.pipe_model.specs.Inputs.{records_from}
-use Rattle.pipe_model.specs.JoiningRows.{on_output, goes_first, merging}
+use Rattle.pipe_model.specs.Counts.{all_on}
+use Rattle.pipe_model.specs.JoiningRows.{goes_first, merging}
 use Rattle.pipe_model.specs.OrderRows.{sorted}
 use Rattle.pipe_model.specs.Table.{form}
 use Rattle.pipe_model.specs.Alone.{Given, IsAllAlone}
@@ -137,9 +138,9 @@ module _ (s : Strand) (g : Given) (unlimited : IsUnlimited g) (W : List Event) (
             never true = refl
             never false = refl
 
-    puts_it : (merging range).outs f.known ≡ on_output 0 (own.rec ∷ [])
+    puts_it : (merging range).outs f.known ≡ all_on 0 (own.rec ∷ [])
     unfolding i
-    puts_it = ap (λ z. on_output 0 (records_of z)) (pick_only range f.known.sight m own.rec own.seen) ∙ ap (λ z. (0, z) ∷ []) rec_is
+    puts_it = ap (λ z. all_on 0 (records_of z)) (pick_only range f.known.sight m own.rec own.seen) ∙ ap (λ z. (0, z) ∷ []) rec_is
 
     next : Stands (pairs ++ (merging range).outs f.known) (with_list i own.rest left)
     next = next_full s g unlimited W done n (merging range) refl row_is pairs left f i few own takes
@@ -230,13 +231,13 @@ module _ (s : Strand) (g : Given) (unlimited : IsUnlimited g) (W : List Event) (
   all_empty left (suc m) b none = ap (λ z. z ++ flat_map left (range_with_len (b + 1) m)) (none b (omega arith) (omega arith)) ∙ all_empty left m (b + 1) (λ j le lt. none j (omega arith) (omega arith))
 
   merge_from : (fuel : ℕ) (pairs : List Pair) (left : ℕ → Records) → Stands pairs left → ((j : ℕ) → j < n → are_sorted range (left j) ≡ true) → length (flat_map left (all_inputs n)) < fuel →
-      Puts s W (pairs ++ on_output 0 (sorted (ascending range ∷ []) (flat_map left (all_inputs n))))
+      Puts s W (pairs ++ all_on 0 (sorted (ascending range ∷ []) (flat_map left (all_inputs n))))
   merge_from zero pairs left f ordered more = absurd (omega arith)
   merge_from (suc fuel) pairs left f ordered more = by_sight f.known.sight refl (λ pairs left f ordered more. merge_from fuel pairs left f ordered more)
     where
       Rest : Type 0
       Rest = (pairs : List Pair) (left : ℕ → Records) → Stands pairs left → ((j : ℕ) → j < n → are_sorted range (left j) ≡ true) → length (flat_map left (all_inputs n)) < fuel →
-          Puts s W (pairs ++ on_output 0 (sorted (ascending range ∷ []) (flat_map left (all_inputs n))))
+          Puts s W (pairs ++ all_on 0 (sorted (ascending range ∷ []) (flat_map left (all_inputs n))))
 
       none_left : f.known.sight ≡ [] → flat_map left (all_inputs n) ≡ []
       none_left empty = all_empty left n 0 (λ j le lt. none j (f.shows j (omega arith)))
@@ -245,9 +246,9 @@ module _ (s : Strand) (g : Given) (unlimited : IsUnlimited g) (W : List Event) (
           none j (inl x) = x.all
           none j (inr x) = (let z : [] ≡ x.rec ∷ [] = sym (ap (records_from j) empty) ∙ x.seen in cc)
 
-      by_sight : (sight : List Pair) → f.known.sight ≡ sight → Rest → Puts s W (pairs ++ on_output 0 (sorted (ascending range ∷ []) (flat_map left (all_inputs n))))
+      by_sight : (sight : List Pair) → f.known.sight ≡ sight → Rest → Puts s W (pairs ++ all_on 0 (sorted (ascending range ∷ []) (flat_map left (all_inputs n))))
       by_sight [] empty rest =
-          subst (λ z. Puts s W (pairs ++ on_output 0 (sorted (ascending range ∷ []) z))) (sym (none_left empty))
+          subst (λ z. Puts s W (pairs ++ all_on 0 (sorted (ascending range ∷ []) z))) (sym (none_left empty))
           (subst (λ z. Puts s W z) (sym (append-nil pairs)) (puts_connected s g unlimited W done pairs f.place.taken (pos 0) (full_over s g unlimited W done n (merging range) refl row_is pairs left f empty)))
       by_sight (p ∷ ps) some rest =
           let m : Pick range f.known.sight = subst (Pick range) (sym some) (pick range p ps) in
@@ -256,9 +257,9 @@ module _ (s : Strand) (g : Given) (unlimited : IsUnlimited g) (W : List Event) (
           let less = one_less pairs left f ordered p ps some m in
           let y = rest (pairs ++ (merging range).outs f.known) (with_list i_is own_is.rest left) (next pairs left f ordered p ps some m) (still_ordered pairs left f ordered p ps some m) (omega (arith, less)) in
           subst (λ z. Puts s W z) (
-          append_assoc pairs ((merging range).outs f.known) (on_output 0 (sorted (ascending range ∷ []) (flat_map (with_list i_is own_is.rest left) (all_inputs n))))
-          ∙ ap (λ z. pairs ++ (z ++ on_output 0 (sorted (ascending range ∷ []) (flat_map (with_list i_is own_is.rest left) (all_inputs n))))) (puts_it pairs left f ordered p ps some m)
-          ∙ ap (λ z. pairs ++ on_output 0 z) (sym (sorted_is pairs left f ordered p ps some m))
+          append_assoc pairs ((merging range).outs f.known) (all_on 0 (sorted (ascending range ∷ []) (flat_map (with_list i_is own_is.rest left) (all_inputs n))))
+          ∙ ap (λ z. pairs ++ (z ++ all_on 0 (sorted (ascending range ∷ []) (flat_map (with_list i_is own_is.rest left) (all_inputs n))))) (puts_it pairs left f ordered p ps some m)
+          ∙ ap (λ z. pairs ++ all_on 0 z) (sym (sorted_is pairs left f ordered p ps some m))
           ) y
 
   pub merge_puts : (form s).row.early ≡ None → ((j : ℕ) → j < n → are_sorted range (g.inputs j) ≡ true) → Puts s W (merge_pairs range g.inputs n)

@@ -16,11 +16,11 @@ use Rattle.pipe_model.specs.Shape.Order.{WritesFirst, TakesFirst}
 use Rattle.pipe_model.specs.Form.{are_finite}
 use Rattle.pipe_model.specs.Table.{form}
 use Rattle.pipe_model.specs.Members.{flag_at}
-use Rattle.pipe_model.specs.Next.{is_live, begins_plan, learned, nothing_known}
+use Rattle.pipe_model.specs.Next.{is_live, begins_plan, known_after, nothing_known}
 use Rattle.pipe_model.specs.Next.Phase.{Doing}
 use Rattle.pipe_model.specs.Alone.{Given, IsAllAlone}
 use Rattle.pipe_model.specs.Inputs.{records_from}
-use Rattle.pipe_model.specs.JoiningRows.{on_output}
+use Rattle.pipe_model.specs.Counts.{all_on}
 use Rattle.pipe_model.specs.Listed.{pairs_at, pairs_after, pairs_of, taken_after, taken_of, code_after, ending_of, IsUnlimited, Does}
 use Rattle.confluence_laws.proofs.Within.{at_end, past_end}
 use Rattle.stream_laws.proofs.Streams.{on_both, records_all, output_both, last_on, last_is, connected}
@@ -62,11 +62,11 @@ module _ (s : Strand) (g : Given) (unlimited : IsUnlimited g) (W : List Event) (
   plan_is : (k : Known) → (form s).row.plan k ≡ list_plan order t k k.told
   plan_is k = ap (λ (p : Known → Plan). p k) row_is
 
-  reads : (recs rest : Records) (k : Known) (put taken : List Pair) → k.seen ≡ on_output 0 recs → g.inputs 0 ≡ records_from 0 taken ++ rest → Reaches s g unlimited W done k (Doing [] (Asks (Read 0))) put taken →
+  reads : (recs rest : Records) (k : Known) (put taken : List Pair) → k.seen ≡ all_on 0 recs → g.inputs 0 ≡ records_from 0 taken ++ rest → Reaches s g unlimited W done k (Doing [] (Asks (Read 0))) put taken →
       Gives put taken (pairs_after t recs rest) (taken_after t recs rest) (code_after t recs rest)
   reads recs [] k put taken seen list r =
       let hand : slice_get (g.inputs 0) (length (records_from 0 taken)) ≡ None = ap (λ z. slice_get z (length (records_from 0 taken))) (list ∙ append-nil (records_from 0 taken)) ∙ past_end (records_from 0 taken) in
-      let k' : Known = learned k (SawEnd 0) in
+      let k' : Known = known_after k (SawEnd 0) in
       let a = subst (λ (z : Plan). Reaches s g unlimited W done k' (begins_plan s.ports.has_output [] z) put taken) (plan_is k') (read_end s g unlimited W done k 0 put taken r hand) in
       let b = subst (λ z. Reaches s g unlimited W done k' (Doing (filter (is_live s.ports.has_output []) (writes (last_pairs t.last z))) (Ends (t.code z))) put taken) (ap records_of seen ∙ records_all 0 recs) a in
       let d = finish s g unlimited W done k' (t.code recs) (put ++ connected s.ports.has_output (last_pairs t.last recs)) taken (write_rest s g unlimited W done k' (last_pairs t.last recs) (Ends (t.code recs)) put taken b) in
@@ -81,16 +81,16 @@ module _ (s : Strand) (g : Given) (unlimited : IsUnlimited g) (W : List Event) (
       now = recs ++ rec ∷ []
 
       seen_it : Known
-      seen_it = learned k (Saw 0 rec)
+      seen_it = known_after k (Saw 0 rec)
 
-      now_seen : seen_it.seen ≡ on_output 0 now
+      now_seen : seen_it.seen ≡ all_on 0 now
       now_seen = ap (λ z. z ++ (0, rec) ∷ []) seen ∙ sym (output_both 0 recs (rec ∷ []))
 
       Rest : Type 0
-      Rest = (k' : Known) (put' taken' : List Pair) → k'.seen ≡ on_output 0 now → g.inputs 0 ≡ records_from 0 taken' ++ rest → Reaches s g unlimited W done k' (Doing [] (Asks (Read 0))) put' taken' →
+      Rest = (k' : Known) (put' taken' : List Pair) → k'.seen ≡ all_on 0 now → g.inputs 0 ≡ records_from 0 taken' ++ rest → Reaches s g unlimited W done k' (Doing [] (Asks (Read 0))) put' taken' →
           Gives put' taken' (pairs_after t now rest) (taken_after t now rest) (code_after t now rest)
 
-      by_stops : (b : Bool) (k' : Known) (put' taken' : List Pair) → k'.seen ≡ on_output 0 now → g.inputs 0 ≡ records_from 0 taken' ++ rest → Reaches s g unlimited W done k' (Doing [] (cond b (Ends (t.code now)) (Asks (Read 0)))) put' taken' → Rest →
+      by_stops : (b : Bool) (k' : Known) (put' taken' : List Pair) → k'.seen ≡ all_on 0 now → g.inputs 0 ≡ records_from 0 taken' ++ rest → Reaches s g unlimited W done k' (Doing [] (cond b (Ends (t.code now)) (Asks (Read 0)))) put' taken' → Rest →
           Gives put' taken' (cond b [] (pairs_after t now rest)) (cond b [] (taken_after t now rest)) (cond b (t.code now) (code_after t now rest))
       by_stops true k' put' taken' e l x go = gives_no_more k' (t.code now) put' taken' x
       by_stops false k' put' taken' e l x go = go k' put' taken' e l x

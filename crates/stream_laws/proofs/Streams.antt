@@ -6,7 +6,7 @@ use Rattle.pipe_model.specs.Row.{Pair}
 use Rattle.pipe_model.specs.Shape.{Records, at_hand_of, records_of}
 use Rattle.pipe_model.specs.Members.{flag_at}
 use Rattle.pipe_model.specs.Inputs.{records_from}
-use Rattle.pipe_model.specs.JoiningRows.{on_output}
+use Rattle.pipe_model.specs.Counts.{all_on}
 use Rattle.confluence_laws.proofs.Basics.{test_same, same_number}
 
 -- Streams
@@ -24,21 +24,21 @@ on_both k (p ∷ ps) qs = by_test (p.0 == k) (on_both k ps qs)
     by_test false e = e
 
 -- all records on one stream are on it
-pub on_its : (k : ℕ) (recs : Records) → records_from k (on_output k recs) ≡ recs
+pub on_its : (k : ℕ) (recs : Records) → records_from k (all_on k recs) ≡ recs
 on_its k [] = refl
-on_its k (rec ∷ recs) = ap (λ b. records_of (cond b ((k, rec) ∷ from k (on_output k recs)) (from k (on_output k recs)))) (test_same k) ∙ ap (λ z. rec ∷ z) (on_its k recs)
+on_its k (rec ∷ recs) = ap (λ b. records_of (cond b ((k, rec) ∷ from k (all_on k recs)) (from k (all_on k recs)))) (test_same k) ∙ ap (λ z. rec ∷ z) (on_its k recs)
 
 -- and on no other
-pub on_others : (k o : ℕ) (recs : Records) → (k == o) ≡ false → records_from o (on_output k recs) ≡ []
+pub on_others : (k o : ℕ) (recs : Records) → (k == o) ≡ false → records_from o (all_on k recs) ≡ []
 on_others k o [] apart = refl
-on_others k o (rec ∷ recs) apart = ap (λ b. records_of (cond b ((k, rec) ∷ from o (on_output k recs)) (from o (on_output k recs)))) apart ∙ on_others k o recs apart
+on_others k o (rec ∷ recs) apart = ap (λ b. records_of (cond b ((k, rec) ∷ from o (all_on k recs)) (from o (all_on k recs)))) apart ∙ on_others k o recs apart
 
 -- they are the records
-pub records_all : (k : ℕ) (recs : Records) → records_of (on_output k recs) ≡ recs
+pub records_all : (k : ℕ) (recs : Records) → records_of (all_on k recs) ≡ recs
 records_all k [] = refl
 records_all k (rec ∷ recs) = ap (λ z. rec ∷ z) (records_all k recs)
 
-pub output_both : (k : ℕ) (recs more : Records) → on_output k (recs ++ more) ≡ on_output k recs ++ on_output k more
+pub output_both : (k : ℕ) (recs more : Records) → all_on k (recs ++ more) ≡ all_on k recs ++ all_on k more
 output_both k recs more = map-append (λ rec. (k, rec)) recs more
 
 -- the record at hand is the last

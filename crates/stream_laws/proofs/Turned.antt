@@ -12,10 +12,10 @@ use Rattle.pipe_model.specs.Row.Act.{Takes}
 use Rattle.pipe_model.specs.Row.Goal.{Asks, Ends}
 use Rattle.pipe_model.specs.Shape.{Records, Turning, writes, records_of, can_read, read_next, turn_after, turn_plan}
 use Rattle.pipe_model.specs.Inputs.{records_from}
-use Rattle.pipe_model.specs.JoiningRows.{on_output}
+use Rattle.pipe_model.specs.Counts.{all_on}
 use Rattle.pipe_model.specs.Table.{form}
 use Rattle.pipe_model.specs.Members.{flag_at}
-use Rattle.pipe_model.specs.Next.{is_live, begins_plan, learned, nothing_known}
+use Rattle.pipe_model.specs.Next.{is_live, begins_plan, known_after, nothing_known}
 use Rattle.pipe_model.specs.Next.Phase.{Doing}
 use Rattle.pipe_model.specs.Alone.{Given, IsAllAlone}
 use Rattle.pipe_model.specs.Listed.{IsUnlimited}
@@ -73,7 +73,7 @@ module _ (s : Strand) (g : Given) (unlimited : IsUnlimited g) (W : List Event) (
     pub turn_saw : (rec : List ℕ) (rest : Records) → g.inputs i ≡ records_from i seen ++ rec ∷ rest → At seen ends pairs → At (seen ++ (i, rec) ∷ []) ends (pairs ++ t.outs (seen ++ (i, rec) ∷ []))
     turn_saw rec rest list (k, x) =
         let hand : slice_get (g.inputs i) (length (records_from i seen)) ≡ Some rec = ap (λ z. slice_get z (length (records_from i seen))) list ∙ at_end (records_from i seen) rec rest in
-        let k' : Known = learned k (Saw i rec) in
+        let k' : Known = known_after k (Saw i rec) in
         let now : k'.seen ≡ seen ++ (i, rec) ∷ [] = ap (λ z. z ++ (i, rec) ∷ []) x.saw in
         let a = subst (λ (z : Plan). Reaches s g unlimited W done k' (begins_plan s.ports.has_output [] z) (connected s.ports.has_output pairs) seen) (plan_is k') (read_one s g unlimited W done k i rec (connected s.ports.has_output pairs) seen (asks_it k x) hand) in
         let b = acts_done k' i (t.outs k'.seen) (t.last k'.seen) (find (can_read n k'.ends) (t.order n k'.seen)) (connected s.ports.has_output pairs) seen a in (
@@ -92,7 +92,7 @@ module _ (s : Strand) (g : Given) (unlimited : IsUnlimited g) (W : List Event) (
     pub turn_end : g.inputs i ≡ records_from i seen → At seen ends pairs → At seen (i ∷ ends) pairs
     turn_end list (k, x) =
         let hand : slice_get (g.inputs i) (length (records_from i seen)) ≡ None = ap (λ z. slice_get z (length (records_from i seen))) list ∙ past_end (records_from i seen) in
-        let k' : Known = learned k (SawEnd i) in (
+        let k' : Known = known_after k (SawEnd i) in (
           k',
           record {
             saw = x.saw;
@@ -113,7 +113,7 @@ module _ (s : Strand) (g : Given) (unlimited : IsUnlimited g) (W : List Event) (
 
   -- an input that it reads to its end
   pub read_all : (i : ℕ) (ends : List ℕ) → ((seen : List Pair) → find (can_read n ends) (t.order n seen) ≡ Some i) → (rest : Records) (seen pairs : List Pair) → g.inputs i ≡ records_from i seen ++ rest → At seen ends pairs →
-      At (seen ++ on_output i rest) (i ∷ ends) (pairs ++ caused t seen i rest)
+      At (seen ++ all_on i rest) (i ∷ ends) (pairs ++ caused t seen i rest)
   read_all i ends next_is [] seen pairs list x =
       subst (λ z. At z (i ∷ ends) (pairs ++ [])) (sym (append-nil seen)) (subst (λ z. At seen (i ∷ ends) z) (sym (append-nil pairs)) (turn_end seen ends pairs i (next_is seen) (list ∙ append-nil (records_from i seen)) x))
   read_all i ends next_is (rec ∷ rest) seen pairs list x =
@@ -121,5 +121,5 @@ module _ (s : Strand) (g : Given) (unlimited : IsUnlimited g) (W : List Event) (
       let a = turn_saw seen ends pairs i (next_is seen) rec rest list x in
       let it : records_from i (seen ++ (i, rec) ∷ []) ≡ records_from i seen ++ rec ∷ [] = on_both i seen ((i, rec) ∷ []) ∙ ap (λ b. records_from i seen ++ records_of (cond b ((i, rec) ∷ []) [])) (test_same i) in
       let b = read_all i ends next_is rest (seen ++ (i, rec) ∷ []) (pairs ++ outs) (list ∙ sym (ap (λ z. z ++ rest) it ∙ append_assoc (records_from i seen) (rec ∷ []) rest)) a in
-      subst (λ z. At z (i ∷ ends) (pairs ++ (outs ++ caused t (seen ++ (i, rec) ∷ []) i rest))) (append_assoc seen ((i, rec) ∷ []) (on_output i rest))
-      (subst (λ z. At ((seen ++ (i, rec) ∷ []) ++ on_output i rest) (i ∷ ends) z) (append_assoc pairs outs (caused t (seen ++ (i, rec) ∷ []) i rest)) b)
+      subst (λ z. At z (i ∷ ends) (pairs ++ (outs ++ caused t (seen ++ (i, rec) ∷ []) i rest))) (append_assoc seen ((i, rec) ∷ []) (all_on i rest))
+      (subst (λ z. At ((seen ++ (i, rec) ∷ []) ++ all_on i rest) (i ∷ ends) z) (append_assoc pairs outs (caused t (seen ++ (i, rec) ∷ []) i rest)) b)
