@@ -1,11 +1,9 @@
 -- What follows from a stage's shape.
-use Rattle.std.specs.Prelude.{ℕ, Bool, true, false, ◌&&◌, not, if◌then◌else◌, List, [], ◌∷◌, is_none, length}
-use Rattle.std.specs.declared.option.Option.{Option}
-use Rattle.pipe_model.specs.declared.net.Strand.{Strand}
-use Rattle.pipe_model.specs.Row.{Pair, Row}
-use Rattle.pipe_model.specs.Shape.{Outs, Stream, Width, Keeping, Shape, reads_of}
+use Rattle.std.specs.Prelude.{ℕ, Bool, true, false, ◌&&◌, if◌then◌else◌, List, [], ◌∷◌, is_none}
+use Rattle.pipe_model.specs.Row.{Pair}
+use Rattle.pipe_model.specs.Shape.{Outs, Width, Keeping, Shape}
 use Rattle.pipe_model.specs.Shape.Outs.{Pairs, Endless}
-use Rattle.pipe_model.specs.Shape.Order.{WritesFirst, TakesFirst}
+use Rattle.pipe_model.specs.Shape.Order.{WritesFirst}
 use Rattle.pipe_model.specs.Shape.Width.{Two, All}
 use Rattle.pipe_model.specs.Shape.Keeping.{Nothing}
 use Rattle.pipe_model.specs.Shape.Shape.{Absent, Sources, Lists, Sinks, Firsts, Turns, Rounds, Gates, Dams, Queues}

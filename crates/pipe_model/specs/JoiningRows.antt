@@ -1,5 +1,5 @@
 -- The rows of LOOKUP, COLLATE and MERGE.
-use Rattle.std.specs.Prelude.{ℕ, ◌==◌, nat_lt, Bool, false, ◌&&◌, ◌||◌, not, if◌then◌else◌, List, [], ◌∷◌, ◌++◌, length, map, filter, find}
+use Rattle.std.specs.Prelude.{ℕ, ◌==◌, nat_lt, Bool, false, ◌&&◌, ◌||◌, not, if◌then◌else◌, List, [], ◌∷◌, ◌++◌, length, filter, find}
 use Rattle.std.specs.List.{list_any, list_all}
 use Rattle.std.specs.declared.option.Option.{Option}
 use Rattle.std.specs.declared.option.Option.TheVariants.{Some, None}
@@ -8,7 +8,7 @@ use Rattle.pipe_model.specs.Event.{Event}
 use Rattle.pipe_model.specs.Event.Event.{Saw, SawEnd}
 use Rattle.pipe_model.specs.Ranges.{part_of}
 use Rattle.pipe_model.specs.Keys.{is_less, is_same}
-use Rattle.pipe_model.specs.Row.{Pair, Known}
+use Rattle.pipe_model.specs.Row.{Pair}
 use Rattle.pipe_model.specs.Shape.{Records, Turning, Rounding, records_of}
 use Rattle.pipe_model.specs.Counts.{all_on}
 use Rattle.pipe_model.specs.Inputs.{records_from, at_hand_causes}
