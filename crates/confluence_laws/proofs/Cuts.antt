@@ -1,32 +1,29 @@
 -- What a strand that follows wants to write its whole history puts next, and one that was cut off ends.
-use Rattle.std.proofs.Common.{◌≡◌, ◌⊎◌, inl, inr, ℤ, ℕ, Bool, true, false, cond, ◌&&◌, ◌||◌, not, ◌==◌, List, [], ◌∷◌, ◌++◌, refl, sym, ◌∙◌, ap, subst, Option, Some, None, slice_get, pos}
+use Rattle.std.proofs.Common.{◌≡◌, inl, inr, ℕ, true, false, cond, not, List, [], ◌∷◌, refl, sym, ◌∙◌, ap, subst, Some, None, pos}
 use Rattle.std.specs.Prelude.{filter}
 use Rattle.pipe_model.specs.declared.net.Strand.{Strand}
-use Rattle.pipe_model.specs.Event.{Event, Want, one_more, puts_on, records_on, tooks_on, has_ended, has_seen, is_took, answers}
-use Rattle.pipe_model.specs.Event.Event.{Saw, Put, Refused, Ended}
-use Rattle.pipe_model.specs.Event.Want.{Commit, Read, Any, Gate, Take, Write, Prime, Issue, Join, Sever, Done}
-use Rattle.pipe_model.specs.Row.{Act, Goal, Known}
+use Rattle.pipe_model.specs.Event.{Event, puts_on, has_ended, has_seen, answers}
+use Rattle.pipe_model.specs.Event.Event.{Saw, Put, Ended}
+use Rattle.pipe_model.specs.Event.Want.{Take, Write, Done}
+use Rattle.pipe_model.specs.Row.{Act, Goal}
 use Rattle.pipe_model.specs.Row.Act.{Writes, Repeats, Takes}
 use Rattle.pipe_model.specs.Row.Goal.{Asks, Ends}
 use Rattle.pipe_model.specs.Table.{form}
-use Rattle.pipe_model.specs.Next.{Phase, Past, is_live, is_refused, doing, after, nothing_known, first_phase, past_by, want_in, next, IsOwn}
+use Rattle.pipe_model.specs.Next.{Phase, Past, is_live, after, past_by, want_in, next, IsOwn}
 use Rattle.pipe_model.specs.Members.{has, flag_at}
 use Rattle.pipe_model.specs.Next.Phase.{Starting, Doing, Lost}
-use Rattle.pipe_model.specs.Licence.{Sight, answer}
-use Rattle.pipe_model.specs.Alone.{Given, taken_by, takes_more, IsAllAlone}
-use mathlib.Core.Path.{fun_ext}
-use Rattle.confluence_laws.proofs.Basics.{both, not_so, and_false, test_same, test_apart, equal_or_not}
-use Rattle.confluence_laws.proofs.Facts.{IsFiniteLook, IsFiniteRow, NoRepeats, asked_by}
-use Rattle.confluence_laws.proofs.Fitting.{PhaseFits, own_fits, past_of, still_wants}
-use Rattle.confluence_laws.proofs.Pending.{IsBare, Matches, mk, filter_twice, live_before, IsAlike, bare_after, goal_after, take_after, goal_alike}
-use Rattle.confluence_laws.proofs.Within.{Within, from_start, grows, IsShown, IsSimple, IsPrimed, same_answer, write_told, alone_put}
-use Rattle.confluence_laws.proofs.Within.Within.{all}
-use Rattle.confluence_laws.proofs.Asked.{IsPlainStrand, finite_row, wants_in, asked_simple}
+use Rattle.pipe_model.specs.Alone.{Given, takes_more, IsAllAlone}
+use Rattle.confluence_laws.proofs.Basics.{both, not_so}
+use Rattle.confluence_laws.proofs.Facts.{IsFiniteLook, NoRepeats, asked_by}
+use Rattle.confluence_laws.proofs.Fitting.{PhaseFits, own_fits, still_wants}
+use Rattle.confluence_laws.proofs.Pending.{IsBare, mk}
+use Rattle.confluence_laws.proofs.Within.{Within, grows, alone_put}
+use Rattle.confluence_laws.proofs.Asked.{IsPlainStrand, finite_row, wants_in}
 use Rattle.confluence_laws.proofs.Follow.{FirstLive, Follows, IsCutOff, caught_up}
 
 module _ (s : Strand) (plain : IsPlainStrand s) (g : Given) (unlimited : (o : ℕ) → g.limits o ≡ None) (W : List Event) (done : IsAllAlone s g W) where
   -- who was cut off ends, and has no other event
-  pub stays_cut : (h : List Event) (e : Event) → answers (next s h) e ≡ true → (IsCutOff s plain g unlimited W done) h → (IsCutOff s plain g unlimited W done) (e ∷ h)
+  pub stays_cut : (h : List Event) (e : Event) → answers (next s h) e ≡ true → IsCutOff s plain g unlimited W done h → IsCutOff s plain g unlimited W done (e ∷ h)
   stays_cut h e fits x = record {
     other = x.other;
     within = x.within;
@@ -60,14 +57,14 @@ module _ (s : Strand) (plain : IsPlainStrand s) (g : Given) (unlimited : (o : �
       unseen _ p = refl
 
   -- what it wants to write, the whole history puts next
-  pub next_put : (h : List Event) (o : ℕ) (rec : List ℕ) → IsOwn s h → has_ended h ≡ false → (Follows s plain g unlimited W done) h → next s h ≡ Some (Write o rec) →
-      (y : (Follows s plain g unlimited W done) h) × Within W (Put o rec ∷ y.other) × (has y.refused o ≡ false) × (flag_at s.ports.has_output o ≡ true)
+  pub next_put : (h : List Event) (o : ℕ) (rec : List ℕ) → IsOwn s h → has_ended h ≡ false → Follows s plain g unlimited W done h → next s h ≡ Some (Write o rec) →
+      (y : Follows s plain g unlimited W done h) × Within W (Put o rec ∷ y.other) × (has y.refused o ≡ false) × (flag_at s.ports.has_output o ≡ true)
   next_put h o rec own going x want = elim x.matches [
     | inl bare ↦ absurd (bare_writes x.now bare.0 (wants_at x x.now refl))
-    | inr m ↦ (let c = (caught_up s plain g unlimited W done) h going x m.0 m.1 m.2 m.3 m.4 in by_acts c.0 c.1 m.1 c.2 c.3 c.4 c.5)
+    | inr m ↦ (let c = caught_up s plain g unlimited W done h going x m.0 m.1 m.2 m.3 m.4 in by_acts c.0 c.1 m.1 c.2 c.3 c.4 c.5)
   ]
     where
-      wants_at : (y : (Follows s plain g unlimited W done) h) (f : Phase) → y.now ≡ f → want_in f ≡ Some (Write o rec)
+      wants_at : (y : Follows s plain g unlimited W done h) (f : Phase) → y.now ≡ f → want_in f ≡ Some (Write o rec)
       wants_at y f a = sym (wants_in s h (mk y.known y.refused f) going (y.past ∙ ap (mk y.known y.refused) a)) ∙ want
 
       bare_writes : (f : Phase) → IsBare f → want_in f ≡ Some (Write o rec) → ⊥
@@ -75,15 +72,15 @@ module _ (s : Strand) (plain : IsPlainStrand s) (g : Given) (unlimited : (o : �
       bare_writes (Doing acts goal) bare p = absurd bare
       bare_writes Lost bare p = cc
 
-      no_goal : (y : (Follows s plain g unlimited W done) h) (goal : Goal) → y.now ≡ Doing [] goal → ⊥
+      no_goal : (y : Follows s plain g unlimited W done h) (goal : Goal) → y.now ≡ Doing [] goal → ⊥
       no_goal y (Ends code) a = (let z : Some (Done code) ≡ Some (Write o rec) = wants_at y (Doing [] (Ends code)) a in cc)
       no_goal y (Asks asked) a =
           let fits : PhaseFits (asked_by s) y.known (Doing [] (Asks asked)) = subst (λ p. PhaseFits (asked_by s) p.known p.phase) (y.past ∙ ap (mk y.known y.refused) a) (own_fits s h own) in
           let is : asked ≡ Write o rec = (let z = wants_at y (Doing [] (Asks asked)) a in cc) in
           subst (IsFiniteLook y.known) is ((finite_row s plain).looks y.known asked fits)
 
-      by_acts : (y : (Follows s plain g unlimited W done) h) (rest : List Act) (goal : Goal) → NoRepeats rest → FirstLive s.ports.has_output y.refused rest → y.now ≡ Doing (filter (is_live s.ports.has_output y.refused) rest) goal → y.now_other ≡ Doing rest goal →
-          (y : (Follows s plain g unlimited W done) h) × Within W (Put o rec ∷ y.other) × (has y.refused o ≡ false) × (flag_at s.ports.has_output o ≡ true)
+      by_acts : (y : Follows s plain g unlimited W done h) (rest : List Act) (goal : Goal) → NoRepeats rest → FirstLive s.ports.has_output y.refused rest → y.now ≡ Doing (filter (is_live s.ports.has_output y.refused) rest) goal → y.now_other ≡ Doing rest goal →
+          (y : Follows s plain g unlimited W done h) × Within W (Put o rec ∷ y.other) × (has y.refused o ≡ false) × (flag_at s.ports.has_output o ≡ true)
       by_acts y [] goal none first a b = absurd (no_goal y goal a)
       by_acts y (Takes i ∷ acts) goal none first a b = (let z : Some (Take i) ≡ Some (Write o rec) = wants_at y (Doing (Takes i ∷ filter (is_live s.ports.has_output y.refused) acts) goal) a in cc)
       by_acts y (Repeats p r ∷ acts) goal none first a b = absurd none

@@ -1,28 +1,78 @@
--- How many records are in sight on an input.
-use Rattle.std.proofs.Common.{◌≡◌, ◌≢◌, inl, inr, ℤ, ℕ, zero, suc, ◌+◌, ◌≤◌, ◌<◌, Bool, true, false, cond, ◌&&◌, ◌||◌, ◌==◌, List, [], ◌∷◌, ◌++◌, length, refl, sym, ◌∙◌, ap, subst, arith, Option, Some, None, slice_get, pos, negsuc}
-use Rattle.std.specs.Prelude.{filter}
-use Rattle.pipe_model.specs.declared.net.Strand.{Strand}
-use Rattle.pipe_model.specs.Event.{Event, Want, one_more, puts_on, tooks_on, has_ended, answers}
-use Rattle.pipe_model.specs.Event.Event.{Up, Saw, SawEnd, SawAllEnd, Took, Put, Refused, Primed, Ended}
-use Rattle.pipe_model.specs.Event.Want.{Commit, Read, Any, Gate, Take, Write, Prime, Issue, Join, Sever, Done}
-use Rattle.pipe_model.specs.Row.{Pair, Act, Goal, Known}
-use Rattle.pipe_model.specs.Row.Act.{Writes, Repeats, Takes}
-use Rattle.pipe_model.specs.Row.Goal.{Asks, Ends}
-use Rattle.pipe_model.specs.Table.{form}
-use Rattle.pipe_model.specs.Next.{Phase, Past, is_live, is_refused, doing, known_after, nothing_known, first_phase, past_by, after, want_in, after_answer}
-use Rattle.pipe_model.specs.Members.{has}
-use Rattle.pipe_model.specs.Row.{sees, without}
-use Rattle.pipe_model.specs.Next.Phase.{Starting, Doing, Lost}
-use Rattle.pipe_model.specs.Tags.{Counts}
-use Rattle.pipe_model.specs.Alone.{Given, taken_by, takes_more, look_alone, saw_alone, any_alone, alone_event, IsAlone, IsAllAlone}
-use Rattle.confluence_laws.proofs.Basics.{test_same, test_apart, equal_or_not, same_number, at_place}
-use Rattle.confluence_laws.proofs.Facts.{Fits, IsLook, IsFiniteLook, IsFiniteRow, NoRepeats, IsSoundLine, asked_by, reach_of, has_all, any_reach, taken}
-use Rattle.confluence_laws.proofs.Sound.{sound_line}
-use Rattle.confluence_laws.proofs.Within.{alone_put, alone_refused}
-use Rattle.confluence_laws.proofs.Sums.{over, over_same, over_more, over_within}
-use Rattle.confluence_laws.proofs.Fitting.{IsOnce}
-use Rattle.confluence_laws.proofs.Asked.{IsPlainStrand, finite_row}
-use Rattle.confluence_laws.proofs.Heard.{heard_plain}
+-- What is in sight on the inputs, and how many records of each.
+use Rattle.std.proofs.Common.{◌≡◌, ◌≢◌, ℕ, suc, ◌≤◌, Bool, true, false, cond, ◌&&◌, ◌||◌, not, ◌==◌, List, [], ◌∷◌, ◌++◌, refl, sym, ◌∙◌, ap, subst, arith}
+use Rattle.std.proofs.lemmas.Bool.Decides.{nat_tests}
+use Rattle.pipe_model.specs.Event.{one_more}
+use Rattle.pipe_model.specs.Row.{Pair, sees, without}
+use Rattle.confluence_laws.proofs.Basics.{test_apart, same_number}
+
+-- each input has one record in sight at most
+abbrev pub IsOnce : List Pair → Type 0
+IsOnce [] = Unit {0}
+IsOnce (p ∷ ps) = (sees p.0 ps ≡ false) × IsOnce ps
+
+-- a record more in sight
+pub sees_more : (i : ℕ) (sight : List Pair) (j : ℕ) (rec : List ℕ) → sees i (sight ++ (j, rec) ∷ []) ≡ ((j == i) || sees i sight)
+sees_more i [] j rec = refl
+sees_more i (p ∷ ps) j rec = ap (λ b. (p.0 == i) || b) (sees_more i ps j rec) ∙ swap (p.0 == i) (j == i) (sees i ps)
+  where
+    swap : (a b c : Bool) → (a || (b || c)) ≡ (b || (a || c))
+    swap true true c = refl
+    swap true false c = refl
+    swap false true c = refl
+    swap false false c = refl
+
+-- a record on an input that had none in sight leaves each input one at most
+pub once_more : (sight : List Pair) (j : ℕ) (rec : List ℕ) → IsOnce sight → sees j sight ≡ false → IsOnce (sight ++ (j, rec) ∷ [])
+once_more [] j rec once unseen = (refl, tt)
+once_more (p ∷ ps) j rec once unseen =
+    let parts = neither (p.0 == j) (sees j ps) unseen in
+    (sees_more p.0 ps j rec ∙ ap (λ b. b || sees p.0 ps) (other p.0 j parts.0) ∙ once.0, once_more ps j rec once.1 parts.1)
+  where
+    neither : (a b : Bool) → (a || b) ≡ false → (a ≡ false) × (b ≡ false)
+    neither true b e = cc
+    neither false b e = (refl, e)
+
+    other : (a b : ℕ) → (a == b) ≡ false → (b == a) ≡ false
+    other a b e = grind (arith, nat_tests)
+
+-- what is in sight after a record was taken
+pub sees_without : (i j : ℕ) (sight : List Pair) → IsOnce sight → sees i (without j sight) ≡ (not (j == i) && sees i sight)
+sees_without i j [] once = (elim (j == i) as (λ b. false ≡ (not b && false)) [ true ↦ refl | false ↦ refl ])
+sees_without i j (p ∷ ps) once = (elim (p.0 == j) as (λ b. (p.0 == j) ≡ b → sees i (cond b ps (p ∷ without j ps)) ≡ (not (j == i) && ((p.0 == i) || sees i ps))) [
+  | true ↦ λ is. (
+      let same : p.0 ≡ j = same_number p.0 j is in
+      let gone : sees j ps ≡ false = subst (λ z. sees z ps ≡ false) same once.0 in
+      taken_one gone (ap (λ z. z == i) same)
+      )
+  | false ↦ λ is. kept (sees_without i j ps once.1) is
+]) refl
+  where
+    taken_one : sees j ps ≡ false → (p.0 == i) ≡ (j == i) → sees i ps ≡ (not (j == i) && ((p.0 == i) || sees i ps))
+    taken_one gone same = (elim (j == i) as (λ b. (j == i) ≡ b → (p.0 == i) ≡ b → sees i ps ≡ (not b && ((p.0 == i) || sees i ps))) [
+      | true ↦ λ is q. subst (λ z. sees z ps ≡ false) (same_number j i is) gone
+      | false ↦ λ is q. ap (λ b. b || sees i ps) (sym q)
+    ]) refl same
+
+    kept : sees i (without j ps) ≡ (not (j == i) && sees i ps) → (p.0 == j) ≡ false → ((p.0 == i) || sees i (without j ps)) ≡ (not (j == i) && ((p.0 == i) || sees i ps))
+    kept rest apart = (elim (p.0 == i) as (λ b. (p.0 == i) ≡ b → (b || sees i (without j ps)) ≡ (not (j == i) && (b || sees i ps))) [
+      | true ↦ λ is. ap (λ b. not b && true) (sym (unlike is))
+      | false ↦ λ is. rest
+    ]) refl
+      where
+        unlike : (p.0 == i) ≡ true → (j == i) ≡ false
+        unlike is = grind (arith, nat_tests)
+
+-- and so does taking one
+pub once_without : (j : ℕ) (sight : List Pair) → IsOnce sight → IsOnce (without j sight)
+once_without j [] once = tt
+once_without j (p ∷ ps) once = elim (p.0 == j) as (λ b. IsOnce (cond b ps (p ∷ without j ps))) [
+  | true ↦ once.1
+  | false ↦ (sees_without p.0 j ps once.1 ∙ ap (λ b. not (j == p.0) && b) once.0 ∙ none (not (j == p.0)), once_without j ps once.1)
+]
+  where
+    none : (b : Bool) → (b && false) ≡ false
+    none true = refl
+    none false = refl
 
 -- how many records are in sight on an input
 abbrev pub count_on : ℕ → List Pair → ℕ

@@ -1,39 +1,31 @@
 -- How far the strands on the ways to a strand have come, against what the first pass says of a record at hand and of one that comes later.
-use Rattle.std.proofs.Common.{◌≡◌, inl, ℕ, zero, suc, ◌≤◌, ◌<◌, Bool, true, false, cond, ◌&&◌, ◌||◌, not, ◌==◌, List, [], ◌∷◌, length, refl, sym, ◌∙◌, ap, subst, arith, Option, Some, None, slice_get, is_some, is_none}
-use Rattle.std.specs.Prelude.{nat_lt}
-use Rattle.std.proofs.lemmas.Bool.Decides.{nat_tests}
+use Rattle.std.proofs.Common.{◌≡◌, ℕ, zero, suc, ◌≤◌, ◌<◌, Bool, true, false, ◌&&◌, ◌||◌, ◌==◌, List, [], ◌∷◌, length, refl, sym, ◌∙◌, ap, subst, arith, Some, None, slice_get, is_some, is_none}
 use Rattle.pipe_model.specs.declared.net.Net.{Net}
 use Rattle.pipe_model.specs.declared.net.Link.{Link}
 use Rattle.pipe_model.specs.declared.net.Strand.{Strand}
-use Rattle.pipe_model.specs.Event.{Event, one_more, puts_on, tooks_on, records_on, has_ended}
+use Rattle.pipe_model.specs.Event.{Event, puts_on, tooks_on, records_on, has_ended}
 use Rattle.pipe_model.specs.Event.Event.{Put}
-use Rattle.pipe_model.specs.Event.Want.{Any, Write}
+use Rattle.pipe_model.specs.Event.Want.{Write}
 use Rattle.pipe_model.specs.Table.{form}
-use Rattle.pipe_model.specs.Form.{Meeting}
-use Rattle.pipe_model.specs.Form.Meeting.{Ordered, Braided, Loose}
 use Rattle.pipe_model.specs.Next.{next}
 use Rattle.pipe_model.specs.State.{State, Who, past, same, nothing_yet, strand_at, link_in, link_out}
-use Rattle.pipe_model.specs.Licence.{none_left, want_after, want_at, puts, tooks, at_hand, is_over, all_over, sight_of}
+use Rattle.pipe_model.specs.Licence.{none_left, want_after, want_at, puts, tooks}
 use Rattle.pipe_model.specs.WellFormed.{IsWellFormed}
-use Rattle.pipe_model.specs.Settled.{is_thin, walk, joins_at, first_link, fork, is_braided, meets, meets_at, is_settled}
+use Rattle.pipe_model.specs.Settled.{is_thin, walk, joins_at, first_link, fork, is_braided}
 use Rattle.pipe_model.specs.Plain.{IsPlain}
-use Rattle.pipe_model.specs.Tags.{Pick, or_none, written, before_put, tag_of, tag_on, next_on, comes_before, least, input_of, first_tagged}
-use Rattle.pipe_model.specs.Alone.{Given, taken_by, list_on, whole, lists_of, tag_orders, IsFirstPass, IsTaggedPass}
+use Rattle.pipe_model.specs.Tags.{written, before_put}
+use Rattle.pipe_model.specs.Alone.{Given, list_on, whole, lists_of, tag_orders, IsFirstPass, IsTaggedPass}
 use Rattle.confluence_laws.proofs.Asked.{plain_strand}
-use Rattle.confluence_laws.proofs.Basics.{cond_some, both, the_event, same_number, test_same, not_ended, found_at, all_at, at_place, in_below, from_in, more_tooks, more_puts, less_is, less_not, less_too, put_asked}
-use Rattle.confluence_laws.proofs.Facts.{Allows}
+use Rattle.confluence_laws.proofs.Basics.{both, the_event, same_number, not_ended, found_at, at_place, from_in, more_tooks, put_asked}
 use Rattle.confluence_laws.proofs.Sound.{sound_line}
-use Rattle.confluence_laws.proofs.Fitting.{past_of, stands_for}
-use Rattle.confluence_laws.proofs.Owns.{thin_writes, thin_never_any}
+use Rattle.confluence_laws.proofs.Owns.{thin_writes}
 use Rattle.confluence_laws.proofs.Braids.{plain_link, writes_there}
-use Rattle.confluence_laws.proofs.Reached.{IsWriting, seen_there}
-use Rattle.confluence_laws.proofs.Walks.{first_there, on_the_walk}
-use Rattle.confluence_laws.proofs.Total.{link_there}
-use Rattle.confluence_laws.proofs.Within.{Within, alone_within, is_all, count_is, IsPicked}
+use Rattle.confluence_laws.proofs.Reached.{IsWriting}
+use Rattle.confluence_laws.proofs.Walks.{first_there}
+use Rattle.confluence_laws.proofs.Within.{Within, alone_within, is_all, count_is}
 use Rattle.confluence_laws.proofs.Cuts.{next_put}
-use Rattle.confluence_laws.proofs.Ways.{HasNoEarly, IsOnTheWay, IsFollowing, following, so_far, over_whole}
+use Rattle.confluence_laws.proofs.Ways.{HasNoEarly, IsOnTheWay, IsFollowing, following, so_far}
 use Rattle.confluence_laws.proofs.Befores.{grown, more_written, before_it, found_put, put_there, alone_own, sight_listed}
-use Rattle.confluence_laws.proofs.Paths.{IsFirst, compare, climb, least_is, least_none}
 
 -- Where the ways part
 

@@ -1,25 +1,13 @@
 -- Of two neighbours on a straight line: how records and ends go from the one to the other.
-use Rattle.std.proofs.Common.{◌≡◌, ◌≢◌, ◌⊎◌, inl, inr, ℕ, zero, suc, ◌≤◌, ◌<◌, Bool, true, false, cond, ◌&&◌, ◌==◌, List, [], ◌∷◌, ◌++◌, length, refl, sym, ◌∙◌, ap, subst, arith, Option, Some, None, ℤ, pos}
-use Rattle.std.specs.Prelude.{nat_lt}
-use Rattle.std.proofs.lemmas.Bool.Decides.{nat_tests}
-use Rattle.std.proofs.lemmas.Option.{slice_get_within}
-use Rattle.std.specs.List.{list_all}
-use Rattle.pipe_model.specs.declared.net.Net.{Net}
+use Rattle.std.proofs.Common.{◌≡◌, ◌≢◌, ◌⊎◌, inl, inr, ℕ, suc, ◌<◌, Bool, true, false, cond, ◌==◌, List, [], ◌∷◌, ◌++◌, length, refl, sym, ◌∙◌, ap, subst, arith, Some}
 use Rattle.pipe_model.specs.declared.net.Strand.{Strand}
-use Rattle.pipe_model.specs.declared.step.Entry.{Entry}
-use Rattle.pipe_model.specs.Code.{worst_of}
-use Rattle.pipe_model.specs.Event.{Event, one_more, puts_on, tooks_on, records_on, taken_from, last_seen_on, has_ended, has_reached, code_of}
+use Rattle.pipe_model.specs.Event.{Event, one_more, tooks_on, records_on, taken_from, last_seen_on}
 use Rattle.pipe_model.specs.Event.Event.{Took, Refused}
-use Rattle.pipe_model.specs.State.{State, Who, past, same, below, members, with_event, with_some_event, nothing_yet, strand_at, link_out}
-use Rattle.pipe_model.specs.Licence.{Sight, sight_of, answer, licence, none_left, want_after, want_at, offered, at_hand, is_over, is_level, may_put, may_refuse, worst_early, level_of, stands_at}
-use Rattle.pipe_model.specs.Play.{step, play, play_from, IsLegal, IsLegalFrom}
-use Rattle.pipe_model.specs.WellFormed.{IsWellFormed}
-use Rattle.pipe_model.specs.Straight.{IsStraightNet, next_link}
-use Rattle.confluence_laws.proofs.Basics.{cond_some, both, the_event, same_number, test_same, test_apart, equal_or_not, at_same, at_other, at_some}
-use Rattle.confluence_laws.proofs.Within.{count_is}
-use Rattle.confluence_laws.proofs.StraightRows.{Role, role_at, test_at, size, link_on, link_to, last_link, does_at}
+use Rattle.pipe_model.specs.State.{same}
+use Rattle.pipe_model.specs.Licence.{Sight, offered}
+use Rattle.confluence_laws.proofs.StraightRows.{Role}
 use Rattle.confluence_laws.proofs.StraightRows.Role.{Selects}
-use Rattle.confluence_laws.proofs.Modes.{Mode, Stands, Told, then_in, has_passed, want_of, is_over as is_over_mode, stands_first, wants_there, told_by, stands_on}
+use Rattle.confluence_laws.proofs.Modes.{Mode, Stands, Told, then_in, has_passed, want_of, is_over as is_over_mode}
 use Rattle.confluence_laws.proofs.Modes.Mode.{Begins, Commits, Reads, Offers, Holds, Stops, Over}
 
 -- Two neighbours

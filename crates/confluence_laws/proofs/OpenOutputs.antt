@@ -1,27 +1,8 @@
 -- How many outputs have not refused.
-use Rattle.std.proofs.Common.{◌≡◌, ◌≢◌, ◌⊎◌, inl, inr, ℕ, zero, suc, ◌+◌, ◌*◌, ◌≤◌, ◌<◌, Bool, true, false, cond, ◌&&◌, ◌||◌, not, ◌==◌, List, [], ◌∷◌, ◌++◌, length, refl, sym, ◌∙◌, ap, subst, arith, Some, None, pos, negsuc}
-use Rattle.std.specs.List.{list_all}
-use Rattle.std.specs.Ordering.{int_eq}
-use Rattle.pipe_model.specs.declared.net.Strand.{Strand}
-use Rattle.pipe_model.specs.Event.{Event, Want, one_more, answers, is_took, tooks_on}
-use Rattle.pipe_model.specs.Event.Event.{Up, Saw, SawEnd, SawAllEnd, Took, Put, Refused, Primed, Ended}
-use Rattle.pipe_model.specs.Event.Want.{Commit, Read, Any, Gate, Take, Write, Prime, Issue, Join, Sever, Done}
-use Rattle.pipe_model.specs.Row.{Pair, Act, Goal, Known}
-use Rattle.pipe_model.specs.Row.Act.{Writes, Repeats, Takes}
-use Rattle.pipe_model.specs.Row.Goal.{Asks, Ends}
-use Rattle.pipe_model.specs.Table.{form}
-use Rattle.pipe_model.specs.Next.{Phase, Past, IsOwn, is_live, is_open, is_refused, doing, begins_plan, known_after, nothing_known, first_phase, after, want_in, after_answer}
+use Rattle.std.proofs.Common.{◌≡◌, ◌≢◌, ℕ, zero, suc, ◌+◌, ◌≤◌, Bool, true, false, ◌&&◌, ◌||◌, not, ◌==◌, List, [], ◌∷◌, length, subst, arith}
+use Rattle.pipe_model.specs.Event.{one_more}
 use Rattle.pipe_model.specs.Members.{has, flag_at}
-use Rattle.pipe_model.specs.Row.{sees, without}
-use Rattle.pipe_model.specs.Next.Phase.{Starting, Doing, Lost}
-use Rattle.confluence_laws.proofs.Basics.{both, and_false, same_number, test_same, test_apart, equal_or_not}
-use Rattle.confluence_laws.proofs.Facts.{IsLook, IsFiniteLook, asked_by, reach_of, any_reach, has_all}
-use Rattle.confluence_laws.proofs.Sound.{sound_line}
-use Rattle.confluence_laws.proofs.Asked.{IsPlainStrand, finite_row}
-use Rattle.confluence_laws.proofs.Fitting.{PhaseFits, PhaseLives, past_of, still_wants, own_fits, own_knows, own_lives, IsOnce}
-use Rattle.confluence_laws.proofs.Sums.{over, over_same, over_more}
-use Rattle.confluence_laws.proofs.InSight.{count_on, count_none, count_saw, count_took, count_other}
-use Rattle.confluence_laws.proofs.Heard.{heard_plain}
+use Rattle.confluence_laws.proofs.Basics.{test_same, test_apart}
 
 -- how many outputs have not refused
 abbrev pub open_from : ℕ → List Bool → List ℕ → ℕ

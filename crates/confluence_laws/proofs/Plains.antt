@@ -1,35 +1,19 @@
 -- The second pass and the plain reading of a plain net exist, and there is one.
-use Rattle.std.proofs.Common.{◌≡◌, inl, inr, ℕ, zero, suc, ◌+◌, ◌-◌, ◌<◌, ◌≤◌, Bool, true, false, cond, ◌&&◌, ◌==◌, List, [], ◌∷◌, length, refl, sym, ◌∙◌, ap, subst, arith, Option, Some, None, slice_get, is_some, not}
+use Rattle.std.proofs.Common.{◌≡◌, ℕ, zero, suc, ◌+◌, ◌<◌, Bool, true, false, cond, List, [], length, refl, sym, ◌∙◌, ap, subst, arith, Option, Some, None}
 use Rattle.std.specs.Bool.{MatchBool}
 use Rattle.std.specs.List.{list_any}
 use mathlib.Core.Path.{fun_ext}
 use Rattle.pipe_model.specs.declared.net.Net.{Net}
 use Rattle.pipe_model.specs.declared.net.Link.{Link}
 use Rattle.pipe_model.specs.declared.net.Strand.{Strand}
-use Rattle.pipe_model.specs.Event.{Event, Want, records_on, tooks_on, puts_on}
-use Rattle.pipe_model.specs.Table.{form, line_of}
-use Rattle.pipe_model.specs.Form.{parting_by}
-use Rattle.pipe_model.specs.Form.{Parting}
-use Rattle.pipe_model.specs.Form.Parting.{Whole, Queued, Streamed}
-use Rattle.pipe_model.specs.Next.{next}
-use Rattle.pipe_model.specs.Members.{flag_at}
-use Rattle.pipe_model.specs.State.{State, Who, past, same, nothing_yet, strand_at, link_in, link_out}
-use Rattle.pipe_model.specs.Licence.{first_part, part_down}
-use Rattle.pipe_model.specs.WellFormed.{IsWellFormed, IsOfStage, strands_of}
-use Rattle.pipe_model.specs.Alone.{Given, list_on, inputs_of, primes, limit_of, whole, cut, lists_of, tag_orders, alone_event, IsAlone, IsAllAlone, IsTaggedPass, IsSecondPass, is_early, worst_of_early, barred_history, IsBarred, IsPlainReading}
-use Rattle.pipe_model.specs.Plain.{IsPlain, is_primed_later, waits_for_first}
-use Rattle.pipe_model.specs.Settled.{fork}
-use Rattle.pipe_model.specs.Tags.{Tag, Pick, Counts, or_none, before_put, written, tag_on, tag_of, next_on, comes_before, lesser, least, input_of}
-use Rattle.std.specs.Prelude.{nat_lt}
-use Rattle.std.proofs.lemmas.Bool.Decides.{nat_tests}
-use Rattle.confluence_laws.proofs.Asked.{plain_strand}
-use Rattle.confluence_laws.proofs.Basics.{cond_some, both, same_number, equal_or_not, found_at, from_in, from_out, test_apart, at_some, at_place, less_is, not_less, flag_place}
-use Rattle.confluence_laws.proofs.Within.{Within, from_start, grows, alone_within, count_is}
-use Rattle.confluence_laws.proofs.Within.Within.{all, earlier}
-use Rattle.confluence_laws.proofs.Ends.{IsFair, comes_to_end}
-use Rattle.confluence_laws.proofs.Total.{link_there}
-use Rattle.confluence_laws.proofs.Paths.{least_from}
-use Rattle.confluence_laws.proofs.Passes.{rises_out, consumer, fair, ran, ran_done, same_given, first_pass, one_first, one_whole, mk_given, below_top, top, rounds}
+use Rattle.pipe_model.specs.Event.{Event, tooks_on}
+use Rattle.pipe_model.specs.Table.{form}
+use Rattle.pipe_model.specs.State.{State, Who, past, nothing_yet, strand_at, link_out}
+use Rattle.pipe_model.specs.WellFormed.{IsWellFormed}
+use Rattle.pipe_model.specs.Alone.{Given, inputs_of, primes, limit_of, cut, lists_of, tag_orders, IsAllAlone, IsTaggedPass, IsSecondPass, is_early, worst_of_early, barred_history, IsBarred, IsPlainReading}
+use Rattle.pipe_model.specs.Plain.{IsPlain}
+use Rattle.confluence_laws.proofs.Basics.{at_some, at_place}
+use Rattle.confluence_laws.proofs.Passes.{rises_out, consumer, fair, ran, ran_done, same_given, first_pass, one_first, one_whole, mk_given, below_top, rounds}
 
 module _ (net : Net) (formed : IsWellFormed net) (plain : IsPlain net) where
   -- what the consumers take of each output
@@ -42,7 +26,7 @@ module _ (net : Net) (formed : IsWellFormed net) (plain : IsPlain net) where
     where
       by_link : (o : ℕ) (lk : Option Link) → link_out net nothing_yet s o ≡ lk → limit_of a lk ≡ limit_of b lk
       by_link o None is = refl
-      by_link o (Some l) is = let q = (consumer net formed plain) s o l is in ap (λ h. cond l.queue None (Some (tooks_on l.input h))) (each o l q.0 is q.1)
+      by_link o (Some l) is = let q = consumer net formed plain s o l is in ap (λ h. cond l.queue None (Some (tooks_on l.input h))) (each o l q.0 is q.1)
 
   -- what a strand is given there
   abbrev cut_given : State → State → Who → Given
@@ -52,16 +36,16 @@ module _ (net : Net) (formed : IsWellFormed net) (plain : IsPlain net) where
     -- what each strand does after so many rounds
     abbrev back : ℕ → State
     back zero s = []
-    back (suc n) s = (ran net formed plain) s (strand_at net nothing_yet s) refl (cut_given first (back n) s) ((fair net formed plain) first (limits_of (back n) s) s)
+    back (suc n) s = ran net formed plain s (strand_at net nothing_yet s) refl (cut_given first (back n) s) (fair net formed plain first (limits_of (back n) s) s)
 
     back_alone : (n : ℕ) (s : Who) (p : Strand) → strand_at net nothing_yet s ≡ Some p → IsAllAlone p (cut_given first (back n) s) (back (suc n) s)
-    back_alone n s p here = (ran_done net formed plain) s (strand_at net nothing_yet s) refl (cut_given first (back n) s) ((fair net formed plain) first (limits_of (back n) s) s) p here
+    back_alone n s p here = ran_done net formed plain s (strand_at net nothing_yet s) refl (cut_given first (back n) s) (fair net formed plain first (limits_of (back n) s) s) p here
 
     -- a strand does the same again after more rounds than there are ranks above it
-    settles_back : (n s : ℕ) (p : Strand) → strand_at net nothing_yet s ≡ Some p → (rounds net formed plain) < n + plain.acyclic.rank s → back (suc n) s ≡ back n s
+    settles_back : (n s : ℕ) (p : Strand) → strand_at net nothing_yet s ≡ Some p → rounds net formed plain < n + plain.acyclic.rank s → back (suc n) s ≡ back n s
     settles_back zero s p here lt = let r = below_top plain.acyclic.rank (length net.strands) s (at_place net.strands s here) in absurd (omega (arith, lt, r))
     settles_back (suc n) s p here lt =
-        let e = same_limits (back (suc n)) (back n) s (λ o l q is there. let r = (rises_out net formed plain) s o l is in settles_back n l.to q there (omega (arith, lt, r))) in
+        let e = same_limits (back (suc n)) (back n) s (λ o l q is there. let r = rises_out net formed plain s o l is in settles_back n l.to q there (omega (arith, lt, r))) in
         let g = ap (λ z. mk_given (inputs_of net (lists_of first) s) (tag_orders net first s) (primes net (lists_of first) s) z) e in
         one_whole p (cut_given first (back n) s) (back (suc n) s) (back_alone n s p here) (back (suc (suc n)) s) (subst (λ z. IsAllAlone p z (back (suc (suc n)) s)) g (back_alone (suc n) s p here))
 
@@ -92,11 +76,11 @@ module _ (net : Net) (formed : IsWellFormed net) (plain : IsPlain net) where
   module _ (a b : State) where
     -- two second passes are the same, from the last strands on
     same_from : (first first' : State) → IsTaggedPass net first → IsTaggedPass net first' → IsSecondPass net (tag_orders net first) (lists_of first) a → IsSecondPass net (tag_orders net first') (lists_of first') b →
-        (n s : ℕ) (p : Strand) → (rounds net formed plain) < n + plain.acyclic.rank s → strand_at net nothing_yet s ≡ Some p → past a s ≡ past b s
+        (n s : ℕ) (p : Strand) → rounds net formed plain < n + plain.acyclic.rank s → strand_at net nothing_yet s ≡ Some p → past a s ≡ past b s
     same_from first first' x y u v zero s p lt here = let r = below_top plain.acyclic.rank (length net.strands) s (at_place net.strands s here) in absurd (omega (arith, lt, r))
     same_from first first' x y u v (suc n) s p lt here =
-        let limits = same_limits b a s (λ o l q is there. let r = (rises_out net formed plain) s o l is in sym (same_from first first' x y u v n l.to q (omega (arith, lt, r)) there)) in
-        let g = (same_given net formed plain) first' first s p here (λ t q there less. (one_first net formed plain) first' first y x t q there) (limits_of b s) in
+        let limits = same_limits b a s (λ o l q is there. let r = rises_out net formed plain s o l is in sym (same_from first first' x y u v n l.to q (omega (arith, lt, r)) there)) in
+        let g = same_given net formed plain first' first s p here (λ t q there less. one_first net formed plain first' first y x t q there) (limits_of b s) in
         let h = ap (λ z. mk_given (inputs_of net (lists_of first) s) (tag_orders net first s) (primes net (lists_of first) s) z) limits in
         sym (one_whole p (cut_given first a s) (past a s) (u s p here) (past b s) (subst (λ z. IsAllAlone p z (past b s)) (g ∙ h) (v s p here)))
 

@@ -1,30 +1,20 @@
 -- What holds of all histories of a legal dispatch: they are the strands' own, and a record in sight on a rendezvous waits to be put.
-use Rattle.std.proofs.Common.{◌≡◌, ◌≢◌, ◌⊎◌, inl, inr, ℕ, ◌<◌, ◌+◌, ◌-◌, Bool, true, false, cond, ◌&&◌, not, ◌==◌, List, [], ◌∷◌, refl, sym, ◌∙◌, ap, subst, arith, Option, Some, None, slice_get}
+use Rattle.std.proofs.Common.{◌≡◌, ◌⊎◌, inl, inr, ℕ, Bool, true, false, cond, ◌&&◌, not, ◌==◌, List, [], ◌∷◌, refl, sym, ◌∙◌, ap, subst, Option, Some, None, slice_get}
 use Rattle.pipe_model.specs.declared.net.Net.{Net}
 use Rattle.pipe_model.specs.declared.net.Link.{Link}
 use Rattle.pipe_model.specs.declared.net.Strand.{Strand}
 use Rattle.pipe_model.specs.declared.step.Entry.{Entry}
 use Rattle.pipe_model.specs.Event.{Event, Want, puts_on, tooks_on, records_on, is_took, one_more, has_ended, in_sight, answers}
-use Rattle.pipe_model.specs.Event.Event.{Saw, SawAllEnd, Took, Severed, Ended}
-use Rattle.pipe_model.specs.Event.Want.{Commit, Read, Any, Gate, Take, Write, Prime, Issue, Join, Sever, Done}
-use Rattle.pipe_model.specs.Table.{form, line_of}
-use Rattle.pipe_model.specs.Form.{parting_by}
-use Rattle.pipe_model.specs.Form.{Meeting}
-use Rattle.pipe_model.specs.Form.Meeting.{Ordered, Braided, Loose}
-use Rattle.pipe_model.specs.Form.Parting.{Queued}
-use Rattle.pipe_model.specs.Next.{next, IsOwn}
-use Rattle.pipe_model.specs.State.{State, Who, past, same, nothing_yet, with_event, with_some_event, strand_at, link_in, link_out, issued_unit}
-use Rattle.pipe_model.specs.Licence.{none_left, want_after, want_at, tooks, is_level, offered, shown, at_hand, is_over, may_put, may_refuse, up_answer, read_answer, any_answer, write_answer, primed_answer, joined_answer, joined_by, all_over, answer, licence, level_of, first_part, primed_by, sight_of}
+use Rattle.pipe_model.specs.Event.Event.{Saw, Took}
+use Rattle.pipe_model.specs.Event.Want.{Read, Any, Gate}
+use Rattle.pipe_model.specs.Next.{IsOwn}
+use Rattle.pipe_model.specs.State.{State, Who, past, nothing_yet, with_event, with_some_event, strand_at, link_in, link_out}
+use Rattle.pipe_model.specs.Licence.{none_left, want_after, want_at, tooks, is_level, offered, shown, at_hand, is_over, read_answer, any_answer, all_over, answer, licence, sight_of}
 use Rattle.pipe_model.specs.Play.{step, IsLicensed, play_from, IsLegalFrom, play, IsLegal}
-use Rattle.pipe_model.specs.WellFormed.{IsWellFormed, strands_of}
-use Rattle.pipe_model.specs.Settled.{is_thin, OnWalk, IsBraided, IsSettled, Meets}
-use Rattle.pipe_model.specs.Settled.OnWalk.{comes_from, passes}
-use Rattle.confluence_laws.proofs.Basics.{cond_some, both, the_event, same_number, equal_or_not, at_same, at_other, found_at, not_ended, from_in}
-use Rattle.confluence_laws.proofs.Facts.{Allows}
-use Rattle.confluence_laws.proofs.Sound.{sound_line}
-use Rattle.confluence_laws.proofs.Fitting.{past_of, stands_for}
-use Rattle.confluence_laws.proofs.Later.{over_there, not_writer, same_want, actor_goes_on}
-use Rattle.confluence_laws.proofs.Owns.{answers_it, saw_asked, sight_before, thin_never_any, thin_writes}
+use Rattle.pipe_model.specs.WellFormed.{IsWellFormed}
+use Rattle.confluence_laws.proofs.Basics.{cond_some, the_event, equal_or_not, at_same, at_other, from_in}
+use Rattle.confluence_laws.proofs.Later.{not_writer, same_want, actor_goes_on}
+use Rattle.confluence_laws.proofs.Owns.{answers_it, saw_asked, sight_before}
 
 -- a writer waits on the link, and what it wrote before was taken
 pub record IsWriting (net : Net) (st : State) (l : Link) : Type 0 where

@@ -1,14 +1,11 @@
 -- How far a strand went through the commit levels, by its history.
-use Rattle.std.proofs.Common.{◌≡◌, ◌≢◌, ◌⊎◌, inl, inr, ℕ, zero, suc, ◌<◌, Bool, true, false, cond, ◌&&◌, ◌||◌, ◌==◌, List, [], ◌∷◌, length, take, refl, sym, ◌∙◌, ap, subst, arith, Option, Some, None, slice_get, ℤ, pos, negsuc}
+use Rattle.std.proofs.Common.{◌≡◌, ◌≢◌, ◌⊎◌, inl, inr, ℕ, zero, suc, Bool, true, false, cond, ◌&&◌, ◌||◌, List, [], ◌∷◌, refl, sym, ◌∙◌, ap, subst, arith, Option, Some, None, ℤ, pos, negsuc}
 use Rattle.std.specs.Prelude.{filter, int_lt}
 use Rattle.std.specs.Int.{int_min, int_max}
-use Rattle.std.specs.List.{list_all}
 use Rattle.std.specs.Ordering.{int_eq}
 use Rattle.std.proofs.lemmas.Bool.Decides.{Decides-int_eq}
 use Rattle.std.proofs.lemmas.Int.{ints, int_min_is, int_max_is}
-use Rattle.pipe_model.specs.declared.net.Net.{Net}
 use Rattle.pipe_model.specs.declared.net.Strand.{Strand}
-use Rattle.pipe_model.specs.declared.step.Entry.{Entry}
 use Rattle.pipe_model.specs.Code.{worst_of}
 use Rattle.pipe_model.specs.Event.{Event, Want, answers, has_ended, has_reached, has_up, moves}
 use Rattle.pipe_model.specs.Event.Event.{Up, Saw, Took, Put, Refused, Ended}
@@ -19,17 +16,9 @@ use Rattle.pipe_model.specs.Row.Goal.{Asks, Ends}
 use Rattle.pipe_model.specs.Table.{form}
 use Rattle.pipe_model.specs.Next.{Phase, Past, after, want_in, next, known_after, first_phase, is_live, is_refused, begins_plan, doing, IsOwn, refused_after, gives_up, after_answer}
 use Rattle.pipe_model.specs.Next.Phase.{Starting, Doing, Lost}
-use Rattle.pipe_model.specs.State.{State, Who, past, below, nothing_yet, members, strand_at, with_event, with_some_event}
-use Rattle.pipe_model.specs.Licence.{none_left, want_after, want_at, commits_to, stands_at, early_code, worst_early, level_of, up_answer, answer, licence, sight_of}
-use Rattle.pipe_model.specs.Play.{step, play_from, IsLegalFrom, play, IsLegal}
-use Rattle.pipe_model.specs.WellFormed.{IsWellFormed}
-use Rattle.pipe_model.specs.Committed.{IsCommitted, IsMove, event_of, event_at}
-use Rattle.confluence_laws.proofs.Basics.{cond_some, both, or_second, the_event, equal_or_not, at_same, at_other, at_some, in_below}
-use Rattle.confluence_laws.proofs.Sound.{sound_line}
+use Rattle.confluence_laws.proofs.Basics.{or_second}
 use Rattle.confluence_laws.proofs.Fitting.{past_of, still_wants, stands_for}
-use Rattle.confluence_laws.proofs.Later.{up_is, level_stays, reach_stays}
-use Rattle.confluence_laws.proofs.Owns.{answers_it, commit_asked}
-use Rattle.confluence_laws.proofs.Reached.{IsReached, play_reached}
+use Rattle.confluence_laws.proofs.Later.{reach_stays}
 
 -- Codes
 
