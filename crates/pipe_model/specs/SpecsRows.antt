@@ -72,12 +72,12 @@ effect (Set k op amount) d = option_map (λ z. record d { counters = set d.count
 abbrev pub run : List Item → Desk → Option Desk
 run items d = fold (λ desk item. option_and_then (effect item) desk) (Some d) items
 
--- a field stands behind the last WRITE, or where there is none at all, behind the place where the output was empty
+-- a field stands behind the last WRITE, or anywhere where there is none; `before` says it of the items before these
 abbrev pub has_unwritten : Bool → List Item → Bool
-has_unwritten so_far [] = so_far
-has_unwritten so_far (Field origin strip convert spot align ∷ items) = has_unwritten true items
-has_unwritten so_far (Write ∷ items) = has_unwritten false items
-has_unwritten so_far (item ∷ items) = has_unwritten so_far items
+has_unwritten before [] = before
+has_unwritten before (Field origin strip convert spot align ∷ items) = has_unwritten true items
+has_unwritten before (Write ∷ items) = has_unwritten false items
+has_unwritten before (item ∷ items) = has_unwritten before items
 
 -- Cycles
 
@@ -88,7 +88,7 @@ at_first = record { counters = replicate 10 (pos 0); number = 0; hand = []; comi
 abbrev pub begun : Desk → Records → Desk
 begun d recs = record { counters = d.counters; number = suc d.number; hand = first_of_all recs; coming = drop 1 recs; output = []; pad = 32; written = [] }
 
--- at the list's end the output is written, where it holds a field
+-- at the list's end the output is written, where a field was put into it behind the last WRITE
 abbrev pub closed : List Item → Desk → Desk
 closed items d = if has_unwritten false items then record d { written = d.written ++ d.output ∷ [] } else d
 
