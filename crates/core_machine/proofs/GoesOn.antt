@@ -1,5 +1,5 @@
 -- A strand that is told an event goes on in place: its turn and its coming home in one.
-use Rattle.std.proofs.Common.{◌≡◌, ℕ, zero, suc, ◌<◌, Bool, true, false, cond, ◌||◌, not, List, [], ◌∷◌, ◌++◌, length, refl, sym, ◌∙◌, ap, subst, Option, Some, None, slice_get, slice_set}
+use Rattle.std.proofs.Common.{◌≡◌, ℕ, zero, suc, ◌<◌, true, false, cond, ◌||◌, not, List, [], ◌∷◌, ◌++◌, length, refl, sym, ◌∙◌, ap, subst, Option, Some, None, slice_get, slice_set}
 use Rattle.std.specs.Prelude.{take}
 use Rattle.pipe_model.specs.declared.net.Net.{Net}
 use Rattle.pipe_model.specs.declared.net.Strand.{Strand}
@@ -18,7 +18,7 @@ use Rattle.run_desk.specs.Moves.{made, pool_moved, sight_through, CanCome, bare,
 use Rattle.run_desk.specs.Pure as Pure
 use Rattle.run_desk.proofs.Lists.{get_set_same}
 use Rattle.connectors.specs.WireState.{IsHeldIn}
-use Rattle.confluence_laws.proofs.Basics.{test_same, at_some}
+use Rattle.confluence_laws.proofs.Basics.{test_same}
 use Rattle.core_machine.specs.declared.actor.Actor.{Actor}
 use Rattle.core_machine.specs.Actors.{is_end, gone_out, gone_on, given_up, asking_for, bytes_told}
 use Rattle.core_machine.specs.Jobs.{JobStands, DoneStands}
@@ -27,8 +27,7 @@ use Rattle.core_machine.specs.Members.{Members}
 use Rattle.core_machine.specs.Sound.{IsSound}
 use Rattle.core_machine.specs.Woken.{IsCovering, AsksEarly, HasReturned}
 use Rattle.core_machine.proofs.Jobs.{can_run, done_take}
-use Rattle.core_machine.proofs.Plays.{looks_of, looks_here}
-use Rattle.core_machine.proofs.Sounds.{sight_held, told_are, can_home, ended_is, came, came_early, sound_home, in_range, turned_past, goes_on, sound_turned, job_turned, job_event}
+use Rattle.core_machine.proofs.Sounds.{sight_held, told_are, can_home, ended_is, came, came_early, sound_home, turned_past, goes_on, sound_turned, job_turned, job_event}
 
 -- what is set twice is set once
 pub set_set : {A : Type 0} (xs : List A) (i : ℕ) (x y : A) → slice_set (slice_set xs i x) i y ≡ slice_set xs i y
@@ -58,8 +57,8 @@ end_told (Opened k) h going = going
 end_told (Joined k c) h going = going
 end_told (Severed s) h going = going
 
-module _ {S : Type 0} (stands : S → Strand → List Event → Type 0) (is_looking : S → Bool) (net : Net) (budget : ℕ) (journal : List Entry) (out : List ℕ) (actors : List (Actor S)) (d : DeskState) (places : List (Option Held)) (ready : Members)
-    (sound : IsSound stands is_looking net budget journal out actors d places ready)
+module _ {S : Type 0} (stands : S → Strand → List Event → Type 0) (net : Net) (budget : ℕ) (journal : List Entry) (out : List ℕ) (actors : List (Actor S)) (d : DeskState) (places : List (Option Held)) (ready : Members)
+    (sound : IsSound stands net budget journal out actors d places ready)
     (s : Who) (k : ℕ) (e : Event) (may : licence net (play net journal) (left_by journal out) s k ≡ Some e)
     (a : Actor S) (stage : S) (there : slice_get actors s ≡ Some a) (was : a.stage ≡ Some stage) (seen : Seen) (seen_at : told e ≡ seen)
     (space : length journal < budget) (d' : DeskState) (places' : List (Option Held)) (ready' : Members)
@@ -72,35 +71,29 @@ module _ {S : Type 0} (stands : S → Strand → List Event → Type 0) (is_look
 
   -- After the turn
 
-  was_out : IsSound stands is_looking net budget longer (out ++ here ∷ []) (slice_set actors s (gone_out seen a)) d' places' ready'
-  was_out = sound_turned stands is_looking net budget journal out actors d places ready sound s k e may a stage there was seen seen_at (gone_out seen a) refl refl refl space d' places' ready' desk_is pool_is size covers
+  was_out : IsSound stands net budget longer (out ++ here ∷ []) (slice_set actors s (gone_out seen a)) d' places' ready'
+  was_out = sound_turned stands net budget journal out actors d places ready sound s k e may a stage there was seen seen_at (gone_out seen a) refl refl refl space d' places' ready' desk_is pool_is size covers
 
   pub sights : (i : ℕ) → IsHeldIn places' (sight_through d'.sights (Pure.in_door d' s i))
-  sights i = sight_held stands is_looking net budget longer (out ++ here ∷ []) (slice_set actors s (gone_out seen a)) d' places' ready' was_out s i
-
-  looks_so : looks_at (looks_of actors) s ≡ is_looking stage
-  looks_so =
-      let p = at_some net.strands s (in_range stands is_looking net budget journal out actors d places ready sound s k e may) in
-      looks_here actors s a there ∙ sym ((sound.strands.each s p.0 a p.1 there).looks stage was)
+  sights i = sight_held stands net budget longer (out ++ here ∷ []) (slice_set actors s (gone_out seen a)) d' places' ready' was_out s i
 
   -- the bytes at hand are those of the event
-  pub right_bytes : bytes_with (is_looking stage) e ≡ bytes_told (looks_at (looks_of actors) s) d' places' s seen
+  pub right_bytes : bytes_with (looks_at net s) e ≡ bytes_told (looks_at net s) d' places' s seen
   right_bytes =
-      sym (told_are stands is_looking net budget longer (out ++ here ∷ []) (slice_set actors s (gone_out seen a)) d' places' ready' was_out (looks_at (looks_of actors) s) s e (past (play net journal) s) seen
-      (turned_past stands is_looking net budget journal out actors d places ready sound s k e may) (goes_on stands is_looking net budget journal out actors d places ready sound s k e may) seen_at
-      ∙ ap (λ b. bytes_with b e) looks_so)
+      sym (told_are stands net budget longer (out ++ here ∷ []) (slice_set actors s (gone_out seen a)) d' places' ready' was_out (looks_at net s) s e (past (play net journal) s) seen
+      (turned_past stands net budget journal out actors d places ready sound s k e may) (goes_on stands net budget journal out actors d places ready sound s k e may) seen_at)
 
-  abbrev job : (b : Actor S) → b.stage ≡ None → b.looks ≡ a.looks → b.saw_end ≡ (a.saw_end || is_end seen) → JobStands stands is_looking net (looks_of (slice_set actors s b)) longer s here seen stage
-  job b b_out b_looks b_end = job_turned stands is_looking net budget journal out actors d places ready sound s k e may a stage there was seen seen_at b b_out b_looks b_end space d' places' ready' desk_is pool_is size covers
+  abbrev job : (b : Actor S) → b.stage ≡ None → b.looks ≡ a.looks → b.saw_end ≡ (a.saw_end || is_end seen) → JobStands stands net longer s here seen stage
+  job b b_out b_looks b_end = job_turned stands net budget journal out actors d places ready sound s k e may a stage there was seen seen_at b b_out b_looks b_end space d' places' ready' desk_is pool_is size covers
 
-  job_bytes : (b : Actor S) (b_out : b.stage ≡ None) (b_looks : b.looks ≡ a.looks) (b_end : b.saw_end ≡ (a.saw_end || is_end seen)) (bytes : List ℕ) → bytes ≡ bytes_told (looks_at (looks_of actors) s) d' places' s seen →
-      bytes_with (is_looking stage) (job b b_out b_looks b_end).event ≡ bytes
+  job_bytes : (b : Actor S) (b_out : b.stage ≡ None) (b_looks : b.looks ≡ a.looks) (b_end : b.saw_end ≡ (a.saw_end || is_end seen)) (bytes : List ℕ) → bytes ≡ bytes_told (looks_at net s) d' places' s seen →
+      bytes_with (looks_at net s) (job b b_out b_looks b_end).event ≡ bytes
   job_bytes b b_out b_looks b_end bytes is =
-      ap (bytes_with (is_looking stage)) (job_event stands is_looking net budget journal out actors d places ready sound s k e may a stage there was seen seen_at b b_out b_looks b_end space d' places' ready' desk_is pool_is size covers)
+      ap (bytes_with (looks_at net s)) (job_event stands net budget journal out actors d places ready sound s k e may a stage there was seen seen_at b b_out b_looks b_end space d' places' ready' desk_is pool_is size covers)
       ∙ right_bytes ∙ sym is
 
-  pub can_go : (bytes : List ℕ) → bytes ≡ bytes_told (looks_at (looks_of actors) s) d' places' s seen → CanResume stands (is_looking stage) stage seen bytes
-  can_go bytes is = can_run stands is_looking net (looks_of (slice_set actors s (gone_out seen a))) longer s here seen stage (job (gone_out seen a) refl refl refl) bytes (job_bytes (gone_out seen a) refl refl refl bytes is)
+  pub can_go : (bytes : List ℕ) → bytes ≡ bytes_told (looks_at net s) d' places' s seen → CanResume stands stage seen bytes
+  can_go bytes is = can_run stands net longer s here seen stage (job (gone_out seen a) refl refl refl) bytes (job_bytes (gone_out seen a) refl refl refl bytes is)
 
   -- After the coroutine went on
 
@@ -114,16 +107,16 @@ module _ {S : Type 0} (stands : S → Strand → List Event → Type 0) (is_look
     abbrev pub stayed : List (Actor S)
     stayed = slice_set actors s on
 
-    pub lost : IsSound stands is_looking net budget longer (out ++ here ∷ []) (slice_set actors s off) d' places' ready'
-    lost = sound_turned stands is_looking net budget journal out actors d places ready sound s k e may a stage there was seen seen_at off refl refl refl space d' places' ready' desk_is pool_is size covers
+    pub lost : IsSound stands net budget longer (out ++ here ∷ []) (slice_set actors s off) d' places' ready'
+    lost = sound_turned stands net budget journal out actors d places ready sound s k e may a stage there was seen seen_at off refl refl refl space d' places' ready' desk_is pool_is size covers
 
     -- the coroutine is given up
-    pub gave_up : (b : Actor S) → slice_get stayed s ≡ Some b → IsSound stands is_looking net budget longer (out ++ here ∷ []) (slice_set stayed s (given_up b)) d' places' ready'
+    pub gave_up : (b : Actor S) → slice_get stayed s ≡ Some b → IsSound stands net budget longer (out ++ here ∷ []) (slice_set stayed s (given_up b)) d' places' ready'
     gave_up b at =
         let one : Some on ≡ Some b = sym (get_set_same actors s on a there) ∙ at in
         let b_is : on ≡ b = cc in
-        subst (λ (x : Actor S). IsSound stands is_looking net budget longer (out ++ here ∷ []) (slice_set stayed s (given_up x)) d' places' ready') b_is
-        (subst (λ (l : List (Actor S)). IsSound stands is_looking net budget longer (out ++ here ∷ []) l d' places' ready') (sym (set_set actors s on off)) lost)
+        subst (λ (x : Actor S). IsSound stands net budget longer (out ++ here ∷ []) (slice_set stayed s (given_up x)) d' places' ready') b_is
+        (subst (λ (l : List (Actor S)). IsSound stands net budget longer (out ++ here ∷ []) l d' places' ready') (sym (set_set actors s on off)) lost)
 
     -- what is kept of it where it asks for something else
     pub asking : (b : Actor S) → slice_get stayed s ≡ Some b → (shown : Asked) → slice_set stayed s (asking_for shown b) ≡ slice_set actors s (gone_on seen next shown a)
@@ -138,7 +131,7 @@ module _ {S : Type 0} (stands : S → Strand → List Event → Type 0) (is_look
         let b_is : on ≡ b = cc in
         ap (λ (x : Actor S). x.asked) b_is
 
-    module _ (alone : out ≡ []) (bytes : List ℕ) (bytes_are : bytes ≡ bytes_told (looks_at (looks_of actors) s) d' places' s seen) (same_look : is_looking next ≡ is_looking stage) (resumed : Resumes stands (is_looking stage) stage next seen bytes asked) where
+    module _ (alone : out ≡ []) (bytes : List ℕ) (bytes_are : bytes ≡ bytes_told (looks_at net s) d' places' s seen) (resumed : Resumes stands stage next seen bytes asked) where
       abbrev out' : List ℕ
       out' = out ++ here ∷ []
 
@@ -148,30 +141,30 @@ module _ {S : Type 0} (stands : S → Strand → List Event → Type 0) (is_look
       among : is_among here out' ≡ true
       among = ap (is_among here) out_is ∙ one_among here
 
-      done : DoneStands stands is_looking net (looks_of (slice_set actors s off)) (take here longer) s here next asked
-      done = done_take stands is_looking net (looks_of (slice_set actors s off)) longer s here seen stage (job off refl refl refl) bytes (job_bytes off refl refl refl bytes bytes_are) next asked same_look resumed
+      done : DoneStands stands net (take here longer) s here next asked
+      done = done_take stands net longer s here seen stage (job off refl refl refl) bytes (job_bytes off refl refl refl bytes bytes_are) next asked resumed
 
       -- it has ended just where that is what it was told
       pub home_ended : ends seen ≡ Pure.ended_at d' s
       home_ended =
-          sym (ended_is stands is_looking net budget longer out' (slice_set actors s off) d' places' ready' lost s here next asked among done
-          ∙ ap has_ended (turned_past stands is_looking net budget journal out actors d places ready sound s k e may)
-          ∙ end_told e (past (play net journal) s) (goes_on stands is_looking net budget journal out actors d places ready sound s k e may) ∙ ap ends seen_at)
+          sym (ended_is stands net budget longer out' (slice_set actors s off) d' places' ready' lost s here next asked among done
+          ∙ ap has_ended (turned_past stands net budget journal out actors d places ready sound s k e may)
+          ∙ end_told e (past (play net journal) s) (goes_on stands net budget journal out actors d places ready sound s k e may) ∙ ap ends seen_at)
 
       pub home_can : Pure.ended_at d' s ≡ false → CanCome d' places' s asked
-      home_can = can_home stands is_looking net budget longer out' (slice_set actors s off) d' places' ready' lost s here next asked among done
+      home_can = can_home stands net budget longer out' (slice_set actors s off) d' places' ready' lost s here next asked among done
 
       pub home_early : (d2 : DeskState) (places2 : List (Option Held)) → HasReturned d' places' s asked d2 places2 → AsksEarly d2
-      home_early = came_early stands is_looking net budget longer out' (slice_set actors s off) d' places' ready' lost s here next asked among done
+      home_early = came_early stands net budget longer out' (slice_set actors s off) d' places' ready' lost s here next asked among done
 
       -- and its strand came home
       pub went_home : (shown : Asked) → (Pure.ended_at d' s ≡ false → shown ≡ bare asked) →
           (d2 : DeskState) (places2 : List (Option Held)) (ready2 : Members) → HasReturned d' places' s asked d2 places2 → ready2.size ≡ ready'.size → IsCovering d2 ready2 →
-          IsSound stands is_looking net budget longer [] (slice_set actors s (gone_on seen next shown a)) d2 places2 ready2
+          IsSound stands net budget longer [] (slice_set actors s (gone_on seen next shown a)) d2 places2 ready2
       went_home shown bared d2 places2 ready2 returned size2 covers2 =
           let new : Actor S = gone_on seen next shown a in
-          let home = sound_home stands is_looking net budget longer out' (slice_set actors s off) d' places' ready' lost s here next asked among done d2 places2 ready2 off (get_set_same actors s off a there)
-          (came stands is_looking net budget longer out' (slice_set actors s off) d' places' ready' lost s here next asked among done d2 places2 returned) size2 covers2 shown bared in
+          let home = sound_home stands net budget longer out' (slice_set actors s off) d' places' ready' lost s here next asked among done d2 places2 ready2 off (get_set_same actors s off a there)
+          (came stands net budget longer out' (slice_set actors s off) d' places' ready' lost s here next asked among done d2 places2 returned) size2 covers2 shown bared in
           let none : without here out' ≡ [] = ap (without here) out_is ∙ none_without here in
-          subst (λ (l : List (Actor S)). IsSound stands is_looking net budget longer [] l d2 places2 ready2) (set_set actors s off new)
-          (subst (λ o. IsSound stands is_looking net budget longer o (slice_set (slice_set actors s off) s new) d2 places2 ready2) none home)
+          subst (λ (l : List (Actor S)). IsSound stands net budget longer [] l d2 places2 ready2) (set_set actors s off new)
+          (subst (λ o. IsSound stands net budget longer o (slice_set (slice_set actors s off) s new) d2 places2 ready2) none home)

@@ -1,6 +1,7 @@
 -- A job that is run on its bytes may be finished.
-use Rattle.std.proofs.Common.{◌≡◌, ℕ, Bool, true, false, ◌==◌, List, [], ◌∷◌, length, refl, sym, ◌∙◌, ap, subst, Option, Some, None, slice_get}
+use Rattle.std.proofs.Common.{◌≡◌, ℕ, true, false, ◌==◌, List, [], ◌∷◌, length, refl, sym, ◌∙◌, ap, subst, Option, Some, None, slice_get}
 use Rattle.std.specs.Prelude.{take, Result, Ok, Err, IfOk}
+use Rattle.std.specs.Option.{option_map_or}
 use Rattle.pipe_model.specs.declared.net.Net.{Net}
 use Rattle.pipe_model.specs.declared.net.Strand.{Strand}
 use Rattle.pipe_model.specs.declared.step.Entry.{Entry}
@@ -9,6 +10,7 @@ use Rattle.pipe_model.specs.declared.step.Want.{Want as Asked}
 use Rattle.pipe_model.specs.Event.{Event, answers, has_ended}
 use Rattle.pipe_model.specs.Event.Event.{Up, Saw, SawEnd, SawAllEnd, Took, Put, Refused, Primed, Opened, Joined, Severed, Ended}
 use Rattle.pipe_model.specs.Next.{next}
+use Rattle.pipe_model.specs.Table.{form}
 use Rattle.pipe_model.specs.State.{past, nothing_yet, with_some_event, strand_at}
 use Rattle.pipe_model.specs.Licence.{none_left, want_after, licence}
 use Rattle.pipe_model.specs.Play.{play}
@@ -16,11 +18,11 @@ use Rattle.stage_steps.specs.Coroutine.{bytes_with, meaning, last_seen, owed, Is
 use Rattle.confluence_laws.proofs.Basics.{at_same, test_same}
 use Rattle.confluence_laws.proofs.Owns.{answers_it}
 use Rattle.core_machine.specs.Jobs.{JobStands, DoneStands}
-use Rattle.core_machine.specs.Machine.{is_of, is_at}
+use Rattle.core_machine.specs.Machine.{is_of, is_at, looks_at}
 use Rattle.core_machine.proofs.Away.{get_end}
 use Rattle.core_machine.proofs.Plays.{play_one, end_length}
 
-module _ {S : Type 0} (stands : S → Strand → List Event → Type 0) (is_looking : S → Bool) (net : Net) (looking : List Bool) (journal : List Entry) (s p : ℕ) (seen : Seen) (stage : S) (job : JobStands stands is_looking net looking journal s p seen stage) where
+module _ {S : Type 0} (stands : S → Strand → List Event → Type 0) (net : Net) (journal : List Entry) (s p : ℕ) (seen : Seen) (stage : S) (job : JobStands stands net journal s p seen stage) where
   -- the strand's history is now one event longer
   pub job_past : past (play net journal) s ≡ job.event ∷ past (play net job.before) s
   job_past = ap (λ z. past (play net z) s) job.journal_is
@@ -36,16 +38,16 @@ module _ {S : Type 0} (stands : S → Strand → List Event → Type 0) (is_look
       go None is ans = let z : false ≡ true = ap (λ y. answers (want_after y (past (play net job.before) s)) job.event) (sym is) ∙ ans in cc
       go (Some q) is ans = (q, is)
 
-  told_it : (bytes : List ℕ) → bytes_with (is_looking stage) job.event ≡ bytes → (q : Strand) → strand_at net nothing_yet s ≡ Some q → IsTold stands (is_looking stage) stage seen bytes q (past (play net job.before) s) job.event
+  told_it : (bytes : List ℕ) → bytes_with (looks_at net s) job.event ≡ bytes → (q : Strand) → strand_at net nothing_yet s ≡ Some q → IsTold stands stage seen bytes q (past (play net job.before) s) job.event
   told_it bytes right q is = record {
     stood = job.stood q is;
     answer = ap (λ z. answers (want_after z (past (play net job.before) s)) job.event) (sym is) ∙ answers_it net (play net job.before) s job.entry.stream job.event job.licensed;
     seen_is = job.seen_is;
-    bytes_are = right;
+    bytes_are = ap (λ x. bytes_with (option_map_or (λ (p : Strand). (form p).looks) x false) job.event) (sym is) ∙ right;
     room = job.room;
   }
 
-  pub can_run : (bytes : List ℕ) → bytes_with (is_looking stage) job.event ≡ bytes → CanResume stands (is_looking stage) stage seen bytes
+  pub can_run : (bytes : List ℕ) → bytes_with (looks_at net s) job.event ≡ bytes → CanResume stands stage seen bytes
   can_run bytes right = (job_strand.0, past (play net job.before) s, job.event, told_it bytes right job_strand.0 job_strand.1)
 
   its_place : is_at journal s p ≡ true
@@ -66,13 +68,12 @@ module _ {S : Type 0} (stands : S → Strand → List Event → Type 0) (is_look
   owes_next q (Joined k c) h going = refl
   owes_next q (Severed k) h going = refl
 
-  pub done_stands : (bytes : List ℕ) → bytes_with (is_looking stage) job.event ≡ bytes → (stage' : S) (want : Asked) → is_looking stage' ≡ is_looking stage → Resumes stands (is_looking stage) stage stage' seen bytes want →
-      DoneStands stands is_looking net looking journal s p stage' want
-  done_stands bytes right stage' want same resumed = record {
+  pub done_stands : (bytes : List ℕ) → bytes_with (looks_at net s) job.event ≡ bytes → (stage' : S) (want : Asked) → Resumes stands stage stage' seen bytes want →
+      DoneStands stands net journal s p stage' want
+  done_stands bytes right stage' want resumed = record {
     place_is = job.place_is;
     mine = its_place;
     stood = λ q is. subst (stands stage' q) (sym job_past) (resumed q (past (play net job.before) s) job.event (told_it bytes right q is)).0;
-    looks = same ∙ job.looks;
     asks = λ q is. subst (λ z. has_ended z ≡ false → Some (meaning want (last_seen z)) ≡ next q z) (sym job_past)
         (λ going. (resumed q (past (play net job.before) s) job.event (told_it bytes right q is)).1 ∙ owes_next q job.event (past (play net job.before) s) going);
   }
@@ -81,9 +82,9 @@ module _ {S : Type 0} (stands : S → Strand → List Event → Type 0) (is_look
   whole [] = refl
   whole (x ∷ xs) = ap (λ z. x ∷ z) (whole xs)
 
-  pub done_take : (bytes : List ℕ) → bytes_with (is_looking stage) job.event ≡ bytes → (stage' : S) (want : Asked) → is_looking stage' ≡ is_looking stage → Resumes stands (is_looking stage) stage stage' seen bytes want →
-      DoneStands stands is_looking net looking (take p journal) s p stage' want
-  done_take bytes right stage' want same resumed = subst (λ z. DoneStands stands is_looking net looking z s p stage' want) (sym (ap (λ n. take n journal) job.place_is ∙ whole journal)) (done_stands bytes right stage' want same resumed)
+  pub done_take : (bytes : List ℕ) → bytes_with (looks_at net s) job.event ≡ bytes → (stage' : S) (want : Asked) → Resumes stands stage stage' seen bytes want →
+      DoneStands stands net (take p journal) s p stage' want
+  done_take bytes right stage' want resumed = subst (λ z. DoneStands stands net z s p stage' want) (sym (ap (λ n. take n journal) job.place_is ∙ whole journal)) (done_stands bytes right stage' want resumed)
 
 -- a result that is Ok with one fact is Ok with another
 pub if_ok : {A E : Type 0} {P Q : A → Type 0} (r : Result A E) → ((w : A) → P w → Q w) → IfOk r P → IfOk r Q

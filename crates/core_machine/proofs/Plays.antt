@@ -1,5 +1,5 @@
 -- Lists of actors and plays of journals, on which a sound core rests.
-use Rattle.std.proofs.Common.{◌≡◌, ℕ, zero, suc, ◌+◌, ◌≤◌, ◌<◌, Bool, true, false, cond, ◌||◌, ◌==◌, List, [], ◌∷◌, ◌++◌, length, refl, sym, ◌∙◌, ap, arith, Option, Some, None, slice_get, slice_set, map}
+use Rattle.std.proofs.Common.{◌≡◌, ℕ, zero, suc, ◌+◌, ◌≤◌, ◌<◌, Bool, true, false, cond, ◌||◌, ◌==◌, List, [], ◌∷◌, ◌++◌, length, refl, sym, ◌∙◌, ap, arith, Option, Some, None, slice_get}
 use Rattle.std.specs.Prelude.{take}
 use Rattle.pipe_model.specs.declared.net.Net.{Net}
 use Rattle.pipe_model.specs.declared.net.Strand.{Strand}
@@ -24,9 +24,8 @@ use Rattle.run_desk.proofs.Sees.{ask_is}
 use Rattle.confluence_laws.proofs.Basics.{at_place}
 use Rattle.core_machine.specs.declared.actor.Actor.{Actor}
 use Rattle.run_desk.specs.Moves.{bare}
-use Rattle.core_machine.specs.Actors.{is_end}
+use Rattle.core_machine.specs.Actors.{is_end, looks_in}
 use Rattle.core_machine.specs.Answered.{Shows}
-use Rattle.core_machine.specs.Machine.{looks_at}
 use Rattle.core_machine.specs.Woken.{AsksEarly, AreInside}
 
 -- Lists
@@ -41,18 +40,15 @@ end_length [] x = refl
 end_length (y ∷ ys) x = ap suc (end_length ys x)
 
 -- which strands look
-abbrev pub looks_of : {S : Type 0} → List (Actor S) → List Bool
-looks_of {S} actors = map (λ (actor : Actor S). actor.looks) actors
-
-pub looks_same : {S : Type 0} (actors : List (Actor S)) (s : ℕ) (a b : Actor S) → slice_get actors s ≡ Some a → b.looks ≡ a.looks → looks_of (slice_set actors s b) ≡ looks_of actors
-looks_same [] s a b at same = refl
-looks_same (x ∷ xs) zero a b at same = let is : x ≡ a = cc in ap (λ z. z ∷ looks_of xs) (same ∙ ap (λ z. z.looks) (sym is))
-looks_same (x ∷ xs) (suc s) a b at same = ap (λ z. x.looks ∷ z) (looks_same xs s a b at same)
-
-pub looks_here : {S : Type 0} (actors : List (Actor S)) (s : ℕ) (a : Actor S) → slice_get actors s ≡ Some a → looks_at (looks_of actors) s ≡ a.looks
+pub looks_here : {S : Type 0} (actors : List (Actor S)) (s : ℕ) (a : Actor S) → slice_get actors s ≡ Some a → looks_in actors s ≡ a.looks
 looks_here [] s a at = cc
 looks_here (x ∷ xs) zero a at = let is : x ≡ a = cc in ap (λ z. z.looks) is
 looks_here (x ∷ xs) (suc s) a at = looks_here xs s a at
+
+pub looks_nowhere : {S : Type 0} (actors : List (Actor S)) (s : ℕ) → slice_get actors s ≡ None → looks_in actors s ≡ false
+looks_nowhere [] s off = refl
+looks_nowhere (x ∷ xs) zero off = cc
+looks_nowhere (x ∷ xs) (suc s) off = looks_nowhere xs s off
 
 -- an event that brings bytes, more of them than nothing, is a look
 pub look_of : (b : Bool) (e : Event) (n room : ℕ) → n ≡ length (bytes_with b e) → room < n → (b ≡ true) × ((i : ℕ) × (rec : List ℕ) × (e ≡ Saw i rec) × (length rec ≡ n))

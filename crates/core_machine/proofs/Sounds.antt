@@ -33,10 +33,10 @@ use Rattle.run_desk.proofs.Shown.{shows_it}
 use Rattle.run_desk.proofs.Sees.{seen_is}
 use Rattle.run_desk.proofs.Lists.{get_set_same, get_set_other}
 use Rattle.confluence_laws.proofs.Basics.{equal_or_not, at_same, at_other, test_same, test_apart, at_some, at_place}
-use Rattle.confluence_laws.proofs.Braids.{play_reached}
+use Rattle.confluence_laws.proofs.Reached.{play_reached}
 use Rattle.confluence_laws.proofs.LeftOut.{licensed_too}
 use Rattle.core_machine.specs.declared.actor.Actor.{Actor}
-use Rattle.core_machine.specs.Actors.{is_end, come_back, bytes_told}
+use Rattle.core_machine.specs.Actors.{is_end, come_back, looks_in, bytes_told}
 use Rattle.core_machine.specs.Answered.{LeastReady, LeastEvent, Shows}
 use Rattle.core_machine.specs.Jobs.{JobStands, DoneStands}
 use Rattle.core_machine.specs.Machine.{is_of, is_at, left_by, without, is_among, looks_at, IsLawful}
@@ -44,10 +44,10 @@ use Rattle.core_machine.specs.Members.{Members}
 use Rattle.core_machine.specs.Sound.{IsLast, IsActor, AreActors, IsSound}
 use Rattle.core_machine.specs.Woken.{IsCovering, AsksEarly, AreInside, HasReturned, LeastAwake, LeastEventAwake}
 use Rattle.core_machine.proofs.Away.{left_turned, last_turned, apart_turned, left_home, apart_home, last_home, among_last, among_left, one_strand, fewer_out}
-use Rattle.core_machine.proofs.Plays.{get_take, end_length, looks_of, looks_same, looks_here, play_one, legal_one, play_length, end_seen, shows_bare, early_on, links_inside}
+use Rattle.core_machine.proofs.Plays.{get_take, end_length, looks_here, looks_nowhere, play_one, legal_one, play_length, end_seen, shows_bare, early_on, links_inside}
 
-module _ {S : Type 0} (stands : S → Strand → List Event → Type 0) (is_looking : S → Bool) (net : Net) (budget : ℕ) (journal : List Entry) (out : List ℕ) (actors : List (Actor S)) (d : DeskState) (places : List (Option Held)) (ready : Members)
-    (sound : IsSound stands is_looking net budget journal out actors d places ready) where
+module _ {S : Type 0} (stands : S → Strand → List Event → Type 0) (net : Net) (budget : ℕ) (journal : List Entry) (out : List ℕ) (actors : List (Actor S)) (d : DeskState) (places : List (Option Held)) (ready : Members)
+    (sound : IsSound stands net budget journal out actors d places ready) where
   abbrev pub st : State
   st = play net journal
 
@@ -89,13 +89,13 @@ module _ {S : Type 0} (stands : S → Strand → List Event → Type 0) (is_look
   pub seen_back : (s : Who) (k : ℕ) (e : Event) → licence net st left s k ≡ Some e → Pure.seen_at d s k ≡ Some (told e)
   seen_back s k e is = desk_sees s k ∙ ap (option_map told) is
 
-  least_is : (looking : List Bool) (b : Bool) (r : Option (ℕ × ℕ)) → LeastAwake d ready r → LeastReady (record { net = net; budget = budget; looking = looking; journal = journal; out = out; is_broken = b }) r
-  least_is looking b None is = λ s k. none_is s k (is sound.covers s k)
-  least_is looking b (Some r) is = (sym (ready_is r.0 r.1) ∙ is.0.0, λ k p. none_is r.0 k (is.0.1 k p), λ t k p. none_is t k (is.1 sound.covers t k p))
+  least_is : (b : Bool) (r : Option (ℕ × ℕ)) → LeastAwake d ready r → LeastReady (record { net = net; budget = budget; journal = journal; out = out; is_broken = b }) r
+  least_is b None is = λ s k. none_is s k (is sound.covers s k)
+  least_is b (Some r) is = (sym (ready_is r.0 r.1) ∙ is.0.0, λ k p. none_is r.0 k (is.0.1 k p), λ t k p. none_is t k (is.1 sound.covers t k p))
 
-  pub event_is : (looking : List Bool) (b : Bool) (r : Option (ℕ × ℕ × Seen)) → LeastEventAwake d ready r → LeastEvent (record { net = net; budget = budget; looking = looking; journal = journal; out = out; is_broken = b }) r
-  event_is looking b None is = least_is looking b None is
-  event_is looking b (Some r) is = (least_is looking b (Some (r.0, r.1)) is.0, some_is r.0 r.1 r.2 is.1)
+  pub event_is : (b : Bool) (r : Option (ℕ × ℕ × Seen)) → LeastEventAwake d ready r → LeastEvent (record { net = net; budget = budget; journal = journal; out = out; is_broken = b }) r
+  event_is b None is = least_is b None is
+  event_is b (Some r) is = (least_is b (Some (r.0, r.1)) is.0, some_is r.0 r.1 r.2 is.1)
 
   pub asks_early : AsksEarly d
   asks_early = early_on net st sound.formed own (bytes_at places) left d sound.run.kept
@@ -106,7 +106,7 @@ module _ {S : Type 0} (stands : S → Strand → List Event → Type 0) (is_look
       ap Pure.ended_of a.1 ∙ (sound.run.kept.seats s a.0 a.1).ended
 
   -- the same with another set of strands that may be ready
-  pub sound_ready : (ready' : Members) → ready'.size ≡ ready.size → IsCovering d ready' → IsSound stands is_looking net budget journal out actors d places ready'
+  pub sound_ready : (ready' : Members) → ready'.size ≡ ready.size → IsCovering d ready' → IsSound stands net budget journal out actors d places ready'
   sound_ready ready' size covers = record {
     formed = sound.formed;
     few = sound.few;
@@ -121,8 +121,8 @@ module _ {S : Type 0} (stands : S → Strand → List Event → Type 0) (is_look
     covers = covers;
   }
 
-  pub lawful : (looking : List Bool) (b : Bool) → IsLawful (record { net = net; budget = budget; looking = looking; journal = journal; out = out; is_broken = b })
-  lawful looking b = record { legal = sound.legal; within = sound.within; bounded = sound.bounded }
+  pub lawful : (b : Bool) → IsLawful (record { net = net; budget = budget; journal = journal; out = out; is_broken = b })
+  lawful b = record { legal = sound.legal; within = sound.within; bounded = sound.bounded }
 
   -- Records
 
@@ -199,6 +199,19 @@ module _ {S : Type 0} (stands : S → Strand → List Event → Type 0) (is_look
       go true (Severed i) past_is = refl
       go true (Ended c) past_is = refl
 
+  -- who looks is told by what is kept of it
+  pub looks_are : (s : Who) → looks_in actors s ≡ looks_at net s
+  looks_are s = go (slice_get actors s) refl (slice_get net.strands s) refl
+    where
+      none_some : {X : Type 0} (xs : List X) → s < length xs → slice_get xs s ≡ None → ⊥
+      none_some xs inside off = (let a = at_some xs s inside in let z : Some a.0 ≡ None = sym a.1 ∙ off in cc)
+
+      go : (x : Option (Actor S)) → slice_get actors s ≡ x → (y : Option Strand) → slice_get net.strands s ≡ y → looks_in actors s ≡ looks_at net s
+      go None off None out = looks_nowhere actors s off ∙ ap (λ y. option_map_or (λ (p : Strand). (form p).looks) y false) (sym out)
+      go None off (Some p) is = let n = at_place net.strands s is in let c = sound.strands.count in absurd (none_some actors (omega (arith, n, c)) off)
+      go (Some a) at None out = let n = at_place actors s at in let c = sound.strands.count in absurd (none_some net.strands (omega (arith, n, c)) out)
+      go (Some a) at (Some p) is = looks_here actors s a at ∙ (sound.strands.each s p a is at).looks ∙ ap (λ y. option_map_or (λ (p : Strand). (form p).looks) y false) (sym is)
+
   -- the links join strands of the set
   pub inside : AreInside net.links ready.size
   inside = links_inside net ready.size sound.formed sound.size
@@ -259,8 +272,8 @@ module _ {S : Type 0} (stands : S → Strand → List Event → Type 0) (is_look
     pub is_live : Pure.ended_at d s ≡ false
     is_live = ended_here s in_range ∙ goes_on
 
-    pub lawful_turned : length journal < budget → (looking : List Bool) (b : Bool) → IsLawful (record { net = net; budget = budget; looking = looking; journal = journal ++ entry ∷ []; out = out ++ suc (length journal) ∷ []; is_broken = b })
-    lawful_turned space looking b = record {
+    pub lawful_turned : length journal < budget → (b : Bool) → IsLawful (record { net = net; budget = budget; journal = journal ++ entry ∷ []; out = out ++ suc (length journal) ∷ []; is_broken = b })
+    lawful_turned space b = record {
       legal = legal_one net nothing_yet journal entry sound.legal (ap is_some may_all);
       within = let a = end_length journal entry in omega (arith, a, space);
       bounded = sound.bounded;
@@ -292,14 +305,14 @@ module _ {S : Type 0} (stands : S → Strand → List Event → Type 0) (is_look
       want_none : want_at net (play net longer) (left_by longer out') s ≡ None
       want_none = ap (λ l. want_at net (play net longer) l s) left_is ∙ ap (λ b. cond (cond b true (left s)) None (want_after (strand_at net st s) (past (play net longer) s))) (test_same s)
 
-      actors_turned : AreActors stands is_looking net longer out' (slice_set actors s b)
+      actors_turned : AreActors stands net longer out' (slice_set actors s b)
       actors_turned = record {
         count = length-set actors s b ∙ sound.strands.count;
         each = λ u p x is at. elim (equal_or_not u s) [
           | inl z ↦ here u p x z is at
           | inr z ↦
               let old = sound.strands.each u p x is (sym (get_set_other actors s u b z) ∙ at) in
-              subst (λ h. IsActor stands is_looking h (want_at net (play net longer) (left_by longer out') u) p x) (sym (same_past u z)) (subst (λ w. IsActor stands is_looking (past st u) w p x) (sym (want_same u z)) old)
+              subst (λ h. IsActor stands h (want_at net (play net longer) (left_by longer out') u) p x) (sym (same_past u z)) (subst (λ w. IsActor stands (past st u) w p x) (sym (want_same u z)) old)
         ];
         home = λ u x at home.
             let l : left_out left s u ≡ false = ap (λ z. z u) (sym left_is) ∙ home in
@@ -313,23 +326,23 @@ module _ {S : Type 0} (stands : S → Strand → List Event → Type 0) (is_look
           none_some q = cc
 
           here : (u : Who) (p : Strand) (x : Actor S) → u ≡ s → strand_at net (play net longer) u ≡ Some p → slice_get (slice_set actors s b) u ≡ Some x →
-              IsActor stands is_looking (past (play net longer) u) (want_at net (play net longer) (left_by longer out') u) p x
+              IsActor stands (past (play net longer) u) (want_at net (play net longer) (left_by longer out') u) p x
           here u p x z is at =
               let old = sound.strands.each s p a (ap (strand_at net st) (sym z) ∙ is) there in
               let got : Some b ≡ Some x = sym (get_set_same actors s b a there) ∙ ap (slice_get (slice_set actors s b)) (sym z) ∙ at in
               let x_is : b ≡ x = cc in
               let h_is : past (play net longer) u ≡ e ∷ past st s = ap (past (play net longer)) z ∙ ap (λ y. past y s) now ∙ at_same st s e in
               let w_is : want_at net (play net longer) (left_by longer out') u ≡ None = ap (want_at net (play net longer) (left_by longer out')) z ∙ want_none in
-              let P : List Event → Option Want → Actor S → Type 0 = λ h w y. IsActor stands is_looking h w p y in
+              let P : List Event → Option Want → Actor S → Type 0 = λ h w y. IsActor stands h w p y in
               let new : P (e ∷ past st s) None b = record {
                 saw_end = b_end ∙ ap (λ y. a.saw_end || is_end y) (sym seen_at) ∙ end_seen e (past st s) a.saw_end old.saw_end;
                 asked = λ w q. cc;
                 stands_for = λ y q. absurd (none_some (sym b_out ∙ q));
-                looks = λ y q. absurd (none_some (sym b_out ∙ q));
+                looks = b_looks ∙ old.looks;
               } in
               subst (λ h. P h (want_at net (play net longer) (left_by longer out') u) x) (sym h_is) (subst (λ w. P (e ∷ past st s) w x) (sym w_is) (subst (P (e ∷ past st s) None) x_is new))
 
-      pub sound_turned : IsSound stands is_looking net budget longer out' (slice_set actors s b) d' places' ready'
+      pub sound_turned : IsSound stands net budget longer out' (slice_set actors s b) d' places' ready'
       sound_turned = record {
         formed = sound.formed;
         few = sound.few;
@@ -349,7 +362,7 @@ module _ {S : Type 0} (stands : S → Strand → List Event → Type 0) (is_look
         covers = covers;
       }
 
-      pub job_turned : JobStands stands is_looking net (looks_of (slice_set actors s b)) longer s (suc (length journal)) seen stage
+      pub job_turned : JobStands stands net longer s (suc (length journal)) seen stage
       job_turned = record {
         place_is = sym (end_length journal entry);
         before = journal;
@@ -360,9 +373,6 @@ module _ {S : Type 0} (stands : S → Strand → List Event → Type 0) (is_look
         licensed = may_all;
         seen_is = seen_at;
         stood = λ p is. (sound.strands.each s p a is there).stands_for stage was;
-        looks =
-            let p = at_some net.strands s in_range in
-            (sound.strands.each s p.0 a p.1 there).looks stage was ∙ sym (looks_here actors s a there) ∙ ap (λ l. looks_at l s) (sym (looks_same actors s a b there b_looks));
         room = let a = play_length net nothing_yet journal s in let b = sound.bounded in omega (arith, a, b, space);
       }
 
@@ -372,7 +382,7 @@ module _ {S : Type 0} (stands : S → Strand → List Event → Type 0) (is_look
 
   -- A coming home
 
-  module _ (s : Who) (p : ℕ) (stage : S) (want : Asked) (among : is_among p out ≡ true) (done : DoneStands stands is_looking net (looks_of actors) (take p journal) s p stage want) where
+  module _ (s : Who) (p : ℕ) (stage : S) (want : Asked) (among : is_among p out ≡ true) (done : DoneStands stands net (take p journal) s p stage want) where
     its : is_at journal s p ≡ true
     its = go p done.mine
       where
@@ -432,13 +442,13 @@ module _ {S : Type 0} (stands : S → Strand → List Event → Type 0) (is_look
       want_now = ap (λ l. want_at net st l s) left_now ∙ ap (λ b. cond (cond b false (left s)) None (want_after (strand_at net st s) (past st s))) (test_same s)
           ∙ ap (λ x. want_after x (past st s)) strand.1
 
-      actors_home : AreActors stands is_looking net journal (without p out) (slice_set actors s new)
+      actors_home : AreActors stands net journal (without p out) (slice_set actors s new)
       actors_home = record {
         count = length-set actors s new ∙ sound.strands.count;
         each = λ u q x is at. elim (equal_or_not u s) [
           | inl z ↦ here u q x z is at
           | inr z ↦
-              subst (λ w. IsActor stands is_looking (past st u) w q x) (sym (want_stays u z)) (sound.strands.each u q x is (sym (get_set_other actors s u new z) ∙ at))
+              subst (λ w. IsActor stands (past st u) w q x) (sym (want_stays u z)) (sound.strands.each u q x is (sym (get_set_other actors s u new z) ∙ at))
         ];
         home = λ u x at home. elim (equal_or_not u s) [
           | inl z ↦
@@ -462,23 +472,23 @@ module _ {S : Type 0} (stands : S → Strand → List Event → Type 0) (is_look
                   subst (λ x. Shows (past st s) x w) (sym (bared (ended_is ∙ going))) (shows_bare (past st s) want w w_is)
 
           here : (u : Who) (q : Strand) (x : Actor S) → u ≡ s → strand_at net st u ≡ Some q → slice_get (slice_set actors s new) u ≡ Some x →
-              IsActor stands is_looking (past st u) (want_at net st (left_by journal (without p out)) u) q x
+              IsActor stands (past st u) (want_at net st (left_by journal (without p out)) u) q x
           here u q x z is at =
               let one : Some strand.0 ≡ Some q = sym strand.1 ∙ ap (strand_at net st) (sym z) ∙ is in
               let q_is : strand.0 ≡ q = cc in
               let old = sound.strands.each s strand.0 a strand.1 there in
               let got : Some new ≡ Some x = sym (get_set_same actors s new a there) ∙ ap (slice_get (slice_set actors s new)) (sym z) ∙ at in
               let x_is : new ≡ x = cc in
-              let P : Who → Strand → Actor S → Type 0 = λ t r y. IsActor stands is_looking (past st t) (want_at net st (left_by journal (without p out)) t) r y in
+              let P : Who → Strand → Actor S → Type 0 = λ t r y. IsActor stands (past st t) (want_at net st (left_by journal (without p out)) t) r y in
               let fresh : P s strand.0 new = record {
                 saw_end = old.saw_end;
                 asked = λ w w_is. shown w (sym want_now ∙ w_is);
                 stands_for = λ y y_is. (let y_at : stage ≡ y = cc in subst (λ v. stands v strand.0 (past st s)) y_at (subst (stands stage strand.0) (sym home_past) (done.stood strand.0 strand.1)));
-                looks = λ y y_is. (let y_at : stage ≡ y = cc in ap is_looking (sym y_at) ∙ done.looks ∙ looks_here actors s a there);
+                looks = old.looks;
               } in
               subst (λ t. P t q x) (sym z) (subst (λ r. P s r x) q_is (subst (P s strand.0) x_is fresh))
 
-      pub sound_home : IsSound stands is_looking net budget journal (without p out) (slice_set actors s new) d' places' ready'
+      pub sound_home : IsSound stands net budget journal (without p out) (slice_set actors s new) d' places' ready'
       sound_home = record {
         formed = sound.formed;
         few = sound.few;

@@ -1,5 +1,5 @@
 -- A core before the first step is sound.
-use Rattle.std.proofs.Common.{◌≡◌, ◌≢◌, inl, inr, ℕ, zero, suc, ◌≤◌, ◌<◌, Bool, true, false, cond, ◌&&◌, not, nat_lt, ◌==◌, List, [], ◌∷◌, length, refl, sym, ◌∙◌, ap, subst, arith, Option, Some, None, slice_get, slice_set, length-set, is_some, map}
+use Rattle.std.proofs.Common.{◌≡◌, ◌≢◌, inl, inr, ℕ, zero, suc, ◌≤◌, ◌<◌, Bool, true, false, cond, ◌&&◌, not, nat_lt, ◌==◌, List, [], ◌∷◌, length, refl, sym, ◌∙◌, ap, subst, arith, Option, Some, None, slice_get, slice_set, length-set, is_some}
 use Rattle.std.proofs.lemmas.Bool.Decides.{nat_tests}
 use Rattle.std.specs.Option.{option_map}
 use Rattle.std.specs.Prelude.{Result, Ok, Err, IfOk, OnErr}
@@ -29,9 +29,9 @@ use Rattle.core_machine.specs.declared.actor.Actor.{Actor}
 use Rattle.core_machine.specs.Actors.{asking_for}
 use Rattle.core_machine.specs.Members.{Members}
 use Rattle.core_machine.specs.Sound.{IsActor, IsSound}
-use Rattle.core_machine.specs.Start.{AreFresh, IsCalled, new_actor}
+use Rattle.core_machine.specs.Start.{AreFresh, IsNew, AreNew, IsCalled}
 use Rattle.core_machine.specs.Woken.{IsCovering, AsksEarly}
-use Rattle.core_machine.proofs.Plays.{looks_of, shows_bare, early_on}
+use Rattle.core_machine.proofs.Plays.{shows_bare, early_on}
 
 -- before the first step every history is a strand's own
 pub own_first : (net : Net) (t : Who) (q : Strand) → strand_at net nothing_yet t ≡ Some q → IsOwn q (past nothing_yet t)
@@ -90,7 +90,7 @@ all_out t n m = ap (λ b. not b && nat_lt t n) (none t) ∙ within
     within : nat_lt t n ≡ true
     within = grind (arith, nat_tests, m)
 
-module _ {S : Type 0} (stands : S → Strand → List Event → Type 0) (is_looking : S → Bool) (net : Net) (formed : IsWellFormed net) where
+module _ {S : Type 0} (stands : S → Strand → List Event → Type 0) (net : Net) (formed : IsWellFormed net) where
   abbrev n : ℕ
   n = length net.strands
 
@@ -100,7 +100,7 @@ module _ {S : Type 0} (stands : S → Strand → List Event → Type 0) (is_look
 
   -- Each strand is called
 
-  module _ (s : Who) (actors : List (Actor S)) (d : DeskState) (places : List (Option Held)) (ready : Members) (called : IsCalled stands is_looking net s actors d places ready) (within : s < n) where
+  module _ (s : Who) (actors : List (Actor S)) (d : DeskState) (places : List (Option Held)) (ready : Members) (called : IsCalled stands net s actors d places ready) (within : s < n) where
     pub its_strand : (p : Strand) × (strand_at net nothing_yet s ≡ Some p)
     its_strand = at_some net.strands s within
 
@@ -127,14 +127,14 @@ module _ {S : Type 0} (stands : S → Strand → List Event → Type 0) (is_look
       called_early d' places' come = early_on net nothing_yet formed (own_first net) (bytes_at places') (out_from (suc s) n) d' (called_run d' places' come).kept
 
       pub called_next : (d' : DeskState) (places' : List (Option Held)) (ready' : Members) (a : Actor S) → slice_get actors s ≡ Some a → HasCome d places s want d' places' → ready'.size ≡ ready.size → IsCovering d' ready' →
-          IsCalled stands is_looking net (suc s) (slice_set actors s (asking_for (bare want) a)) d' places' ready'
+          IsCalled stands net (suc s) (slice_set actors s (asking_for (bare want) a)) d' places' ready'
       called_next d' places' ready' a there come size covers = record {
         few = called.few;
         run = called_run d' places' come;
         count = length-set actors s (asking_for (bare want) a) ∙ called.count;
         each = λ t p x is at. elim (equal_or_not t s) [
           | inl z ↦ here t p x z is at
-          | inr z ↦ subst (λ w. IsActor stands is_looking [] w p x) (want_same t z) (called.each t p x is (sym (get_set_other actors s t (asking_for (bare want) a) z) ∙ at))
+          | inr z ↦ subst (λ w. IsActor stands [] w p x) (want_same t z) (called.each t p x is (sym (get_set_other actors s t (asking_for (bare want) a) z) ∙ at))
         ];
         home = λ t x at. elim (equal_or_not t s) [
           | inl z ↦
@@ -158,18 +158,18 @@ module _ {S : Type 0} (stands : S → Strand → List Event → Type 0) (is_look
               ∙ ap (λ x. want_after x []) its_strand.1
 
           here : (t : Who) (p : Strand) (x : Actor S) → t ≡ s → strand_at net nothing_yet t ≡ Some p → slice_get (slice_set actors s (asking_for (bare want) a)) t ≡ Some x →
-              IsActor stands is_looking [] (want_at net nothing_yet (out_from (suc s) n) t) p x
+              IsActor stands [] (want_at net nothing_yet (out_from (suc s) n) t) p x
           here t p x z is at =
               let old = called.each s p a (ap (strand_at net nothing_yet) (sym z) ∙ is) there in
               let got : Some (asking_for (bare want) a) ≡ Some x = sym (get_set_same actors s (asking_for (bare want) a) a there) ∙ ap (slice_get (slice_set actors s (asking_for (bare want) a))) (sym z) ∙ at in
               let x_is : (asking_for (bare want) a) ≡ x = cc in
-              let fresh : IsActor stands is_looking [] (want_at net nothing_yet (out_from (suc s) n) s) p (asking_for (bare want) a) = record {
+              let fresh : IsActor stands [] (want_at net nothing_yet (out_from (suc s) n) s) p (asking_for (bare want) a) = record {
                 saw_end = old.saw_end;
                 asked = λ w w_is. shows_bare [] want w (let m : Some w ≡ Some (meaning want (last_seen [])) = sym w_is ∙ want_now ∙ sym means in cc);
                 stands_for = old.stands_for;
                 looks = old.looks;
               } in
-              subst (λ y. IsActor stands is_looking [] (want_at net nothing_yet (out_from (suc s) n) y) p x) (sym z) (subst (IsActor stands is_looking [] (want_at net nothing_yet (out_from (suc s) n) s) p) x_is fresh)
+              subst (λ y. IsActor stands [] (want_at net nothing_yet (out_from (suc s) n) y) p x) (sym z) (subst (IsActor stands [] (want_at net nothing_yet (out_from (suc s) n) s) p) x_is fresh)
 
   -- Before any
 
@@ -184,21 +184,16 @@ module _ {S : Type 0} (stands : S → Strand → List Event → Type 0) (is_look
       go None is = ap (λ y. cond (out_from 0 n t) None (want_after y [])) is ∙ nothing (out_from 0 n t)
       go (Some p) is = ap (λ b. cond b None (want_after (strand_at net nothing_yet t) [])) (all_out t n (at_place net.strands t is))
 
-  pub none_called : (stages : List S) (d : DeskState) (ready : Members) → length net.links < 2147483648 → AreFresh stands net.strands stages → IsRun net nothing_yet (out_from 0 n) d [] → ready.size ≡ n →
-      IsCalled stands is_looking net 0 (map (new_actor is_looking) stages) d [] ready
-  none_called stages d ready few fresh run size = record {
+  pub none_called : (stages : List S) (actors : List (Actor S)) (d : DeskState) (ready : Members) → length net.links < 2147483648 → AreFresh stands net.strands stages → AreNew stands stages actors → IsRun net nothing_yet (out_from 0 n) d [] → ready.size ≡ n →
+      IsCalled stands net 0 actors d [] ready
+  none_called stages actors d ready few fresh new run size = record {
     few = few;
     run = run;
-    count = map_length stages ∙ fresh.count;
+    count = new_length stages actors new ∙ fresh.count;
     each = λ t p x is at.
-        let y = at_map stages t x at in
-        record {
-          saw_end = ap (λ z. z.saw_end) (sym y.2);
-          asked = λ w w_is. (let no : None ≡ Some w = sym (no_want t) ∙ w_is in cc);
-          stands_for = λ z z_is. (let same : y.0 ≡ z = (let got : Some y.0 ≡ Some z = ap (λ v. v.stage) y.2 ∙ z_is in cc) in subst (λ v. stands v p []) same (fresh.each t p y.0 is y.1));
-          looks = λ z z_is. (let same : y.0 ≡ z = (let got : Some y.0 ≡ Some z = ap (λ v. v.stage) y.2 ∙ z_is in cc) in ap is_looking (sym same) ∙ ap (λ v. v.looks) y.2);
-        };
-    home = λ t x at. (let y = at_map stages t x at in (y.0, ap (λ z. z.stage) (sym y.2)));
+        let y = new_at stages actors new t x at in
+        new_is t p y.0 x y.2 (fresh.each t p y.0 is y.1);
+    home = λ t x at. (let y = new_at stages actors new t x at in (y.0, y.2.stage_is));
     size = size;
     covers = λ t k may.
         let seen = seen_is net (bytes_at []) nothing_yet (out_from 0 n) d formed run.kept t k in
@@ -207,19 +202,31 @@ module _ {S : Type 0} (stands : S → Strand → List Event → Type 0) (is_look
         (let no : true ≡ false = sym may ∙ off in cc);
   }
     where
-      map_length : (xs : List S) → length (map (new_actor is_looking) xs) ≡ length xs
-      map_length [] = refl
-      map_length (x ∷ xs) = ap suc (map_length xs)
+      new_is : (t : Who) (p : Strand) (stage : S) (x : Actor S) → IsNew stands stage x → stands stage p [] → IsActor stands [] (want_at net nothing_yet (out_from 0 n) t) p x
+      new_is t p stage x new stood = record {
+        saw_end = new.saw_end;
+        asked = λ w w_is. (let no : None ≡ Some w = sym (no_want t) ∙ w_is in cc);
+        stands_for = λ z z_is. (let got : Some stage ≡ Some z = sym new.stage_is ∙ z_is in let same : stage ≡ z = cc in subst (λ v. stands v p []) same stood);
+        looks = new.looks p stood;
+      }
 
-      at_map : (xs : List S) (t : ℕ) (x : Actor S) → slice_get (map (new_actor is_looking) xs) t ≡ Some x → (y : S) × (slice_get xs t ≡ Some y) × (new_actor is_looking y ≡ x)
-      at_map [] t x at = cc
-      at_map (y ∷ ys) zero x at = (y, refl, cc)
-      at_map (y ∷ ys) (suc t) x at = at_map ys t x at
+      new_length : (xs : List S) (bs : List (Actor S)) → AreNew stands xs bs → length bs ≡ length xs
+      new_length [] [] new = refl
+      new_length (x ∷ xs) (a ∷ bs) new = ap suc (new_length xs bs new.1)
+      new_length [] (a ∷ bs) new = absurd new
+      new_length (x ∷ xs) [] new = absurd new
+
+      new_at : (xs : List S) (bs : List (Actor S)) → AreNew stands xs bs → (t : ℕ) (a : Actor S) → slice_get bs t ≡ Some a → (x : S) × (slice_get xs t ≡ Some x) × IsNew stands x a
+      new_at [] [] new t a at = cc
+      new_at (x ∷ xs) (b ∷ bs) new zero a at = let same : b ≡ a = cc in (x, refl, subst (λ z. IsNew stands x z) same new.0)
+      new_at (x ∷ xs) (b ∷ bs) new (suc t) a at = new_at xs bs new.1 t a at
+      new_at [] (b ∷ bs) new t a at = absurd new
+      new_at (x ∷ xs) [] new t a at = absurd new
 
   -- After all
 
-  pub all_called : (actors : List (Actor S)) (d : DeskState) (places : List (Option Held)) (ready : Members) (budget : ℕ) → budget ≤ 50000000 → IsCalled stands is_looking net n actors d places ready →
-      IsSound stands is_looking net budget [] [] actors d places ready
+  pub all_called : (actors : List (Actor S)) (d : DeskState) (places : List (Option Held)) (ready : Members) (budget : ℕ) → budget ≤ 50000000 → IsCalled stands net n actors d places ready →
+      IsSound stands net budget [] [] actors d places ready
   all_called actors d places ready budget bounded called = record {
     formed = formed;
     few = called.few;
@@ -231,17 +238,12 @@ module _ {S : Type 0} (stands : S → Strand → List Event → Type 0) (is_look
     run = subst (λ l. IsRun net nothing_yet l d places) (none_out n) called.run;
     strands = record {
       count = called.count;
-      each = λ t p x is at. subst (λ l. IsActor stands is_looking [] (want_at net nothing_yet l t) p x) (none_out n) (called.each t p x is at);
+      each = λ t p x is at. subst (λ l. IsActor stands [] (want_at net nothing_yet l t) p x) (none_out n) (called.each t p x is at);
       home = λ t x at home. (let y = called.home t x at in ap is_some y.1);
     };
     size = called.size;
     covers = called.covers;
   }
-
--- which strands look
-pub looks_first : {S : Type 0} (is_looking : S → Bool) (stages : List S) → looks_of (map (new_actor is_looking) stages) ≡ map is_looking stages
-looks_first is_looking [] = refl
-looks_first is_looking (x ∷ xs) = ap (λ l. is_looking x ∷ l) (looks_first is_looking xs)
 
 -- Results
 

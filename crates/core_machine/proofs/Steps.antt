@@ -57,7 +57,6 @@ run_breaks m n k run broke = record {
   broken = broke.broken;
   net = broke.net ∙ ap (λ (z : Machine). z.net) run.after;
   budget = broke.budget ∙ ap (λ (z : Machine). z.budget) run.after;
-  looking = broke.looking ∙ ap (λ (z : Machine). z.looking) run.after;
   longer = (run.more ++ broke.longer.0, broke.longer.1 ∙ ap (λ (z : Machine). z.journal ++ broke.longer.0) run.after ∙ append_three m.journal run.more broke.longer.0);
 }
 

@@ -47,20 +47,20 @@ some_want : (w : Option Want) → Pure.asks_nothing (asked w) ≡ false → (x :
 some_want None is = cc
 some_want (Some x) is = (x, refl)
 
-module _ {S : Type 0} (stands : S → Strand → List Event → Type 0) (is_looking : S → Bool) (net : Net) (budget : ℕ) (journal : List Entry) (out : List ℕ) (actors : List (Actor S)) (d : DeskState) (places : List (Option Held)) (ready : Members)
-    (sound : IsSound stands is_looking net budget journal out actors d places ready) (looking : List Bool) (is_broken : Bool) where
+module _ {S : Type 0} (stands : S → Strand → List Event → Type 0) (net : Net) (budget : ℕ) (journal : List Entry) (out : List ℕ) (actors : List (Actor S)) (d : DeskState) (places : List (Option Held)) (ready : Members)
+    (sound : IsSound stands net budget journal out actors d places ready) (is_broken : Bool) where
   -- what the core stands for
   abbrev pub seen_as : Machine
-  seen_as = record { net = net; budget = budget; looking = looking; journal = journal; out = out; is_broken = is_broken }
+  seen_as = record { net = net; budget = budget; journal = journal; out = out; is_broken = is_broken }
 
   -- Readiness
 
   -- the least stream on the desk is the strand's least stream
   pub stream_is : (s : Who) (r : Option ℕ) → Pure.IsFirst d s r → LeastStream seen_as s r
-  stream_is s None is = λ k. none_is stands is_looking net budget journal out actors d places ready sound s k (is k)
+  stream_is s None is = λ k. none_is stands net budget journal out actors d places ready sound s k (is k)
   stream_is s (Some j) is = (
-    sym (ready_is stands is_looking net budget journal out actors d places ready sound s j) ∙ is.0,
-    λ k p. none_is stands is_looking net budget journal out actors d places ready sound s k (is.1 k p),
+    sym (ready_is stands net budget journal out actors d places ready sound s j) ∙ is.0,
+    λ k p. none_is stands net budget journal out actors d places ready sound s k (is.1 k p),
   )
 
   -- who is no strand may have no event
@@ -70,7 +70,7 @@ module _ {S : Type 0} (stands : S → Strand → List Event → Type 0) (is_look
       go : (x : Option Event) → licence_of seen_as s k ≡ x → licence_of seen_as s k ≡ None
       go None is = is
       go (Some e) is =
-          let a = in_range stands is_looking net budget journal out actors d places ready sound s k e is in
+          let a = in_range stands net budget journal out actors d places ready sound s k e is in
           let b = sound.strands.count in
           absurd (omega (arith, a, b, beyond))
 
@@ -82,7 +82,7 @@ module _ {S : Type 0} (stands : S → Strand → List Event → Type 0) (is_look
       less_or_not s n = grind arith
 
       by : (s k : ℕ) → (s < length actors) ⊎ (length actors ≤ s) → licence_of seen_as s k ≡ None
-      by s k (inl a) = none_is stands is_looking net budget journal out actors d places ready sound s k (each s k a)
+      by s k (inl a) = none_is stands net budget journal out actors d places ready sound s k (each s k a)
       by s k (inr b) = nobody_goes s k b
 
   -- where a strand has a stream, it hasn't

@@ -1,5 +1,5 @@
 -- The job that a turn gave is run on the bytes of the room, and finished.
-use Rattle.std.proofs.Common.{◌≡◌, ℕ, Bool, List, [], ◌∷◌, ◌++◌, refl, sym, ◌∙◌, ap, subst, Some}
+use Rattle.std.proofs.Common.{◌≡◌, ℕ, List, [], ◌∷◌, ◌++◌, refl, sym, ◌∙◌, ap, subst, Some}
 use Rattle.std.specs.Prelude.{take, IfOk}
 use Rattle.pipe_model.specs.declared.net.Strand.{Strand}
 use Rattle.pipe_model.specs.declared.step.Entry.{Entry}
@@ -29,8 +29,8 @@ front_and_last (z ∷ zs) (w ∷ ws) x y e =
     let fronts = rest.0 in
     (cc, rest.1)
 
-module _ {S : Type 0} (stands : S → Strand → List Event → Type 0) (is_looking : S → Bool) (m n : Machine) (s k room : ℕ) (job : Job S) (bytes : List ℕ) (turned : TurnedAs stands is_looking m s k room (Work job) n bytes) where
-  given : JobStands stands is_looking n.net n.looking n.journal job.strand job.place job.seen job.stage
+module _ {S : Type 0} (stands : S → Strand → List Event → Type 0) (m n : Machine) (s k room : ℕ) (job : Job S) (bytes : List ℕ) (turned : TurnedAs stands m s k room (Work job) n bytes) where
+  given : JobStands stands n.net n.journal job.strand job.place job.seen job.stage
   given = turned.4
 
   its_event : given.event ≡ turned.5.0
@@ -45,24 +45,23 @@ module _ {S : Type 0} (stands : S → Strand → List Event → Type 0) (is_look
       cc
 
   -- the bytes of the room are those of the job's event
-  its_bytes : bytes_with (is_looking job.stage) given.event ≡ bytes
+  its_bytes : bytes_with (looks_at n.net job.strand) given.event ≡ bytes
   its_bytes =
       let strands : job.strand ≡ s = turned.3 in
-      let looking : n.looking ≡ m.looking = ap (λ (z : Machine). z.looking) turned.2 in
-      let looks : is_looking job.stage ≡ looks_at n.looking job.strand = given.looks in
+      let nets : n.net ≡ m.net = ap (λ (z : Machine). z.net) turned.2 in
       let event : given.event ≡ turned.5.0 = its_event in
-      let right : bytes ≡ bytes_with (looks_at m.looking s) turned.5.0 = turned.5.2 in
+      let right : bytes ≡ bytes_with (looks_at m.net s) turned.5.0 = turned.5.2 in
       cc
 
   -- the job may be run on them
-  pub work_runs : CanResume stands (is_looking job.stage) job.stage job.seen bytes
-  work_runs = can_run stands is_looking n.net n.looking n.journal job.strand job.place job.seen job.stage given bytes its_bytes
+  pub work_runs : CanResume stands job.stage job.seen bytes
+  work_runs = can_run stands n.net n.journal job.strand job.place job.seen job.stage given bytes its_bytes
 
   -- what it gives may be finished
-  pub work_done : (done : Finished S) → done.strand ≡ job.strand → done.place ≡ job.place → is_looking done.stage ≡ is_looking job.stage
-      → IfOk done.want (λ want. Resumes stands (is_looking job.stage) job.stage done.stage job.seen bytes want)
-      → IfOk done.want (λ want. DoneStands stands is_looking n.net n.looking (take done.place n.journal) done.strand done.place done.stage want)
-  work_done done strand place looks resumes = if_ok done.want (λ w resumed.
-      subst (λ z. DoneStands stands is_looking n.net n.looking (take done.place n.journal) z done.place done.stage w) (sym strand)
-      (subst (λ z. DoneStands stands is_looking n.net n.looking (take z n.journal) job.strand z done.stage w) (sym place)
-      (done_take stands is_looking n.net n.looking n.journal job.strand job.place job.seen job.stage given bytes its_bytes done.stage w looks resumed))) resumes
+  pub work_done : (done : Finished S) → done.strand ≡ job.strand → done.place ≡ job.place
+      → IfOk done.want (λ want. Resumes stands job.stage done.stage job.seen bytes want)
+      → IfOk done.want (λ want. DoneStands stands n.net (take done.place n.journal) done.strand done.place done.stage want)
+  work_done done strand place resumes = if_ok done.want (λ w resumed.
+      subst (λ z. DoneStands stands n.net (take done.place n.journal) z done.place done.stage w) (sym strand)
+      (subst (λ z. DoneStands stands n.net (take z n.journal) job.strand z done.stage w) (sym place)
+      (done_take stands n.net n.journal job.strand job.place job.seen job.stage given bytes its_bytes done.stage w resumed))) resumes

@@ -1,5 +1,5 @@
 -- How what is kept of a strand changes when its coroutine goes out, comes back, or goes on in place.
-use Rattle.std.specs.Prelude.{◌||◌, Bool, true, false, ◌==◌, ℕ, List, [], Option, Some, None}
+use Rattle.std.specs.Prelude.{◌||◌, Bool, true, false, ◌==◌, ℕ, List, [], Option, Some, None, map, slice_index_or}
 use Rattle.std.specs.Option.{option_map_or}
 use Rattle.pipe_model.specs.declared.step.Seen.{Seen}
 use Rattle.pipe_model.specs.declared.step.Seen.TheVariants.{Saw, SawEnd}
@@ -33,6 +33,10 @@ given_up actor = record { stage = None; asked = actor.asked; looks = actor.looks
 -- it asks for this
 abbrev pub asking_for : {S : Type 0} → Want → Actor S → Actor S
 asking_for asked actor = record { stage = actor.stage; asked = asked; looks = actor.looks; saw_end = actor.saw_end }
+
+-- the strand of these is given the bytes of what it sees
+abbrev pub looks_in : {S : Type 0} → List (Actor S) → ℕ → Bool
+looks_in {S} actors s = slice_index_or (map (λ (actor : Actor S). actor.looks) actors) s false
 
 -- the bytes that go with what a strand was told last: those of the record that it saw, where it looks
 abbrev pub bytes_told : Bool → DeskState → List (Option Held) → ℕ → Seen → List ℕ

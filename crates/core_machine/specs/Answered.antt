@@ -24,17 +24,17 @@ abbrev pub IsLook : Option Event → ℕ → Type 0
 IsLook e n = (i : ℕ) × (rec : List ℕ) × (e ≡ Some (Saw i rec)) × (length rec ≡ n)
 
 -- what a turn answers, from the core and the room before it to those after it; the room holds so many bytes without growing
-abbrev pub TurnedAs : {S : Type 0} → (S → Strand → List Event → Type 0) → (S → Bool) → Machine → Who → ℕ → ℕ → Turned S → Machine → List ℕ → Type 0
-TurnedAs stands is_looking m s k room Broken n bytes = (m.is_broken ≡ true) × (n ≡ m)
-TurnedAs stands is_looking m s k room NotReady n bytes = (m.is_broken ≡ false) × (licence_of m s k ≡ None) × (n ≡ m)
-TurnedAs stands is_looking m s k room Spent n bytes =
+abbrev pub TurnedAs : {S : Type 0} → (S → Strand → List Event → Type 0) → Machine → Who → ℕ → ℕ → Turned S → Machine → List ℕ → Type 0
+TurnedAs stands m s k room Broken n bytes = (m.is_broken ≡ true) × (n ≡ m)
+TurnedAs stands m s k room NotReady n bytes = (m.is_broken ≡ false) × (licence_of m s k ≡ None) × (n ≡ m)
+TurnedAs stands m s k room Spent n bytes =
     (m.is_broken ≡ false) × (is_some (licence_of m s k) ≡ true) × (length m.journal ≡ m.budget) × (n ≡ m)
-TurnedAs stands is_looking m s k room (Room size) n bytes =
-    (m.is_broken ≡ false) × (looks_at m.looking s ≡ true) × IsLook (licence_of m s k) size × (length m.journal < m.budget) × (room < size) × (n ≡ m)
-TurnedAs stands is_looking m s k room (Work job) n bytes =
+TurnedAs stands m s k room (Room size) n bytes =
+    (m.is_broken ≡ false) × (looks_at m.net s ≡ true) × IsLook (licence_of m s k) size × (length m.journal < m.budget) × (room < size) × (n ≡ m)
+TurnedAs stands m s k room (Work job) n bytes =
     (m.is_broken ≡ false) × (length m.journal < m.budget) × (n ≡ turned m (record { strand = s; stream = k }))
-    × (job.strand ≡ s) × JobStands stands is_looking n.net n.looking n.journal job.strand job.place job.seen job.stage
-    × ((e : Event) × (licence_of m s k ≡ Some e) × (bytes ≡ bytes_with (looks_at m.looking s) e))
+    × (job.strand ≡ s) × JobStands stands n.net n.journal job.strand job.place job.seen job.stage
+    × ((e : Event) × (licence_of m s k ≡ Some e) × (bytes ≡ bytes_with (looks_at m.net s) e))
 
 -- the turn gives no job
 abbrev pub IsRefusal : {S : Type 0} → Turned S → Type 0
@@ -84,7 +84,6 @@ pub record HasBroken (m n : Machine) : Type 0 where
   pub broken : n.is_broken ≡ true
   pub net : n.net ≡ m.net
   pub budget : n.budget ≡ m.budget
-  pub looking : n.looking ≡ m.looking
   pub longer : IsLonger m.journal n.journal
 
 -- how a run ended

@@ -1,5 +1,5 @@
 -- What a job that is out stands for, and what it stands for when its coroutine went on.
-use Rattle.std.specs.Prelude.{◌≡◌, ℕ, ◌<◌, Bool, true, false, List, [], ◌∷◌, ◌++◌, length, Some}
+use Rattle.std.specs.Prelude.{◌≡◌, ℕ, ◌<◌, true, false, List, [], ◌∷◌, ◌++◌, length, Some}
 use Rattle.pipe_model.specs.declared.net.Net.{Net}
 use Rattle.pipe_model.specs.declared.net.Strand.{Strand}
 use Rattle.pipe_model.specs.declared.step.Entry.{Entry}
@@ -11,9 +11,9 @@ use Rattle.pipe_model.specs.State.{Who, past, strand_at, nothing_yet}
 use Rattle.pipe_model.specs.Licence.{licence, none_left}
 use Rattle.pipe_model.specs.Play.{play}
 use Rattle.stage_steps.specs.Coroutine.{told, meaning, last_seen}
-use Rattle.core_machine.specs.Machine.{is_at, looks_at}
+use Rattle.core_machine.specs.Machine.{is_at}
 
-module _ {S : Type 0} (stands : S → Strand → List Event → Type 0) (is_looking : S → Bool) (net : Net) (looking : List Bool) (journal : List Entry) where
+module _ {S : Type 0} (stands : S → Strand → List Event → Type 0) (net : Net) (journal : List Entry) where
   -- a job stands for the last entry: its coroutine for the strand's history before it, and what it is told is that entry's event
   pub record JobStands (strand : Who) (place : ℕ) (seen : Seen) (stage : S) : Type 0 where
     pub place_is : place ≡ length journal
@@ -25,7 +25,6 @@ module _ {S : Type 0} (stands : S → Strand → List Event → Type 0) (is_look
     pub licensed : licence net (play net before) none_left strand entry.stream ≡ Some event
     pub seen_is : told event ≡ seen
     pub stood : (p : Strand) → strand_at net nothing_yet strand ≡ Some p → stands stage p (past (play net before) strand)
-    pub looks : is_looking stage ≡ looks_at looking strand
     pub room : length (past (play net before) strand) < 50000000
 
   -- a job whose coroutine went on: it stands for the strand's history with the entry, and asks for what the strand wants now
@@ -33,6 +32,5 @@ module _ {S : Type 0} (stands : S → Strand → List Event → Type 0) (is_look
     pub place_is : place ≡ length journal
     pub mine : is_at journal strand place ≡ true
     pub stood : (p : Strand) → strand_at net nothing_yet strand ≡ Some p → stands stage p (past (play net journal) strand)
-    pub looks : is_looking stage ≡ looks_at looking strand
     pub asks : (p : Strand) → strand_at net nothing_yet strand ≡ Some p → has_ended (past (play net journal) strand) ≡ false →
         Some (meaning want (last_seen (past (play net journal) strand))) ≡ next p (past (play net journal) strand)

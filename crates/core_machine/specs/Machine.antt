@@ -1,10 +1,13 @@
 -- What a core stands for, and which strands are out.
-use Rattle.std.specs.Prelude.{◌≡◌, ℕ, zero, suc, ◌≤◌, ◌==◌, Bool, true, false, not, List, [], ◌∷◌, ◌++◌, length, Option, Some, None, slice_get, filter, slice_index_or}
+use Rattle.std.specs.Prelude.{◌≡◌, ℕ, zero, suc, ◌≤◌, ◌==◌, Bool, true, false, not, List, [], ◌∷◌, ◌++◌, length, Option, Some, None, slice_get, filter}
 use Rattle.std.specs.List.{list_any}
+use Rattle.std.specs.Option.{option_map_or}
 use Rattle.pipe_model.specs.declared.net.Net.{Net}
+use Rattle.pipe_model.specs.declared.net.Strand.{Strand}
 use Rattle.pipe_model.specs.declared.step.Entry.{Entry}
 use Rattle.pipe_model.specs.Event.{Event, Want}
-use Rattle.pipe_model.specs.State.{Who, State}
+use Rattle.pipe_model.specs.State.{Who, State, nothing_yet, strand_at}
+use Rattle.pipe_model.specs.Table.{form}
 use Rattle.pipe_model.specs.Licence.{Left, licence, want_at}
 use Rattle.pipe_model.specs.Play.{play, IsLegal}
 
@@ -12,8 +15,6 @@ pub record Machine : Type 0 where
   pub net : Net
   -- the most entries of the journal
   pub budget : ℕ
-  -- which strands are given the bytes of what they see
-  pub looking : List Bool
   pub journal : List Entry
   -- the places of the jobs that are out, counted from 1
   pub out : List ℕ
@@ -52,9 +53,9 @@ licence_of m s k = licence m.net (state_of m) (left_by m.journal m.out) s k
 abbrev pub want_of : Machine → Who → Option Want
 want_of m s = want_at m.net (state_of m) (left_by m.journal m.out) s
 
--- the strand is given the bytes of what it sees
-abbrev pub looks_at : List Bool → Who → Bool
-looks_at looking s = slice_index_or looking s false
+-- the strand is given the bytes of what it sees, where the stage table says that it looks
+abbrev pub looks_at : Net → Who → Bool
+looks_at net s = option_map_or (λ (p : Strand). (form p).looks) (strand_at net nothing_yet s) false
 
 -- no strand is out, and none may have an event
 abbrev pub HasStopped : Machine → Type 0
@@ -67,8 +68,8 @@ pub record IsLawful (m : Machine) : Type 0 where
   pub bounded : m.budget ≤ 50000000
 
 -- a core before the first step
-abbrev pub started : Net → ℕ → List Bool → Machine
-started net budget looking = record { net = net; budget = budget; looking = looking; journal = []; out = []; is_broken = false }
+abbrev pub started : Net → ℕ → Machine
+started net budget = record { net = net; budget = budget; journal = []; out = []; is_broken = false }
 
 -- after one more entry, whose strand is out
 abbrev pub turned : Machine → Entry → Machine

@@ -1,10 +1,11 @@
 -- What a core keeps: its coroutines, its desk and its pool stand for its journal and the jobs that are out.
-use Rattle.std.specs.Prelude.{◌≡◌, ℕ, ◌<◌, ◌≤◌, Bool, true, false, List, [], ◌∷◌, length, Option, Some, slice_get, take, is_some}
+use Rattle.std.specs.Prelude.{◌≡◌, ℕ, ◌<◌, ◌≤◌, true, false, List, [], ◌∷◌, length, Option, Some, slice_get, take, is_some}
 use Rattle.pipe_model.specs.declared.net.Net.{Net}
 use Rattle.pipe_model.specs.declared.net.Strand.{Strand}
 use Rattle.pipe_model.specs.declared.step.Entry.{Entry}
 use Rattle.pipe_model.specs.Event.{Event, Want, has_seen_end}
 use Rattle.pipe_model.specs.State.{Who, past, strand_at}
+use Rattle.pipe_model.specs.Table.{form}
 use Rattle.pipe_model.specs.Licence.{want_at}
 use Rattle.pipe_model.specs.Play.{play, IsLegal}
 use Rattle.pipe_model.specs.WellFormed.{IsWellFormed}
@@ -34,21 +35,21 @@ AreApart journal [] = Unit {0}
 AreApart journal (p ∷ ps) = ((s : Who) → is_at journal s p ≡ true → left_by journal ps s ≡ false) × AreApart journal ps
 
 -- what is kept of a strand is that of its history, and of its want where it is home
-pub record IsActor {S : Type 0} (stands : S → Strand → List Event → Type 0) (is_looking : S → Bool) (h : List Event) (want : Option Want) (p : Strand) (actor : Actor S) : Type 0 where
+pub record IsActor {S : Type 0} (stands : S → Strand → List Event → Type 0) (h : List Event) (want : Option Want) (p : Strand) (actor : Actor S) : Type 0 where
   pub saw_end : actor.saw_end ≡ has_seen_end 0 h
   pub asked : (w : Want) → want ≡ Some w → Shows h actor.asked w
   pub stands_for : (stage : S) → actor.stage ≡ Some stage → stands stage p h
-  pub looks : (stage : S) → actor.stage ≡ Some stage → is_looking stage ≡ actor.looks
+  pub looks : actor.looks ≡ (form p).looks
 
 -- every strand has an actor, whose coroutine is there unless the strand is out
-pub record AreActors {S : Type 0} (stands : S → Strand → List Event → Type 0) (is_looking : S → Bool) (net : Net) (journal : List Entry) (out : List ℕ) (actors : List (Actor S)) : Type 0 where
+pub record AreActors {S : Type 0} (stands : S → Strand → List Event → Type 0) (net : Net) (journal : List Entry) (out : List ℕ) (actors : List (Actor S)) : Type 0 where
   pub count : length actors ≡ length net.strands
   pub each : (s : Who) (p : Strand) (actor : Actor S) → strand_at net (play net journal) s ≡ Some p → slice_get actors s ≡ Some actor →
-      IsActor stands is_looking (past (play net journal) s) (want_at net (play net journal) (left_by journal out) s) p actor
+      IsActor stands (past (play net journal) s) (want_at net (play net journal) (left_by journal out) s) p actor
   pub home : (s : Who) (actor : Actor S) → slice_get actors s ≡ Some actor → left_by journal out s ≡ false → is_some actor.stage ≡ true
 
 -- all that a core keeps
-pub record IsSound {S : Type 0} (stands : S → Strand → List Event → Type 0) (is_looking : S → Bool) (net : Net) (budget : ℕ) (journal : List Entry) (out : List ℕ) (actors : List (Actor S)) (d : DeskState) (places : List (Option Held)) (ready : Members) : Type 0 where
+pub record IsSound {S : Type 0} (stands : S → Strand → List Event → Type 0) (net : Net) (budget : ℕ) (journal : List Entry) (out : List ℕ) (actors : List (Actor S)) (d : DeskState) (places : List (Option Held)) (ready : Members) : Type 0 where
   pub formed : IsWellFormed net
   pub few : length net.links < 2147483648
   pub legal : IsLegal net journal
@@ -57,6 +58,6 @@ pub record IsSound {S : Type 0} (stands : S → Strand → List Event → Type 0
   pub last : AreLast net journal out
   pub apart : AreApart journal out
   pub run : IsRun net (play net journal) (left_by journal out) d places
-  pub strands : AreActors stands is_looking net journal out actors
+  pub strands : AreActors stands net journal out actors
   pub size : ready.size ≡ length net.strands
   pub covers : IsCovering d ready

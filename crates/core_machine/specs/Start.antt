@@ -1,11 +1,11 @@
 -- What a core is started with, and how far its strands have come while it starts.
-use Rattle.std.specs.Prelude.{◌≡◌, ℕ, ◌<◌, Bool, false, List, [], length, slice_get, Option, Some}
+use Rattle.std.specs.Prelude.{◌≡◌, ℕ, ◌<◌, false, List, [], ◌∷◌, length, slice_get, Option, Some}
 use Rattle.pipe_model.specs.declared.net.Net.{Net}
 use Rattle.pipe_model.specs.declared.net.Link.{Link}
 use Rattle.pipe_model.specs.declared.net.Strand.{Strand}
-use Rattle.pipe_model.specs.declared.step.Want.TheVariants as Ask
 use Rattle.pipe_model.specs.Event.{Event}
 use Rattle.pipe_model.specs.State.{Who, nothing_yet, strand_at}
+use Rattle.pipe_model.specs.Table.{form}
 use Rattle.pipe_model.specs.Licence.{want_at}
 use Rattle.record_pool.specs.declared.pool.Held.{Held}
 use Rattle.run_desk.specs.Desk.{DeskState}
@@ -24,17 +24,25 @@ pub record AreFresh {S : Type 0} (stands : S → Strand → List Event → Type 
   pub count : length stages ≡ length strands
   pub each : (s : ℕ) (p : Strand) (stage : S) → slice_get strands s ≡ Some p → slice_get stages s ≡ Some stage → stands stage p []
 
--- what is kept of a strand before it has asked for anything
-abbrev pub new_actor : {S : Type 0} → (S → Bool) → S → Actor S
-new_actor is_looking stage = record { stage = Some stage; asked = Ask.Any; looks = is_looking stage; saw_end = false }
+-- what is kept of a fresh coroutine before it has asked for anything
+pub record IsNew {S : Type 0} (stands : S → Strand → List Event → Type 0) (stage : S) (actor : Actor S) : Type 0 where
+  pub stage_is : actor.stage ≡ Some stage
+  pub looks : (p : Strand) → stands stage p [] → actor.looks ≡ (form p).looks
+  pub saw_end : actor.saw_end ≡ false
+
+-- the same of each of these coroutines
+abbrev pub AreNew : {S : Type 0} → (S → Strand → List Event → Type 0) → List S → List (Actor S) → Type 0
+AreNew stands [] [] = Unit {0}
+AreNew stands (stage ∷ stages) (actor ∷ actors) = IsNew stands stage actor × AreNew stands stages actors
+AreNew stands _ _ = ⊥
 
 -- the strands below a number have asked for what they want first, and the others are out
-pub record IsCalled {S : Type 0} (stands : S → Strand → List Event → Type 0) (is_looking : S → Bool) (net : Net) (s : Who) (actors : List (Actor S)) (d : DeskState) (places : List (Option Held)) (ready : Members) : Type 0 where
+pub record IsCalled {S : Type 0} (stands : S → Strand → List Event → Type 0) (net : Net) (s : Who) (actors : List (Actor S)) (d : DeskState) (places : List (Option Held)) (ready : Members) : Type 0 where
   pub few : length net.links < 2147483648
   pub run : IsRun net nothing_yet (out_from s (length net.strands)) d places
   pub count : length actors ≡ length net.strands
   pub each : (t : Who) (p : Strand) (actor : Actor S) → strand_at net nothing_yet t ≡ Some p → slice_get actors t ≡ Some actor →
-      IsActor stands is_looking [] (want_at net nothing_yet (out_from s (length net.strands)) t) p actor
+      IsActor stands [] (want_at net nothing_yet (out_from s (length net.strands)) t) p actor
   pub home : (t : Who) (actor : Actor S) → slice_get actors t ≡ Some actor → (stage : S) × (actor.stage ≡ Some stage)
   pub size : ready.size ≡ length net.strands
   pub covers : IsCovering d ready

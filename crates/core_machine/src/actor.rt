@@ -1,11 +1,10 @@
-ghost use Rattle.std.specs.Prelude.{◌≡◌, ◌<◌, ◌||◌, ◌∷◌, ◌++◌, [], ℕ, Some, None, false, length, map, slice_get, slice_set, vec_capacity, IfOk};
+ghost use Rattle.std.specs.Prelude.{◌≡◌, ◌<◌, ◌||◌, ◌∷◌, ◌++◌, [], ℕ, Some, None, length, slice_get, slice_set, vec_capacity, IfOk};
 ghost use Rattle.connectors.specs.WireState.{IsHeldIn};
 ghost use Rattle.pipe_model.specs.declared.step.Want.{Want as Asked};
 ghost use Rattle.run_desk.specs.Moves.{sight_through};
 ghost use Rattle.run_desk.specs.Pure.{in_door};
 ghost use Rattle.stage_steps.specs.Coroutine.{CanResume, Resumes};
-ghost use Rattle.core_machine.specs.Actors.{is_end, gone_out, come_back, gone_on, given_up, bytes_told};
-ghost use Rattle.core_machine.specs.Machine.{looks_at};
+ghost use Rattle.core_machine.specs.Actors.{is_end, gone_out, come_back, gone_on, given_up, looks_in, bytes_told};
 ghost use Rattle.core_machine.specs.declared.actor.Actor.{Actor as ActorIs};
 
 use pipe_model::{NoMemory, Seen, Want};
@@ -22,7 +21,7 @@ pub struct Actor<S: Stage> {
     pub stage: Option<S>,
     /// What it asked for last. A new record that it writes is in the pool, and empty here.
     pub asked: Want,
-    /// Whether it is given the bytes of the records that it sees.
+    /// Whether it is given the bytes of the records that it sees, as its coroutine said at the start.
     pub looks: bool,
     /// Whether it has seen the end of input 0.
     pub saw_end: bool,
@@ -59,9 +58,8 @@ pub(crate) fn resume_at<S: Stage>(
     seen: Seen,
     bytes: &[u8],
 ) -> Result<(), NoMemory>
-    requires { (a : ActorIs S) × (x : S) × (slice_get actors.old.items strand ≡ Some a) × (a.stage ≡ Some x) × CanResume S.stands (S.is_looking x) x seen bytes.now }
-    ensures { (a : ActorIs S) × (x : S) × (y : S) × (asked : Asked) × (slice_get actors.old.items strand ≡ Some a) × (a.stage ≡ Some x) × (S.is_looking y ≡ S.is_looking x)
-        × (actors.new.items ≡ slice_set actors.old.items strand (gone_on seen y asked a)) × IfOk result (λ done. Resumes S.stands (S.is_looking x) x y seen bytes.now asked) }
+    requires { (a : ActorIs S) × (x : S) × (slice_get actors.old.items strand ≡ Some a) × (a.stage ≡ Some x) × CanResume S.stands x seen bytes.now }
+    ensures { (a : ActorIs S) × (x : S) × (y : S) × (asked : Asked) × (slice_get actors.old.items strand ≡ Some a) × (a.stage ≡ Some x) × (actors.new.items ≡ slice_set actors.old.items strand (gone_on seen y asked a)) × IfOk result (λ done. Resumes S.stands x y seen bytes.now asked) }
 {
     let actor = &mut actors[strand];
     note_end(actor, seen);
@@ -101,7 +99,7 @@ pub(crate) fn give_up<S: Stage>(
 
 /// Whether the strand is given the bytes of what it sees.
 pub(crate) fn looks<S: Stage>(actors: &[Actor<S>], strand: u32) -> bool
-    ensures { result ≡ looks_at (map (λ (actor : ActorIs S). actor.looks) actors.now) strand }
+    ensures { result ≡ looks_in actors.now strand }
 {
     match actors.get(strand as usize) {
         None => false,

@@ -30,16 +30,15 @@ pub struct Core<S: Stage> {
 }
 
 impl<S: Stage> Model for Core<S> {
-    ghost use Rattle.std.specs.Prelude.{◌≡◌, ◌≤◌, length, map, vec_capacity};
-    ghost use Rattle.core_machine.specs.declared.actor.Actor.{Actor as ActorIs};
+    ghost use Rattle.std.specs.Prelude.{◌≤◌, length, vec_capacity};
     ghost use Rattle.core_machine.specs.Machine.{Machine};
     ghost use Rattle.core_machine.specs.Sound.{IsSound};
 
     ghost Value = { Machine };
 
-    ghost view = { λ c. record { net = c.net; budget = c.budget; looking = map (λ (actor : ActorIs S). actor.looks) c.actors.items; journal = c.journal.items; out = c.out.items; is_broken = c.is_broken } };
+    ghost view = { λ c. record { net = c.net; budget = c.budget; journal = c.journal.items; out = c.out.items; is_broken = c.is_broken } };
 
-    ghost invariant = { λ c. IsSound S.stands S.is_looking c.net c.budget c.journal.items c.out.items c.actors.items c.desk c.pool c.ready × (c.budget ≤ vec_capacity c.journal) × (length c.net.strands ≤ vec_capacity c.out) };
+    ghost invariant = { λ c. IsSound S.stands c.net c.budget c.journal.items c.out.items c.actors.items c.desk c.pool c.ready × (c.budget ≤ vec_capacity c.journal) × (length c.net.strands ≤ vec_capacity c.out) };
 }
 
 impl<S: Stage> Core<S> {
@@ -62,7 +61,7 @@ impl<S: Stage> Core<S> {
     /// comes home by `finish`. `room` then holds the record where the strand looks and saw one, and is empty otherwise.
     /// On another answer nothing changes. It takes no memory.
     pub fn turn(&mut self, strand: u32, stream: u16, room: &mut Vec<u8>) -> Turned<S>
-        ensures turned { TurnedAs S.stands S.is_looking self.old strand stream (vec_capacity room.old) result self.new room.new.items }
+        ensures turned { TurnedAs S.stands self.old strand stream (vec_capacity room.old) result self.new room.new.items }
         ensures room { IsRefusal result → room.new.items ≡ room.old.items }
         ensures lawful { IsLawful self.new }
     {
@@ -90,7 +89,7 @@ impl<S: Stage> Core<S> {
     /// that its cost doesn't grow.
     pub fn finish(&mut self, done: Finished<S>) -> Result<(), NoMemory>
         requires among { is_among done.place self.old.out ≡ true }
-        requires stands { IfOk done.want (λ want. DoneStands S.stands S.is_looking self.old.net self.old.looking (take done.place self.old.journal) done.strand done.place done.stage want) }
+        requires stands { IfOk done.want (λ want. DoneStands S.stands self.old.net (take done.place self.old.journal) done.strand done.place done.stage want) }
         ensures whole { OnOk result (self.old.is_broken ≡ false) }
         ensures home { OnOk result (self.new ≡ came_home self.old done.place) }
         ensures broken { OnErr result (self.new ≡ broke_down self.old) }
@@ -124,7 +123,7 @@ impl<S: Stage> Core<S> {
         ensures after { self.new ≡ turned self.old (record { strand = strand; stream = stream }) }
         ensures strand { result.strand ≡ strand }
         ensures seen { result.seen ≡ seen }
-        ensures job { JobStands S.stands S.is_looking self.new.net self.new.looking self.new.journal result.strand result.place result.seen result.stage }
+        ensures job { JobStands S.stands self.new.net self.new.journal result.strand result.place result.seen result.stage }
     {
         let stage = send_out(&mut self.actors, strand as usize, seen);
         move_out(
@@ -155,7 +154,7 @@ impl<S: Stage> Core<S> {
         mut want: Want,
     ) -> Result<(), NoMemory>
         requires among { is_among place self.old.out ≡ true }
-        requires stands { DoneStands S.stands S.is_looking self.old.net self.old.looking (take place self.old.journal) strand place stage want }
+        requires stands { DoneStands S.stands self.old.net (take place self.old.journal) strand place stage want }
         ensures home { OnOk result (self.new ≡ came_home self.old place) }
         ensures err { OnErr result (self.new ≡ self.old) }
     {
@@ -177,7 +176,7 @@ impl<S: Stage> Core<S> {
 
     // The number of bytes of the record that the strand would see, where it looks.
     fn size_of_look(&self, strand: u32, seen: Seen) -> usize
-        ensures { (k : ℕ) (e : Event) → licence_of self.now strand k ≡ Some e → told e ≡ seen → result ≡ length (bytes_with (looks_at self.now.looking strand) e) }
+        ensures { (k : ℕ) (e : Event) → licence_of self.now strand k ≡ Some e → told e ≡ seen → result ≡ length (bytes_with (looks_at self.now.net strand) e) }
     {
         match seen {
             Seen::Saw(i) if self.looks(strand) => self.desk.size_at_hand(&self.pool, strand, i),
@@ -187,13 +186,13 @@ impl<S: Stage> Core<S> {
 
     // The bytes that go with the last event of a strand that is out.
     fn bytes_seen(&self, strand: u32, seen: Seen) -> &[u8]
-        ensures { (e : Event) (h : List Event) → past (state_of self.now) strand ≡ e ∷ h → has_ended h ≡ false → told e ≡ seen → result.now ≡ bytes_with (looks_at self.now.looking strand) e }
+        ensures { (e : Event) (h : List Event) → past (state_of self.now) strand ≡ e ∷ h → has_ended h ≡ false → told e ≡ seen → result.now ≡ bytes_with (looks_at self.now.net strand) e }
     {
         bytes_told(self.looks(strand), &self.desk, &self.pool, strand, seen)
     }
 
     fn looks(&self, strand: u32) -> bool
-        ensures { result ≡ looks_at self.now.looking strand }
+        ensures { result ≡ looks_at self.now.net strand }
     {
         looks(&self.actors, strand)
     }

@@ -56,12 +56,11 @@ impl<S: Stage> Job<S> {
     /// Goes on with the coroutine. `bytes` is the record where the job saw one and the strand looks, else empty. It may
     /// be done on any thread.
     pub fn run(self, alloc: Global, bytes: &[u8]) -> Finished<S>
-        requires { CanResume S.stands (S.is_looking self.stage) self.stage self.seen bytes.now }
+        requires { CanResume S.stands self.stage self.seen bytes.now }
         ensures strand { result.strand ≡ self.strand }
         ensures place { result.place ≡ self.place }
         ensures seen { result.seen ≡ self.seen }
-        ensures looks { S.is_looking result.stage ≡ S.is_looking self.stage }
-        ensures resumes { IfOk result.want (λ want. Resumes S.stands (S.is_looking self.stage) self.stage result.stage self.seen bytes.now want) }
+        ensures resumes { IfOk result.want (λ want. Resumes S.stands self.stage result.stage self.seen bytes.now want) }
     {
         let Job {
             strand,

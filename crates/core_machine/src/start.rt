@@ -1,5 +1,5 @@
 //! The core before the first step.
-ghost use Rattle.std.specs.Prelude.{◌≡◌, ◌<◌, ◌≤◌, ◌+◌, [], Some, length, map, slice_get, slice_set, IfOk, OnErr};
+ghost use Rattle.std.specs.Prelude.{◌≡◌, ◌<◌, ◌≤◌, ◌+◌, [], Some, length, slice_get, slice_set, IfOk, OnErr};
 ghost use Rattle.pipe_model.specs.declared.net.Strand.{Strand as StrandIs};
 ghost use Rattle.pipe_model.specs.Next.{next};
 ghost use Rattle.pipe_model.specs.WellFormed.{IsWellFormed};
@@ -7,7 +7,7 @@ ghost use Rattle.run_desk.specs.Order.{IsPooled};
 ghost use Rattle.stage_steps.specs.Coroutine.{meaning, last_seen};
 ghost use Rattle.core_machine.specs.declared.actor.Actor.{Actor as ActorIs};
 ghost use Rattle.core_machine.specs.Actors.{asking_for};
-ghost use Rattle.core_machine.specs.Start.{IsCalled, new_actor};
+ghost use Rattle.core_machine.specs.Start.{IsNew, AreNew, IsCalled};
 
 use crate::actor::Actor;
 use crate::core_state::Core;
@@ -21,7 +21,7 @@ use stage_steps::Stage;
 use std::alloc::Global;
 
 impl<S: Stage> Core<S> {
-    ghost use Rattle.std.specs.Prelude.{◌≡◌, ◌≤◌, map, IfOk};
+    ghost use Rattle.std.specs.Prelude.{◌≡◌, ◌≤◌, IfOk};
     ghost use Rattle.pipe_model.specs.WellFormed.{IsWellFormed};
     ghost use Rattle.core_machine.specs.Machine.{started};
     ghost use Rattle.core_machine.specs.Start.{AreFresh, HasNoQueue};
@@ -34,7 +34,7 @@ impl<S: Stage> Core<S> {
         requires rendezvous { HasNoQueue net }
         requires fresh { AreFresh S.stands net.strands stages.items }
         requires bounded { budget ≤ 50000000 }
-        ensures { IfOk result (λ core. core ≡ started net budget (map S.is_looking stages.items)) }
+        ensures { IfOk result (λ core. core ≡ started net budget) }
     {
         let strands = net.strands.as_slice().len();
         if net.links.as_slice().len() >= 2_147_483_648 {
@@ -67,7 +67,7 @@ impl<S: Stage> Core<S> {
 
 // The actors of fresh coroutines, which have asked for nothing yet.
 fn new_actors<S: Stage>(alloc: Global, stages: Vec<S>) -> Result<Vec<Actor<S>>, NoMemory>
-    ensures { IfOk result (λ actors. actors.items ≡ map (new_actor S.is_looking) stages.items) }
+    ensures { IfOk result (λ actors. AreNew S.stands stages.items actors.items) }
 {
     let mut actors = Vec::with_capacity(alloc, stages.len())?;
     for stage in stages {
@@ -77,7 +77,7 @@ fn new_actors<S: Stage>(alloc: Global, stages: Vec<S>) -> Result<Vec<Actor<S>>, 
 }
 
 fn new_actor<S: Stage>(stage: S) -> Actor<S>
-    ensures { result ≡ new_actor S.is_looking stage }
+    ensures { IsNew S.stands stage result }
 {
     let looks = stage.looks();
     Actor {
@@ -97,10 +97,9 @@ fn call_all<S: Stage>(
     actors: &mut Vec<Actor<S>>,
 ) -> Result<(), NoMemory>
     requires formed { IsWellFormed net.now }
-    requires called { IsCalled S.stands S.is_looking net.now 0 actors.old.items desk.old pool.old ready.old }
-    ensures called { IfOk result (λ done. IsCalled S.stands S.is_looking net.now (length net.now.strands) actors.new.items desk.new pool.new ready.new) }
+    requires called { IsCalled S.stands net.now 0 actors.old.items desk.old pool.old ready.old }
+    ensures called { IfOk result (λ done. IsCalled S.stands net.now (length net.now.strands) actors.new.items desk.new pool.new ready.new) }
     ensures pooled { OnErr result (IsPooled desk.new.wires desk.new.sights pool.new) }
-    ensures looks { map (λ (actor : ActorIs S). actor.looks) actors.new.items ≡ map (λ (actor : ActorIs S). actor.looks) actors.old.items }
 {
     let count = actors.len() as u32;
     let mut strand = 0;
@@ -122,10 +121,9 @@ fn call<S: Stage>(
 ) -> Result<(), NoMemory>
     requires formed { IsWellFormed net.now }
     requires within { strand < length net.now.strands }
-    requires called { IsCalled S.stands S.is_looking net.now strand actors.old.items desk.old pool.old ready.old }
-    ensures called { IfOk result (λ done. IsCalled S.stands S.is_looking net.now (strand + 1) actors.new.items desk.new pool.new ready.new) }
+    requires called { IsCalled S.stands net.now strand actors.old.items desk.old pool.old ready.old }
+    ensures called { IfOk result (λ done. IsCalled S.stands net.now (strand + 1) actors.new.items desk.new pool.new ready.new) }
     ensures pooled { OnErr result (IsPooled desk.new.wires desk.new.sights pool.new) }
-    ensures looks { map (λ (actor : ActorIs S). actor.looks) actors.new.items ≡ map (λ (actor : ActorIs S). actor.looks) actors.old.items }
 {
     let mut want = first_want(actors, strand as usize);
     wake(ready, strand);

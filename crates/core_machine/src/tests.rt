@@ -1,4 +1,4 @@
-ghost use Rattle.std.specs.Prelude.{◌≡◌, ◌<◌, ◌≤◌, ◌^◌, List, Bool, length, IfOk};
+ghost use Rattle.std.specs.Prelude.{◌≡◌, ◌<◌, ◌≤◌, ◌^◌, length, IfOk};
 ghost use Rattle.confluence_laws.specs.Examples.{strand, filtering, link, locate};
 ghost use Rattle.core_machine.specs.Machine.{started};
 
@@ -99,7 +99,7 @@ const fn rendezvous(from: u32, to: u32) -> Link
 // A core of `console | locate /b/ | console` on three records, before its first step.
 fn filtering_core(alloc: Global, budget: u64) -> Result<Core<FirstStage>, NoMemory>
     requires { budget ≤ 50000000 }
-    ensures { IfOk result (λ core. (looking : List Bool) × (core ≡ started filtering budget looking)) }
+    ensures { IfOk result (λ core. core ≡ started filtering budget) }
 {
     let bytes = Rec::from_slice(alloc, b"ab\ncd\nb")?;
     let reader = strand(alloc, 0, Kind::ConsoleIn { bytes }, &[], &[true])?;

@@ -10,7 +10,7 @@ use Rattle.pipe_model.specs.Row.{Row}
 use Rattle.pipe_model.specs.Row.Act.{Writes, Repeats, Takes}
 use Rattle.pipe_model.specs.Row.Goal.{Asks, Ends}
 use Rattle.pipe_model.specs.Table.{form}
-use Rattle.pipe_model.specs.Next.{Phase, Past, after, want_in, next, known_after, first_phase, is_refused, begins_plan, doing, IsOwn}
+use Rattle.pipe_model.specs.Next.{Phase, Past, after, want_in, next, known_after, refused_after, gives_up, after_answer, first_phase, is_refused, begins_plan, doing, IsOwn}
 use Rattle.pipe_model.specs.Next.Phase.{Starting, Doing, Lost}
 use Rattle.confluence_laws.proofs.Fitting.{past_of, still_wants, stands_for}
 
@@ -35,8 +35,9 @@ awaits_step w outputs p (Starting (pos zero)) h _ at it is = cc
 awaits_step w outputs p (Starting (negsuc (suc n))) h e at it is = absurd is
 awaits_step w outputs p (Starting (pos (suc n))) h e at it is = absurd is
 awaits_step w outputs p (Doing [] (Asks want)) h e at it is =
-    let now = known_after p.known e in
-    subst (λ b. Awaits (cond b (record { known = now; refused = p.refused; phase = begins_plan outputs p.refused (w.plan now) }) (record p { phase = Lost })).phase (e ∷ h)) (sym it) tt
+    let next = begins_plan outputs (refused_after p.refused e) (w.plan (known_after p.known e)) in
+    subst (λ b. Awaits (cond b (after_answer w outputs p e) (record p { phase = Lost })).phase (e ∷ h)) (sym it)
+    (elim (gives_up w outputs (refused_after p.refused e) e) as (λ b. Awaits (cond b (Doing [] (Ends (pos 0))) next) (e ∷ h)) [ true ↦ tt | false ↦ tt ])
 awaits_step w outputs p (Doing [] (Ends code)) h e at it is = tt
 awaits_step w outputs p (Doing (Writes o rec ∷ acts) goal) h (Put o' rec') at it is = tt
 awaits_step w outputs p (Doing (Writes o rec ∷ acts) goal) h (Refused o') at it is = elim (w.yields && is_refused outputs (o' ∷ p.refused)) as (λ b. Awaits (cond b (Doing [] (Ends (pos 0))) (doing outputs (o' ∷ p.refused) acts goal)) (Refused o' ∷ h)) [ true ↦ tt | false ↦ tt ]

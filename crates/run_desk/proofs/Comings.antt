@@ -14,6 +14,10 @@ use Rattle.pipe_model.specs.Event.{has_ended}
 use Rattle.pipe_model.specs.Event.Want.{Commit, Write}
 use Rattle.pipe_model.specs.Next.{next, IsOwn}
 use Rattle.pipe_model.specs.Members.{flag_at, has}
+use Rattle.pipe_model.specs.Row.{Known}
+use Rattle.pipe_model.specs.Shape.{Shape}
+use Rattle.pipe_model.specs.Shape.Shape.{Absent, Sources, Lists, Sinks, Firsts, Turns, Rounds, Gates, Dams, Queues}
+use Rattle.pipe_model.specs.Table.{line_of}
 use Rattle.pipe_model.specs.State.{Who, State, past, strand_at, link_out}
 use Rattle.pipe_model.specs.Licence.{Left, want_after, want_at, offered}
 use Rattle.pipe_model.specs.WellFormed.{IsWellFormed}
@@ -22,6 +26,7 @@ use Rattle.record_pool.specs.declared.pool.Held.{Held}
 use Rattle.record_pool.specs.Places.{bytes_at}
 use Rattle.commit_levels.specs.UnitState.{IsLevel}
 use Rattle.confluence_laws.proofs.Basics.{both, at_some, at_place, from_out}
+use Rattle.confluence_laws.proofs.Facts.{asking}
 use Rattle.confluence_laws.proofs.Fitting.{past_of, wants_write, stands_for}
 use Rattle.run_desk.specs.declared.seat.Ask.TheVariants as Now
 use Rattle.run_desk.specs.Desk.{DeskState}
@@ -42,6 +47,19 @@ no_offer : (texts : ℕ → List ℕ) (x : Option ℕ) → option_map texts x �
 no_offer texts None e = refl
 no_offer texts (Some g) e = cc
 
+-- no strand waits for the answer to a write
+asks_no_write : (s : Strand) (shape : Shape) (k : Known) (o : ℕ) (rec : List ℕ) → asking s shape k (Write o rec) → ⊥
+asks_no_write s Absent k o rec asked = asked
+asks_no_write s (Sources pairs) k o rec asked = asked
+asks_no_write s (Lists order t) k o rec asked = let z = asked.want_is in cc
+asks_no_write s (Sinks keeping) k o rec asked = let z = asked.want_is in cc
+asks_no_write s (Firsts width settles outs) k o rec asked = let z = asked.want_is in cc
+asks_no_write s (Turns width t) k o rec asked = let z = asked.want_is in cc
+asks_no_write s (Rounds width t) k o rec asked = let z = asked.want_is in cc
+asks_no_write s Gates k o rec asked = let z = asked.want_is in cc
+asks_no_write s Dams k o rec asked = elim asked.want_is [ inl is ↦ cc | inr is ↦ (let z = is.0 in cc) ]
+asks_no_write s Queues k o rec asked = let z = asked.want_is in cc
+
 module _ (net : Net) (st : State) (left : Left) (d : DeskState) (places : List (Option Held)) (formed : IsWellFormed net) (run : IsRun net st left d places) (s : Who) (strand : Strand) (there : strand_at net st s ≡ Some strand) (own : IsOwn strand (past st s)) (out : left s ≡ true) (going : has_ended (past st s) ≡ false) where
   come_to : (level : ℤ) → next strand (past st s) ≡ Some (Commit level) → CanAsk d s (Now.Commit level)
   come_to level wants =
@@ -51,8 +69,10 @@ module _ (net : Net) (st : State) (left : Left) (d : DeskState) (places : List (
   -- whoever writes has a link there
   writes_link : (o : ℕ) (rec : List ℕ) → next strand (past st s) ≡ Some (Write o rec) → is_some (link_out net st s o) ≡ true
   writes_link o rec wants =
-      let writer = wants_write strand (past st s) own o rec wants in
-      sym ((formed.told s strand there).has_output o) ∙ (both (flag_at strand.ports.has_output o) (not (has (past_of strand (past st s)).refused o)) writer.live).0
+      elim (wants_write strand (past st s) own o rec wants) [
+        | inl writer ↦ sym ((formed.told s strand there).has_output o) ∙ (both (flag_at strand.ports.has_output o) (not (has (past_of strand (past st s)).refused o)) writer.live).0
+        | inr asker ↦ absurd (asks_no_write strand (line_of strand.kind).shape (past_of strand (past st s)).known o rec asker.asked)
+      ]
 
   has_wire : (o : ℕ) → is_some (link_out net st s o) ≡ true → IsSome (wire_out d s o)
   has_wire o is = by_door (out_door d s o) (sym (ap is_some (run.kept.laid.out_doors s o)) ∙ is)

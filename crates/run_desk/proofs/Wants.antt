@@ -10,9 +10,8 @@ use Rattle.pipe_model.specs.Event.Want.{Take, Write, Done}
 use Rattle.pipe_model.specs.Next.{next}
 use Rattle.pipe_model.specs.State.{Who, State, past, strand_at, link_out}
 use Rattle.pipe_model.specs.Licence.{Left, want_after, want_at, puts, tooks, is_level, in_closed, may_put, may_refuse, write_answer, answer, licence, sight_of}
-use Rattle.confluence_laws.proofs.Basics.{cond_some, both, same_number, not_ended}
+use Rattle.confluence_laws.proofs.Basics.{cond_some, both, same_number, not_ended, put_asked}
 use Rattle.confluence_laws.proofs.Owns.{answer_fits}
-use Rattle.confluence_laws.proofs.Total.{put_asked}
 
 -- Events and wants
 

@@ -8,7 +8,8 @@ use Rattle.std.specs.declared.option.Option.{Option}
 use Rattle.pipe_model.specs.Ranges.{locates}
 use Rattle.pipe_model.specs.Row.{Pair as RowPair}
 use Rattle.pipe_model.specs.Shape.{Records, copied}
-use Rattle.pipe_model.specs.Table.{selects, line_of, formed}
+use Rattle.pipe_model.specs.Table.{line_of, formed}
+use Rattle.pipe_model.specs.SelectionRows.{selects}
 use Rattle.stage_steps.specs.declared.place.Place.{Place}
 use Rattle.stage_steps.specs.declared.place.Place.TheVariants.{Starting}
 use Rattle.stage_steps.specs.declared.outputs.Pair.{Pair}

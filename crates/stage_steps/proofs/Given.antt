@@ -5,7 +5,7 @@ use Rattle.pipe_model.specs.Event.{Event}
 use Rattle.pipe_model.specs.Event.Event.{Saw}
 use Rattle.pipe_model.specs.Row.{Pair as RowPair}
 use Rattle.pipe_model.specs.Shape.{Records, at_hand_of, copied}
-use Rattle.pipe_model.specs.Table.{selects}
+use Rattle.pipe_model.specs.SelectionRows.{selects}
 use Rattle.stage_steps.specs.declared.outputs.Pair.{Pair}
 use Rattle.stage_steps.specs.Coroutine.{last_seen}
 use Rattle.stage_steps.specs.Walk.{meant}

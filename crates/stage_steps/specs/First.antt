@@ -5,7 +5,7 @@ use Rattle.pipe_model.specs.declared.kind.Kind.{Kind}
 use Rattle.pipe_model.specs.declared.kind.Kind.TheVariants.{ConsoleIn, ConsoleOut, Locate}
 use Rattle.pipe_model.specs.Event.{Event}
 use Rattle.pipe_model.specs.Ranges.{locates}
-use Rattle.pipe_model.specs.Table.{selects}
+use Rattle.pipe_model.specs.SelectionRows.{selects}
 use Rattle.pipe_model.specs.Shape.{copied}
 use Rattle.stage_steps.specs.declared.first.FirstStage.{FirstStage}
 use Rattle.stage_steps.specs.declared.first.FirstStage.TheVariants.{Source, Sink, Locating}

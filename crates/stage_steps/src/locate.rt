@@ -68,7 +68,7 @@ impl Selects {
 
 impl Lists for Selects {
     ghost use Rattle.std.specs.Prelude.{◌≡◌, true};
-    ghost use Rattle.pipe_model.specs.Table.{selects};
+    ghost use Rattle.pipe_model.specs.SelectionRows.{selects};
     ghost use Rattle.pipe_model.specs.Ranges.{locates};
 
     ghost gives = { λ x outs _. outs ≡ selects (locates x.range x.text) };

@@ -20,7 +20,6 @@ returns-in_err-actor g c =
       a.asked,
       at,
       ap (λ (z : Actor g.row.S.Denot). z.stage) (sym c.note_end.ensures) ∙ c.in-Some.is,
-      c.resume.ensures.looks_same,
       ap (λ (z : Actor g.row.S.Denot). slice_set c.args.actors.now.items c.args.strand (record { stage = Some c.resume.new.self; asked = z.asked; looks = z.looks; saw_end = z.saw_end })) c.note_end.ensures,
       none_ok _ c.from_residual.result c.from_residual.ensures.0,
     )
@@ -35,7 +34,6 @@ returns g c =
       c.in_ok-actor.field-0,
       at,
       ap (λ (z : Actor g.row.S.Denot). z.stage) (sym c.note_end.ensures) ∙ c.in-Some.is,
-      c.resume.ensures.looks_same,
       ap (λ (z : Actor g.row.S.Denot). slice_set c.args.actors.now.items c.args.strand (record { stage = Some c.resume.new.self; asked = c.in_ok-actor.field-0; looks = z.looks; saw_end = z.saw_end })) c.note_end.ensures,
-      c.in_ok-actor.ensures.resumes,
+      c.in_ok-actor.ensures,
     )

@@ -1,8 +1,9 @@
--- The actors so far and those to come are the actors of all coroutines.
-use Rattle.std.proofs.Common.{◌≡◌, ◌++◌, map}
+-- The actors so far, with new ones of the coroutines to come, are new ones of all.
+use Rattle.std.proofs.Common.{List, ◌++◌}
 use Rattle.std.specs.Vec.Iter.{into_iter_items}
-use Rattle.core_machine.specs.Start.{new_actor}
+use Rattle.core_machine.specs.declared.actor.Actor.{Actor}
+use Rattle.core_machine.specs.Start.{AreNew}
 use Rattle.core_machine.proofs.start.new_actors.Given as goal
 
 abbrev pub invariant-loop-stage : goal.invariant-loop-stage
-invariant-loop-stage g l = l.actors.items ++ map (new_actor g.S.Stage.is_looking) (into_iter_items l.stage-iterator) ≡ map (new_actor g.S.Stage.is_looking) (into_iter_items l.initial.stage-iterator)
+invariant-loop-stage g l = (more : List (Actor g.row.S.Denot)) → AreNew g.S.Stage.stands (into_iter_items l.stage-iterator) more → AreNew g.S.Stage.stands (into_iter_items l.initial.stage-iterator) (l.actors.items ++ more)

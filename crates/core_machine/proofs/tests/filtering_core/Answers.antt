@@ -1,10 +1,9 @@
 -- The net is a well-formed one, and its core is one that was started with it.
-use Rattle.std.proofs.Common.{rules, ◌≡◌, ℕ, List, Bool, [], ◌∷◌, refl, sym, ◌∙◌, ap, subst, map}
+use Rattle.std.proofs.Common.{rules, ◌≡◌, List, refl, sym, ◌∙◌, ap, subst}
 use Rattle.pipe_model.specs.declared.net.Net.{Net}
 use Rattle.pipe_model.specs.declared.net.Strand.{Strand}
 use Rattle.pipe_model.specs.declared.net.Link.{Link}
 use Rattle.pipe_model.specs.WellFormed.{IsWellFormed}
-use Rattle.stage_steps.specs.First.{first_looks}
 use Rattle.confluence_laws.specs.Examples.{filtering}
 use Rattle.confluence_laws.proofs.Formed.{filtering_formed}
 use Rattle.core_machine.specs.Machine.{started}
@@ -24,5 +23,4 @@ pub returns : goal.returns
 returns c =
     let strands : c.from_vec.result ≡ filtering.strands = search rules in
     let links : c.from_vec-2.result ≡ filtering.links = search rules in
-    let looking : List Bool = map first_looks c.in_ok-stages.stages.items in
-    if_ok c.start.result (λ core is. (looking, is ∙ ap (λ (n : Net). started n c.args.budget looking) (net_is c.from_vec.result c.from_vec-2.result strands links))) c.start.ensures
+    if_ok c.start.result (λ core is. is ∙ ap (λ (n : Net). started n c.args.budget) (net_is c.from_vec.result c.from_vec-2.result strands links)) c.start.ensures

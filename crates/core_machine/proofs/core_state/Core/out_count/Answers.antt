@@ -1,11 +1,10 @@
 use Rattle.std.proofs.Common.{rules, ◌≡◌, ◌≤◌, length, arith}
-use Rattle.core_machine.proofs.Plays.{looks_of}
 use Rattle.core_machine.proofs.Tales.{few_out}
 use Rattle.core_machine.proofs.core_state.Core.out_count.Goals as goal
 
 pub overflow_cast-result : goal.overflow_cast-result
 overflow_cast-result g c =
     let i = c.self.inside in
-    let few : length i.out.items ≤ 65536 = few_out g.S.Stage.stands g.S.Stage.is_looking i.net i.budget i.journal.items i.out.items i.actors.items i.desk i.pool i.ready c.self.invariant.0 (looks_of i.actors.items) i.is_broken in
+    let few : length i.out.items ≤ 65536 = few_out g.S.Stage.stands i.net i.budget i.journal.items i.out.items i.actors.items i.desk i.pool i.ready c.self.invariant.0 i.is_broken in
     let is : c.len.result ≡ length i.out.items = search rules in
     omega (arith, few, is)

@@ -1,13 +1,12 @@
 use Rattle.std.proofs.Common.{◌≡◌, subst}
 use Rattle.core_machine.specs.Answered.{LeastStream}
 use Rattle.core_machine.specs.Machine.{Machine}
-use Rattle.core_machine.proofs.Plays.{looks_of}
 use Rattle.core_machine.proofs.Tales.{stream_is}
 use Rattle.core_machine.proofs.core_state.Core.ready_stream.Goals as goal
 
 pub returns : goal.returns
 returns g c =
     let i = c.self.inside in
-    let v : ◌≡◌ {A = Machine} (record { net = i.net; budget = i.budget; looking = looks_of i.actors.items; journal = i.journal.items; out = i.out.items; is_broken = i.is_broken }) c.args.self.now = c.self.view_is in
+    let v : ◌≡◌ {A = Machine} (record { net = i.net; budget = i.budget; journal = i.journal.items; out = i.out.items; is_broken = i.is_broken }) c.args.self.now = c.self.view_is in
     subst (λ (z : Machine). LeastStream z c.args.strand c.ready_stream.result) v
-    (stream_is g.S.Stage.stands g.S.Stage.is_looking i.net i.budget i.journal.items i.out.items i.actors.items i.desk i.pool i.ready c.self.invariant.0 (looks_of i.actors.items) i.is_broken c.args.strand c.ready_stream.result c.ready_stream.ensures)
+    (stream_is g.S.Stage.stands i.net i.budget i.journal.items i.out.items i.actors.items i.desk i.pool i.ready c.self.invariant.0 i.is_broken c.args.strand c.ready_stream.result c.ready_stream.ensures)

@@ -1,7 +1,7 @@
 use Rattle.std.proofs.Common.{◌≡◌, refl, sym, ◌∙◌, ap}
 use Rattle.pipe_model.specs.Ranges.{locates}
 use Rattle.pipe_model.specs.Shape.{copied}
-use Rattle.pipe_model.specs.Table.{selects}
+use Rattle.pipe_model.specs.SelectionRows.{selects}
 use Rattle.stage_steps.proofs.Fresh.{fresh_sink, fresh_locating}
 use Rattle.stage_steps.proofs.first.FirstStage.new.Goals as goal
 
