@@ -23,11 +23,11 @@ record IsAlike (old new : Kind) : Type 0 where
   outputs : outputs_of new ≡ outputs_of old
   proper : (line_of new).proper ≡ (line_of old).proper
   whole : parting_by (line_of old).shape ≡ Whole
-  still_whole : parting_by (line_of new).shape ≡ Whole
+  new_whole : parting_by (line_of new).shape ≡ Whole
 
 -- the table feeds the input to the CONSOLE that reads, and to no other
 other_bytes : (kind : Kind) → reads_input kind ≡ true → (bytes : List ℕ) → IsAlike kind (ConsoleIn bytes)
-other_bytes (ConsoleIn old) reads bytes = record { inputs = refl; outputs = refl; proper = refl; whole = refl; still_whole = refl }
+other_bytes (ConsoleIn old) reads bytes = record { inputs = refl; outputs = refl; proper = refl; whole = refl; new_whole = refl }
 other_bytes _ reads bytes = cc
 
 -- a strand of another kind that the net's form can't tell from it
@@ -49,7 +49,7 @@ module _ (net : Net) (s : ℕ) (p : Strand) (here : slice_get net.strands s ≡ 
   new = record net { strands = slice_set net.strands s read }
 
   like : IsLike p read
-  like = record { part = refl; unit = refl; ports = refl; parting = alike.still_whole ∙ sym alike.whole; proper = alike.proper }
+  like = record { part = refl; unit = refl; ports = refl; parting = alike.new_whole ∙ sym alike.whole; proper = alike.proper }
 
   at_read : strand_at new nothing_yet s ≡ Some read
   at_read = get_set_same net.strands s read p here
@@ -111,7 +111,7 @@ module _ (net : Net) (s : ℕ) (p : Strand) (here : slice_get net.strands s ≡ 
     staged_read : (m : ℕ) → IsOfStage net s p m → IsOfStage new s read m
     staged_read m st =
         let one = ap (λ (x : Parting). strands_of x m) alike.whole in
-        let still_one = ap (λ (x : Parting). strands_of x m) alike.still_whole in
+        let still_one = ap (λ (x : Parting). strands_of x m) alike.new_whole in
         record {
           some = st.some;
           few = st.few;

@@ -1,42 +1,25 @@
 -- What a core is started with, and what it has done at the end of its run.
-use Rattle.std.proofs.Common.{◌≡◌, ℕ, Bool, true, false, List, [], sym, ◌∙◌, ap, subst, arith, Some, None, is_some, refl}
+use Rattle.std.proofs.Common.{◌≡◌, ℕ, Bool, true, false, List, [], sym, ◌∙◌, ap, subst, arith, None, is_some, refl}
 use Rattle.pipe_model.specs.declared.net.Net.{Net}
-use Rattle.pipe_model.specs.declared.net.Strand.{Strand}
-use Rattle.pipe_model.specs.declared.kind.Kind.{Kind}
-use Rattle.pipe_model.specs.declared.kind.Kind.TheVariants.{ConsoleIn, ConsoleOut, Locate, FanOut, FanIn, FanInAny, Elastic, Copy}
 use Rattle.pipe_model.specs.declared.step.Entry.{Entry}
-use Rattle.pipe_model.specs.State.{Who, nothing_yet, strand_at}
 use Rattle.pipe_model.specs.Licence.{licence, none_left}
 use Rattle.pipe_model.specs.Play.{play, IsLegal, IsLicensed, IsComplete}
-use Rattle.pipe_model.specs.Table.{line_of}
-use Rattle.pipe_model.specs.Form.Parting.{Queued}
 use Rattle.pipe_model.specs.WellFormed.{IsWellFormed, IsQueue}
-use Rattle.stage_steps.specs.First.{IsFirstKind}
 use Rattle.core_machine.specs.declared.job.RunEnd.TheVariants as End
 use Rattle.core_machine.specs.Machine.{Machine, started, left_by, HasStopped, IsLawful}
 use Rattle.core_machine.specs.Answered.{HasRun, Ends}
 use Rattle.core_machine.specs.Start.{HasNoQueue}
+use Rattle.pipe_cli.specs.Built.{AreBuilt}
 use Rattle.pipe_cli.specs.Steps.{HasCompleted, HasSpent}
 
 -- What a core is started with
 
--- a stage of the first kinds has one strand
-one_strand : (p : Strand) (k : Kind) → IsFirstKind k → (line_of p k).parting ≡ Queued → ⊥
-one_strand p (ConsoleIn bytes) first is = cc
-one_strand p ConsoleOut first is = cc
-one_strand p (Locate range text) first is = cc
-one_strand p FanOut first is = absurd first
-one_strand p FanIn first is = absurd first
-one_strand p FanInAny first is = absurd first
-one_strand p Elastic first is = absurd first
-one_strand p Copy first is = absurd first
-
--- so no link is a queue
-pub no_queue : (net : Net) → IsWellFormed net → ((s : Who) (p : Strand) → strand_at net nothing_yet s ≡ Some p → IsFirstKind p.kind) → HasNoQueue net
-no_queue net formed kinds j link at = go link.queue (λ is. (formed.queues j link at).0 is)
+-- each stage has one strand, so no link is a queue
+pub no_queue : (net : Net) → IsWellFormed net → AreBuilt net → HasNoQueue net
+no_queue net formed built j link at = go link.queue (λ is. (formed.queues j link at).0 is)
   where
     go : (b : Bool) → (b ≡ true → IsQueue net link) → b ≡ false
-    go true queue = (let q = queue refl in absurd (one_strand q.producer q.producer.kind (kinds link.from q.producer q.from_strand) q.queued))
+    go true queue = (let q = queue refl in let whole = (built link.from q.producer q.from_strand).whole in let queued = q.queued in cc)
     go false queue = refl
 
 -- At the end
@@ -49,7 +32,7 @@ complete_if net es none e may = (let z : false ≡ true = sym (ap is_some (none 
 stopped_all : (m : Machine) → HasStopped m → (s k : ℕ) → licence m.net (play m.net m.journal) none_left s k ≡ None
 stopped_all m stopped = subst (λ out. (s k : ℕ) → licence m.net (play m.net m.journal) (left_by m.journal out) s k ≡ None) stopped.0 stopped.1
 
-module _ (net : Net) (steps : ℕ) (looking : List Bool) (old new : Machine) (first : old ≡ started net steps looking) (run : HasRun old new) (lawful : IsLawful new) where
+module _ (net : Net) (steps : ℕ) (old new : Machine) (first : old ≡ started net steps) (run : HasRun old new) (lawful : IsLawful new) where
   net_is : new.net ≡ net
   net_is = ap (λ (m : Machine). m.net) run.after ∙ ap (λ (m : Machine). m.net) first
 

@@ -1,19 +1,19 @@
 -- What a run of a net means, from what its core did.
-use Rattle.std.proofs.Common.{◌≡◌, ℕ, zero, suc, ◌≤◌, Bool, true, false, cond, List, [], ◌∷◌, ◌++◌, length, refl, sym, ◌∙◌, ap, subst, ℤ, pos, negsuc}
+use Rattle.std.proofs.Common.{◌≡◌, ℕ, zero, suc, ◌≤◌, Bool, true, false, cond, List, [], ◌∷◌, ◌++◌, length, refl, sym, ◌∙◌, ap, subst, Some, slice_get, ℤ, pos, negsuc}
 use Rattle.pipe_model.specs.declared.net.Net.{Net}
 use Rattle.pipe_model.specs.declared.net.Strand.{Strand}
-use Rattle.pipe_model.specs.declared.kind.Kind.{Kind}
-use Rattle.pipe_model.specs.declared.kind.Kind.TheVariants.{ConsoleIn, ConsoleOut, Locate, FanOut, FanIn, FanInAny, Elastic, Copy}
 use Rattle.pipe_model.specs.Event.{Event}
 use Rattle.pipe_model.specs.Play.{play, IsLegal, IsLicensed, IsComplete}
 use Rattle.pipe_model.specs.Reply.{Reply, WaitLine, reply, replied, console_from, files_from, code_from, waits_from, file_part}
 use Rattle.pipe_model.specs.State.{State, Who, past}
-use Rattle.pipe_model.specs.Table.{line_of}
+use Rattle.pipe_model.specs.Shape.{Keeping}
+use Rattle.pipe_model.specs.Shape.Keeping.{Nothing, Console, File}
 use Rattle.pipe_model.specs.WellFormed.{IsWellFormed}
 use Rattle.net_graph.specs.Fed.{fed}
 use Rattle.core_machine.specs.Machine.{Machine, state_of}
 use Rattle.pipe_cli.specs.declared.status.Outcome.{Outcome}
 use Rattle.pipe_cli.specs.declared.status.Outcome.TheVariants.{Done, Coded, SpecRefused, Stalled, Spent, ReadFault, WriteFault, NoMemory, Usage, InputTooLarge, NotYet}
+use Rattle.pipe_cli.specs.Built.{AreBuilt, IsBuilt, is_filed, keeping_of}
 use Rattle.pipe_cli.specs.Meaning.{RunsNet, RunMeans, Finishes, Exhausts, reads_any, taken, net_on, input_limit, ended, stalled}
 use Rattle.pipe_cli.specs.Runs.{IsOutcomeOf}
 use Rattle.pipe_cli.specs.Steps.{HasCompleted, HasSpent}
@@ -22,24 +22,20 @@ use Rattle.pipe_cli.proofs.LineFed.{line_filters}
 -- The reply
 
 -- no stage keeps a file yet
-no_file : (p : Strand) (k : Kind) (h : List Event) → file_part (line_of p k).keeping h ≡ []
-no_file p (ConsoleIn bytes) h = refl
-no_file p ConsoleOut h = refl
-no_file p (Locate range text) h = refl
-no_file p FanOut h = refl
-no_file p FanIn h = refl
-no_file p FanInAny h = refl
-no_file p Elastic h = refl
-no_file p Copy h = refl
+no_file : (keeping : Keeping) (h : List Event) → is_filed keeping ≡ false → file_part keeping h ≡ []
+no_file Nothing h fileless = refl
+no_file Console h fileless = refl
+no_file (File name) h fileless = cc
 
-no_files : (st : State) (s : Who) (ps : List Strand) → files_from st s ps ≡ []
-no_files st s [] = refl
-no_files st s (p ∷ ps) = ap (λ z. z ++ files_from st (suc s) ps) (no_file p p.kind (past st s)) ∙ no_files st (suc s) ps
+no_files : (st : State) (s : Who) (ps : List Strand) → ((k : ℕ) (p : Strand) → slice_get ps k ≡ Some p → IsBuilt p.kind) → files_from st s ps ≡ []
+no_files st s [] built = refl
+no_files st s (p ∷ ps) built = ap (λ z. z ++ files_from st (suc s) ps) (no_file (keeping_of p.kind) (past st s) (built 0 p refl).fileless) ∙ no_files st (suc s) ps (λ k q at. built (suc k) q at)
 
 -- no strand waits: it writes and ends with the worst code
-unstalled : (st : State) (ps : List Strand) (ws : List WaitLine) → (replied st ps ws).waits ≡ [] → replied st ps ws ≡ ended (console_from st 0 ps) (replied st ps ws).code
-unstalled st ps [] none = λ i. record { console = console_from st 0 ps; files = no_files st 0 ps i; code = code_from st 0 ps; waits = [] }
-unstalled st ps (w ∷ ws) none = cc
+unstalled : (st : State) (net : Net) → AreBuilt net → (ws : List WaitLine) → (replied st net.strands ws).waits ≡ [] →
+    replied st net.strands ws ≡ ended (console_from st 0 net.strands) (replied st net.strands ws).code
+unstalled st net built [] none = λ i. record { console = console_from st 0 net.strands; files = no_files st 0 net.strands built i; code = code_from st 0 net.strands; waits = [] }
+unstalled st net built (w ∷ ws) none = cc
 
 -- some strand waits
 waiting : (st : State) (ps : List Strand) (ws : List WaitLine) (first : WaitLine) (rest : List WaitLine) → (replied st ps ws).waits ≡ first ∷ rest → replied st ps ws ≡ stalled (console_from st 0 ps) first rest
@@ -92,12 +88,15 @@ module _ (words : List (List ℕ)) (net : Net) (steps : ℕ) (runs : RunsNet wor
         more = (spent.more.0, subst (λ z. IsLicensed z (play z spent.journal) spent.more.0) same spent.more.1);
       }
 
-  module _ (after : Net) (is : after ≡ fed bytes net) (core : Machine) (done : HasCompleted after steps core) where
+  module _ (after : Net) (is : after ≡ fed bytes net) (built : AreBuilt after) (core : Machine) (done : HasCompleted after steps core) where
     abbrev on : Net
     on = net_on bytes net
 
     core_on : core.net ≡ on
     core_on = done.net_is ∙ given_is after is
+
+    core_built : AreBuilt core.net
+    core_built = subst AreBuilt (sym done.net_is) built
 
     abbrev wrote : List ℕ
     wrote = console_from (state_of core) 0 core.net.strands
@@ -126,8 +125,8 @@ module _ (words : List (List ℕ)) (net : Net) (steps : ℕ) (runs : RunsNet wor
 
     -- a complete journal, by its outcome
     pub run_means : (outcome : Outcome) → IsOutcomeOf told outcome → RunMeans words net bytes outcome wrote
-    run_means Done of = finishes (ended wrote (pos 0)) (unstalled (state_of core) core.net.strands (waits_from (state_of core) 0 core.net.strands) of.0 ∙ ap (ended wrote) of.1)
-    run_means (Coded code) of = (of.2, finishes (ended wrote code) (unstalled (state_of core) core.net.strands (waits_from (state_of core) 0 core.net.strands) of.0 ∙ ap (ended wrote) of.1))
+    run_means Done of = finishes (ended wrote (pos 0)) (unstalled (state_of core) core.net core_built (waits_from (state_of core) 0 core.net.strands) of.0 ∙ ap (ended wrote) of.1)
+    run_means (Coded code) of = (of.2, finishes (ended wrote code) (unstalled (state_of core) core.net core_built (waits_from (state_of core) 0 core.net.strands) of.0 ∙ ap (ended wrote) of.1))
     run_means Stalled of = (of.0, of.1, finishes (stalled wrote of.0 of.1) (waiting (state_of core) core.net.strands (waits_from (state_of core) 0 core.net.strands) of.0 of.1 of.2))
     run_means (SpecRefused number argument place) of = absurd of
     run_means (Spent n) of = absurd of

@@ -1,15 +1,15 @@
 -- The console's text, as far as a loop over the strands has written it.
-use Rattle.std.proofs.Common.{◌≡◌, ◌≢◌, ℕ, suc, ◌+◌, ◌<◌, List, ◌++◌, length, drop, sym, ◌∙◌, ap, subst, arith, Option, Some, slice_get, slice_index_or, add-one, append_assoc, length-append}
+use Rattle.std.proofs.Common.{◌≡◌, ℕ, true, false, suc, ◌+◌, ◌<◌, List, ◌++◌, length, drop, sym, ◌∙◌, ap, subst, arith, Option, Some, slice_get, slice_index_or, add-one, append_assoc, length-append}
 use Rattle.std.proofs.lemmas.Option.{slice_get-get_or}
 use Rattle.outside.specs.Sink.{Gained}
 use Rattle.outside.specs.Faults.{Rose}
 use Rattle.pipe_model.specs.declared.net.Strand.{Strand}
-use Rattle.pipe_model.specs.declared.kind.Kind.TheVariants.{ConsoleOut}
 use Rattle.pipe_model.specs.Reply.{console_from}
 use Rattle.pipe_model.specs.State.{State, Who, past}
 use Rattle.pipe_model.specs.Table.{form}
 use Rattle.stage_steps.specs.Coroutine.{kept_by}
 use Rattle.pipe_cli.specs.declared.status.Outcome.{Outcome}
+use Rattle.pipe_cli.specs.Built.{is_shown, keeping_of}
 use Rattle.pipe_cli.specs.Devices.{Device, Steady}
 use Rattle.pipe_cli.specs.Steps.{IsPartWritten}
 use Rattle.pipe_cli.proofs.Runs.{console_more, console_less, kept_part}
@@ -20,7 +20,7 @@ module _ (st : State) (k : Who) (ps : List Strand) (other : Strand) (lt : k < le
   here = slice_get-get_or ps k other lt
 
   -- the strand keeps for the console
-  pub with_kept : (slice_index_or ps k other).kind ≡ ConsoleOut → (kept : List ℕ) → ((p : Strand) → slice_get ps k ≡ Some p → kept ≡ kept_by (form p).keeping (past st k)) →
+  pub with_kept : is_shown (keeping_of (slice_index_or ps k other).kind) ≡ true → (kept : List ℕ) → ((p : Strand) → slice_get ps k ≡ Some p → kept ≡ kept_by (form p).keeping (past st k)) →
       console_from st k (drop k ps) ≡ kept ++ console_from st (k + 1) (drop (k + 1) ps)
   with_kept is kept keeps =
       console_more st k ps (slice_index_or ps k other) here
@@ -28,7 +28,7 @@ module _ (st : State) (k : Who) (ps : List Strand) (other : Strand) (lt : k < le
       ∙ ap (λ z. kept ++ console_from st z (drop z ps)) (sym (add-one k))
 
   -- it doesn't
-  pub without_kept : (slice_index_or ps k other).kind ≢ ConsoleOut → console_from st k (drop k ps) ≡ console_from st (k + 1) (drop (k + 1) ps)
+  pub without_kept : is_shown (keeping_of (slice_index_or ps k other).kind) ≡ false → console_from st k (drop k ps) ≡ console_from st (k + 1) (drop (k + 1) ps)
   without_kept is = console_less st k ps (slice_index_or ps k other) here is ∙ ap (λ z. console_from st z (drop z ps)) (sym (add-one k))
 
 -- what was written and what is left

@@ -8,7 +8,7 @@ pub mod GraphKinds
 pub mod Journals
 pub mod Kept
 pub mod LineFed
-pub mod LineFormed
+pub mod LinePlain
 pub mod LineReply
 pub mod LineStrands
 pub mod Meanings

@@ -1,5 +1,5 @@
 -- What is claimed besides of a straight line that reads.
-use Rattle.std.proofs.Common.{◌≡◌, ℕ, ◌≤◌, true, cond, List, [], length, sym, ◌∙◌, ap, subst, arith, Some, None, is_some}
+use Rattle.std.proofs.Common.{◌≡◌, ℕ, true, cond, List, [], length, sym, ◌∙◌, ap, subst, arith, Some, None, is_some}
 use Rattle.std.specs.Prelude.{nat_lt}
 use Rattle.std.specs.Option.{option_map_or}
 use Rattle.std.proofs.lemmas.Bool.Decides.{nat_tests}
@@ -11,9 +11,9 @@ use Rattle.pipe_model.specs.Reply.{Reply, reply}
 use Rattle.pipe_model.specs.WellFormed.{IsWellFormed}
 use Rattle.net_graph.specs.Fed.{reader_of, with_kind}
 use Rattle.net_graph.specs.Line.{line_net}
+use Rattle.net_graph.proofs.Feeds.{still_whole}
 use Rattle.pipe_cli.specs.Meaning.{Filters, net_on, taken, reads_any}
 use Rattle.pipe_cli.proofs.LineReply.{line_replies, line_reads}
-use Rattle.pipe_cli.proofs.LineStrands.{line_size}
 
 -- its first strand reads
 line_reader : (strings : List (List ℕ)) → reader_of (line_net [] strings) ≡ Some 0
@@ -32,13 +32,11 @@ line_fed bytes strings =
 pub line_filters : (bytes : List ℕ) (strings : List (List ℕ)) (net : Net) → net ≡ line_net [] strings → IsWellFormed net → (es : List Entry) → IsLegal (net_on bytes net) es → IsComplete (net_on bytes net) es →
     (answer : Reply) → reply (net_on bytes net) (play (net_on bytes net) es) ≡ answer → Filters bytes strings es answer
 line_filters bytes strings net line formed es legal complete answer replies =
-    let few = formed.few in
-    let count = ap (λ (n : Net). length n.strands) line ∙ line_size [] strings in
-    let size : length strings ≤ 65534 = omega (arith, few, count) in
     let same : net_on bytes net ≡ line_net bytes strings = ap (net_on bytes) line ∙ line_fed bytes strings in
+    let formed' = subst IsWellFormed same (still_whole (taken net bytes) net formed) in
     let legal' = subst (λ z. IsLegal z es) same legal in
     let complete' = subst (λ z. IsComplete z es) same complete in
     record {
-      filtered = sym replies ∙ ap (λ z. reply z (play z es)) same ∙ line_replies bytes strings size es legal' complete';
-      reading = line_reads bytes strings size es legal' complete';
+      filtered = sym replies ∙ ap (λ z. reply z (play z es)) same ∙ line_replies bytes strings formed' es legal' complete';
+      reading = line_reads bytes strings formed' es legal' complete';
     }

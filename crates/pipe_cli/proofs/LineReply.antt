@@ -1,6 +1,5 @@
 -- What a complete journal of a straight line answers.
-use Rattle.std.proofs.Common.{◌≡◌, ◌≢◌, ℕ, suc, ◌+◌, ◌≤◌, ◌<◌, true, List, [], ◌∷◌, length, refl, sym, ◌∙◌, ap, subst, arith, Some, is_some, pos, append-nil}
-use Rattle.std.specs.Bool.{MatchBool}
+use Rattle.std.proofs.Common.{◌≡◌, ◌≢◌, ℕ, suc, ◌+◌, ◌<◌, true, List, [], ◌∷◌, length, refl, ◌∙◌, ap, subst, arith, Some, is_some, pos, append-nil}
 use Rattle.pipe_model.specs.declared.net.Net.{Net}
 use Rattle.pipe_model.specs.declared.net.Strand.{Strand}
 use Rattle.pipe_model.specs.declared.step.Entry.{Entry}
@@ -16,14 +15,11 @@ use Rattle.confluence_laws.proofs.Readings.{plain_reading}
 use Rattle.pipe_model.specs.Reply.{reply, replied, console_from, files_from, code_from, waits_from}
 use Rattle.pipe_model.specs.WellFormed.{IsWellFormed}
 use Rattle.confluence_laws.proofs.Basics.{the_event, at_some, at_place}
-use Rattle.confluence_laws.proofs.Barred.{early_none}
 use Rattle.confluence_laws.proofs.Flow.{IsFlowing, all_flows}
-use Rattle.confluence_laws.proofs.Passes.{first_pass}
 use Rattle.confluence_laws.proofs.Progress.{has_ended_at, last_took}
-use Rattle.confluence_laws.proofs.Second.{second_pass}
 use Rattle.net_graph.specs.Line.{strands_from, line_net}
 use Rattle.pipe_cli.proofs.LineStrands.{line_straight}
-use Rattle.pipe_cli.proofs.LineFormed.{line_formed, line_plain, line_ordered, line_calm}
+use Rattle.pipe_cli.proofs.LinePlain.{line_plain}
 
 -- Along the strands
 
@@ -51,12 +47,9 @@ no_files : (st : State) (k : ℕ) (strings : List (List ℕ)) → files_from st 
 no_files st k [] = refl
 no_files st k (string ∷ strings) = no_files st (suc k) strings
 
-module _ (bytes : List ℕ) (strings : List (List ℕ)) (few : length strings ≤ 65534) (es : List Entry) (legal : IsLegal (line_net bytes strings) es) where
+module _ (bytes : List ℕ) (strings : List (List ℕ)) (formed : IsWellFormed (line_net bytes strings)) (es : List Entry) (legal : IsLegal (line_net bytes strings) es) where
   abbrev net : Net
   net = line_net bytes strings
-
-  formed : IsWellFormed net
-  formed = line_formed bytes strings few
 
   flowing : IsFlowing net bytes strings (play net es)
   flowing = all_flows net formed bytes strings (line_straight bytes strings) es legal

@@ -9,7 +9,7 @@ use Rattle.pipe_cli.specs.declared.status.Outcome.TheVariants.{Done, Coded, Spec
 use Rattle.pipe_cli.specs.Command.{command_of}
 use Rattle.pipe_cli.specs.Meaning.{IsNetOf, IsRunOf, IsSpecRefused, Means, ReadsInput, RunMeans, RunsNet, input_limit, is_later, reads_any, taken}
 use Rattle.pipe_cli.specs.Refusals.{HasLeastFault}
-use Rattle.pipe_cli.proofs.GraphKinds.{graph_first}
+use Rattle.pipe_cli.proofs.GraphKinds.{graph_built}
 use Rattle.pipe_cli.proofs.OneRuns.{one_run, runs_fitting, same_run}
 use Rattle.pipe_cli.proofs.OneTexts.{net_formed, net_unrefused, one_least, one_net}
 
@@ -55,7 +55,7 @@ module _ (words : List (List ℕ)) (input : List ℕ) where
         let runs = fitting.1 in
         let theirs = runs_fitting words other input b y second in
         let same = same_net other net theirs.0 fitting.0 theirs.1 runs in
-        one_run words net (net_formed runs.spec net runs.net_of) (graph_first runs.net_of.pipelines net runs.net_of.graph) input a b x y first (subst (λ z. RunMeans words z input b y) same second)
+        one_run words net (net_formed runs.spec net runs.net_of) (graph_built runs.net_of.pipelines net runs.net_of.graph) input a b x y first (subst (λ z. RunMeans words z input b y) same second)
 
     run_first : (b : Outcome) (y : List ℕ) → Means words input b y → (a ≡ b) × (x ≡ y)
     run_first Done y second = both_run second.0 Done y second.1

@@ -8,7 +8,8 @@ use Rattle.pipe_cli.specs.declared.status.Outcome.{Outcome}
 use Rattle.pipe_cli.specs.declared.status.Outcome.TheVariants.{Done, Coded, SpecRefused, Stalled, Spent, ReadFault, WriteFault, NoMemory, Usage, InputTooLarge, NotYet}
 use Rattle.pipe_cli.specs.Meaning.{IsRunOf, RunsNet, RunMeans, Finishes, Exhausts, net_on, taken, input_limit}
 use Rattle.net_graph.proofs.Feeds.{still_whole}
-use Rattle.pipe_cli.proofs.Journals.{HasFirstKinds, kinds_on, goes_further, same_play}
+use Rattle.pipe_cli.specs.Built.{AreBuilt}
+use Rattle.pipe_cli.proofs.Journals.{built_on, goes_further, same_play}
 
 -- The words
 
@@ -59,20 +60,20 @@ runs_by words net input outcome output (inr e) = (e.0, e.1.runs, e.1.fits)
 pub runs_fitting : (words : List (List ℕ)) (net : Net) (input : List ℕ) (outcome : Outcome) (output : List ℕ) → RunMeans words net input outcome output → (steps : ℕ) × RunsNet words net steps × (length (taken net input) ≤ input_limit)
 runs_fitting words net input outcome output means = runs_by words net input outcome output (ending words net input outcome output means)
 
-module _ (words : List (List ℕ)) (net : Net) (formed : IsWellFormed net) (kinds : HasFirstKinds net) (input : List ℕ) where
+module _ (words : List (List ℕ)) (net : Net) (formed : IsWellFormed net) (built : AreBuilt net) (input : List ℕ) where
   abbrev on : Net
   on = net_on input net
 
   formed_here : IsWellFormed on
   formed_here = still_whole (taken net input) net formed
 
-  kinds_here : HasFirstKinds on
-  kinds_here = kinds_on net (taken net input) kinds
+  built_here : AreBuilt on
+  built_here = built_on net (taken net input) built
 
   one_reply : (a b : Reply) → Finishes words net input a → Finishes words net input b → a ≡ b
   one_reply a b first second =
       sym first.replies
-      ∙ ap (reply on) (same_play on formed_here kinds_here first.journal second.journal first.legal second.legal first.complete second.complete)
+      ∙ ap (reply on) (same_play on formed_here built_here first.journal second.journal first.legal second.legal first.complete second.complete)
       ∙ second.replies
 
   one_count : (n m : ℕ) → RunsNet words net n → RunsNet words net m → n ≡ m
@@ -81,7 +82,7 @@ module _ (words : List (List ℕ)) (net : Net) (formed : IsWellFormed net) (kind
   -- a run that completes within its steps isn't spent at them
   not_both : (a : Reply) (steps : ℕ) → Finishes words net input a → Exhausts words net input steps → ⊥
   not_both a steps done spent =
-      let longer = goes_further on formed_here kinds_here done.journal spent.journal spent.more.0 done.legal done.complete spent.legal spent.more.1 in
+      let longer = goes_further on formed_here built_here done.journal spent.journal spent.more.0 done.legal done.complete spent.legal spent.more.1 in
       let same = one_count done.steps steps done.runs spent.runs in
       let within = done.within in
       let full = spent.full in

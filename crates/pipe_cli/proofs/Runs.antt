@@ -1,17 +1,18 @@
 -- The reply of a run, read off its strands from the last down, and the text of its console from the first on.
-use Rattle.std.proofs.Common.{◌≡◌, ◌≢◌, ℕ, zero, suc, ◌+◌, ◌≤◌, ◌<◌, Bool, true, false, cond, List, [], ◌∷◌, ◌++◌, length, drop, refl, sym, ◌∙◌, ap, subst, arith, Some, None, slice_get, ℤ}
+use Rattle.std.proofs.Common.{◌≡◌, ℕ, zero, suc, ◌+◌, ◌≤◌, ◌<◌, Bool, true, false, cond, List, [], ◌∷◌, ◌++◌, length, drop, refl, sym, ◌∙◌, ap, subst, arith, Some, None, slice_get, ℤ}
 use Rattle.pipe_model.specs.declared.net.Net.{Net}
 use Rattle.pipe_model.specs.declared.net.Strand.{Strand}
-use Rattle.pipe_model.specs.declared.kind.Kind.{Kind}
-use Rattle.pipe_model.specs.declared.kind.Kind.TheVariants.{ConsoleIn, ConsoleOut, Locate, FanOut, FanIn, FanInAny, Elastic, Copy}
 use Rattle.pipe_model.specs.Code.{worst_of}
 use Rattle.pipe_model.specs.Event.{Event, has_ended, code_of}
 use Rattle.pipe_model.specs.Next.{next}
 use Rattle.pipe_model.specs.Reply.{WaitLine, reply, replied, console_part, console_from, code_from, waits_from}
 use Rattle.pipe_model.specs.State.{State, Who, past}
-use Rattle.pipe_model.specs.Table.{form, line_of}
+use Rattle.pipe_model.specs.Table.{form}
+use Rattle.pipe_model.specs.Shape.{Keeping}
+use Rattle.pipe_model.specs.Shape.Keeping.{Nothing, Console, File}
 use Rattle.stage_steps.specs.Coroutine.{kept_by}
 use Rattle.confluence_laws.proofs.Basics.{at_some}
+use Rattle.pipe_cli.specs.Built.{is_shown, keeping_of}
 
 -- the first member that is left
 pub drop_at : {X : Type 0} (xs : List X) (k : ℕ) (x : X) → slice_get xs k ≡ Some x → drop k xs ≡ x ∷ drop (suc k) xs
@@ -61,27 +62,27 @@ reply_waits net st s lt waits =
 
 -- The console
 
--- a CONSOLE that writes keeps for the console what its stage keeps
-pub kept_part : (p : Strand) (h : List Event) → p.kind ≡ ConsoleOut → console_part (form p).keeping h ≡ kept_by (form p).keeping h
-kept_part p h is = ap (λ k. console_part (line_of p k).keeping h) is ∙ sym (ap (λ k. kept_by (line_of p k).keeping h) is)
+-- what is for the console is what the stage keeps
+shown_part : (keeping : Keeping) (h : List Event) → is_shown keeping ≡ true → console_part keeping h ≡ kept_by keeping h
+shown_part Nothing h is = cc
+shown_part Console h is = refl
+shown_part (File name) h is = cc
 
--- no other strand keeps for the console
-none_kept : (p : Strand) (k : Kind) (h : List Event) → k ≢ ConsoleOut → console_part (line_of p k).keeping h ≡ []
-none_kept p (ConsoleIn bytes) h other = refl
-none_kept p ConsoleOut h other = absurd (other refl)
-none_kept p (Locate range text) h other = refl
-none_kept p FanOut h other = refl
-none_kept p FanIn h other = refl
-none_kept p FanInAny h other = refl
-none_kept p Elastic h other = refl
-none_kept p Copy h other = refl
+pub kept_part : (p : Strand) (h : List Event) → is_shown (keeping_of p.kind) ≡ true → console_part (form p).keeping h ≡ kept_by (form p).keeping h
+kept_part p h is = shown_part (keeping_of p.kind) h is
+
+-- nothing else is for the console
+none_shown : (keeping : Keeping) (h : List Event) → is_shown keeping ≡ false → console_part keeping h ≡ []
+none_shown Nothing h other = refl
+none_shown Console h other = cc
+none_shown (File name) h other = refl
 
 -- the console's text, with one strand more
 pub console_more : (st : State) (k : Who) (ps : List Strand) (p : Strand) → slice_get ps k ≡ Some p → console_from st k (drop k ps) ≡ console_part (form p).keeping (past st k) ++ console_from st (suc k) (drop (suc k) ps)
 console_more st k ps p at = ap (console_from st k) (drop_at ps k p at)
 
-pub console_less : (st : State) (k : Who) (ps : List Strand) (p : Strand) → slice_get ps k ≡ Some p → p.kind ≢ ConsoleOut → console_from st k (drop k ps) ≡ console_from st (suc k) (drop (suc k) ps)
-console_less st k ps p at other = console_more st k ps p at ∙ ap (λ z. z ++ console_from st (suc k) (drop (suc k) ps)) (none_kept p p.kind (past st k) other)
+pub console_less : (st : State) (k : Who) (ps : List Strand) (p : Strand) → slice_get ps k ≡ Some p → is_shown (keeping_of p.kind) ≡ false → console_from st k (drop k ps) ≡ console_from st (suc k) (drop (suc k) ps)
+console_less st k ps p at other = console_more st k ps p at ∙ ap (λ z. z ++ console_from st (suc k) (drop (suc k) ps)) (none_shown (keeping_of p.kind) (past st k) other)
 
 -- One strand more, from the last down
 

@@ -1,4 +1,5 @@
 pub mod Answer
+pub mod Built
 pub mod Command
 pub mod Devices
 pub mod Meaning

@@ -1,9 +1,7 @@
 ghost use Rattle.std.specs.Prelude.{◌≡◌, ◌≤◌, ℕ, map, MatchResult, IfOk, IfErr, Some};
 ghost use Rattle.std.specs.String.{string_bytes};
-ghost use Rattle.pipe_model.specs.declared.net.Strand.{Strand as StrandIs};
-ghost use Rattle.pipe_model.specs.State.{nothing_yet, strand_at};
 ghost use Rattle.pipe_model.specs.WellFormed.{IsWellFormed};
-ghost use Rattle.stage_steps.specs.First.{IsFirstKind};
+ghost use Rattle.pipe_cli.specs.Built.{AreBuilt};
 ghost use Rattle.pipe_cli.specs.Meaning.{IsNetOf, IsRunOf, RunsNet};
 ghost use Rattle.pipe_cli.specs.Refusals.{IsTextOutcome};
 ghost use Rattle.pipe_cli.specs.Steps.{IsUnrun, StopsWords};
@@ -28,7 +26,7 @@ pub(crate) fn called(alloc: Global, words: &[String]) -> Result<Call, Outcome>
     ensures called { MatchResult result (λ call. RunsNet (map (λ word. string_bytes word) words.now) call.net call.steps) (λ outcome. StopsWords (map (λ word. string_bytes word) words.now) outcome) }
     ensures unrun { IfErr result IsUnrun }
     ensures whole { IfOk result (λ call. IsWellFormed call.net) }
-    ensures kinds { IfOk result (λ call. (s : ℕ) (p : StrandIs) → strand_at call.net nothing_yet s ≡ Some p → IsFirstKind p.kind) }
+    ensures built { IfOk result (λ call. AreBuilt call.net) }
     ensures few { IfOk result (λ call. call.steps ≤ 50000000) }
 {
     let (spec, steps) = spec_of(alloc, words)?;

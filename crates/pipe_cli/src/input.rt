@@ -1,9 +1,7 @@
 ghost use Rattle.std.specs.Prelude.{◌≡◌, ℕ, List, Some, MatchResult, IfOk};
-ghost use Rattle.pipe_model.specs.declared.net.Strand.{Strand as StrandIs};
-ghost use Rattle.pipe_model.specs.State.{nothing_yet, strand_at};
 ghost use Rattle.pipe_model.specs.WellFormed.{IsWellFormed};
 ghost use Rattle.net_graph.specs.Fed.{fed, reader_of, reads_input};
-ghost use Rattle.stage_steps.specs.First.{IsFirstKind};
+ghost use Rattle.pipe_cli.specs.Built.{AreBuilt};
 ghost use Rattle.pipe_cli.specs.Devices.{device};
 ghost use Rattle.pipe_cli.specs.Steps.{IsTaken, IsTakenPart};
 
@@ -18,11 +16,11 @@ use std::alloc::Global;
 // memory.
 pub(crate) fn take_input<I: Source>(alloc: Global, net: Net, input: &mut I) -> Result<Net, Outcome>
     requires whole { IsWellFormed net }
-    requires kinds { (s : ℕ) (p : StrandIs) → strand_at net nothing_yet s ≡ Some p → IsFirstKind p.kind }
+    requires built { AreBuilt net }
     ensures taken { let old = device (I.left input.old) (I.faults input.old) in let new = device (I.left input.new) (I.faults input.new) in
         MatchResult result (λ after. (bytes : List ℕ) × IsTaken net old new bytes × (after ≡ fed bytes net)) (λ outcome. IsTakenPart net old new outcome) }
     ensures whole { IfOk result IsWellFormed }
-    ensures kinds { IfOk result (λ after. (s : ℕ) (p : StrandIs) → strand_at after nothing_yet s ≡ Some p → IsFirstKind p.kind) }
+    ensures built { IfOk result AreBuilt }
 {
     let Some(strand) = reader(&net) else {
         return Ok(net);

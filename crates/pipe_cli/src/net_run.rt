@@ -7,6 +7,7 @@ ghost use Rattle.pipe_model.specs.WellFormed.{IsWellFormed};
 ghost use Rattle.core_machine.specs.Machine.{started, state_of};
 ghost use Rattle.stage_steps.specs.declared.first.FirstStage.{FirstStage as StageIs};
 ghost use Rattle.stage_steps.specs.First.{IsFirstKind, FirstStands};
+ghost use Rattle.pipe_cli.specs.Built.{AreBuilt, is_shown, keeping_of};
 ghost use Rattle.pipe_cli.specs.Devices.{device};
 ghost use Rattle.pipe_cli.specs.Runs.{IsOutcomeOf};
 ghost use Rattle.pipe_cli.specs.Steps.{HasCompleted, StopsRunning, IsWritten, IsPartWritten};
@@ -27,7 +28,7 @@ pub(crate) fn run_net<G: Gate>(
     gate: &G,
 ) -> Result<Core<Box<FirstStage>>, Outcome>
     requires whole { IsWellFormed net }
-    requires kinds { (s : ℕ) (p : StrandIs) → strand_at net nothing_yet s ≡ Some p → IsFirstKind p.kind }
+    requires built { AreBuilt net }
     requires few { steps ≤ 50000000 }
     ensures { MatchResult result (λ core. HasCompleted net steps core) (λ outcome. StopsRunning net steps outcome) }
 {
@@ -44,9 +45,9 @@ pub(crate) fn run_net<G: Gate>(
 // Its core before the first step.
 fn start_net(alloc: Global, net: Net, steps: u64) -> Result<Core<Box<FirstStage>>, NoMemory>
     requires whole { IsWellFormed net }
-    requires kinds { (s : ℕ) (p : StrandIs) → strand_at net nothing_yet s ≡ Some p → IsFirstKind p.kind }
+    requires built { AreBuilt net }
     requires few { steps ≤ 50000000 }
-    ensures { IfOk result (λ core. (looking : List Bool) × (core ≡ started net steps looking)) }
+    ensures { IfOk result (λ core. core ≡ started net steps) }
 {
     let stages = stages_of(alloc, &net)?;
     Core::start(alloc, net, stages, steps)
@@ -99,9 +100,16 @@ pub(crate) fn write_kept<O: Sink>(
 {
     let strands = core.net().strands.as_slice();
     for k in 0..strands.len() {
-        if let Kind::ConsoleOut = strands[k].kind {
+        if is_shown(&strands[k].kind) {
             write_all(output, core.kept(k as u32))?;
         }
     }
     Ok(())
+}
+
+// What a stage of the kind keeps is for the console.
+fn is_shown(kind: &Kind) -> bool
+    ensures { result ≡ is_shown (keeping_of kind.now) }
+{
+    matches!(kind, Kind::ConsoleOut)
 }

@@ -1,5 +1,5 @@
 use Rattle.std.proofs.Common.{sym, ◌∙◌}
-use Rattle.pipe_cli.proofs.Feds.{reader_at, fed_kinds}
+use Rattle.pipe_cli.proofs.Feds.{reader_at, fed_built}
 use Rattle.pipe_cli.proofs.input.take_input.Goals as goal
 
 pub feed-requires : goal.feed-requires
@@ -8,8 +8,8 @@ feed-requires g c = record { reads = reader_at c.args.net c.in-Some.strand (sym 
 pub returns-clause-whole : goal.returns-clause-whole
 returns-clause-whole g c = c.feed.ensures.whole c.requires.whole
 
-pub returns-clause-kinds : goal.returns-clause-kinds
-returns-clause-kinds g c =
+pub returns-clause-built : goal.returns-clause-built
+returns-clause-built g c =
     let there = reader_at c.args.net c.in-Some.strand (sym c.reader.ensures ∙ c.in-Some.is) in
-    let kinds = fed_kinds c.args.net c.in-Some.strand c.from_vec.result there c.requires.kinds in
-    rw c.feed.ensures.fed kinds
+    let built = fed_built c.args.net c.in-Some.strand c.from_vec.result there c.requires.built in
+    rw c.feed.ensures.fed built

@@ -19,7 +19,7 @@ pub returns-in-Ok-write_kept : goal.returns-in-Ok-write_kept
 returns-in-Ok-write_kept g c =
     let taken = c.in-Ok-take_input.ensures.taken in
     let core = c.in-Ok-run_net.core in
-    let means = run_means _ c.in-Ok.call.net c.in-Ok.call.steps c.in-Ok.ensures.called taken.0 taken.1.fits taken.1.leaves c.in-Ok.ensures.whole c.in-Ok-take_input.net taken.2 core c.in-Ok-run_net.ensures c.outcome_of.result c.outcome_of.ensures in
+    let means = run_means _ c.in-Ok.call.net c.in-Ok.call.steps c.in-Ok.ensures.called taken.0 taken.1.fits taken.1.leaves c.in-Ok.ensures.whole c.in-Ok-take_input.net taken.2 c.in-Ok-take_input.ensures.built core c.in-Ok-run_net.ensures c.outcome_of.result c.outcome_of.ensures in
     decides_done _ c.in-Ok.call.net c.in-Ok.call.steps c.in-Ok.ensures.called c.in-Ok.ensures.whole taken.0 _ _ taken.1 _ _ (console_from (state_of core) 0 core.net.strands) c.outcome_of.result means c.in-Ok-write_kept.ensures
 
 pub returns : goal.returns
@@ -27,5 +27,5 @@ returns g c =
     let taken = c.in-Ok-take_input.ensures.taken in
     let core = c.in-Ok-run_net.core in
     let some = some_outcome (reply core.net (state_of core)) in
-    let means = run_means _ c.in-Ok.call.net c.in-Ok.call.steps c.in-Ok.ensures.called taken.0 taken.1.fits taken.1.leaves c.in-Ok.ensures.whole c.in-Ok-take_input.net taken.2 core c.in-Ok-run_net.ensures some.0 some.1 in
+    let means = run_means _ c.in-Ok.call.net c.in-Ok.call.steps c.in-Ok.ensures.called taken.0 taken.1.fits taken.1.leaves c.in-Ok.ensures.whole c.in-Ok-take_input.net taken.2 c.in-Ok-take_input.ensures.built core c.in-Ok-run_net.ensures some.0 some.1 in
     decides_part _ c.in-Ok.call.net c.in-Ok.call.steps c.in-Ok.ensures.called c.in-Ok.ensures.whole taken.0 _ _ taken.1 _ _ (console_from (state_of core) 0 core.net.strands) some.0 c.in-Err-write_kept.outcome means c.in-Err-write_kept.ensures

@@ -1,0 +1,41 @@
+-- What is built so far of the stage table.
+use Rattle.std.specs.Prelude.{◌≡◌, Bool, true, false}
+use Rattle.std.specs.declared.option.Option.TheVariants.{Some}
+use Rattle.pipe_model.specs.declared.kind.Kind.{Kind}
+use Rattle.pipe_model.specs.declared.net.Net.{Net}
+use Rattle.pipe_model.specs.declared.net.Strand.{Strand}
+use Rattle.pipe_model.specs.Form.{meeting_by, parting_by, keeping_by}
+use Rattle.pipe_model.specs.Form.Meeting.{Ordered}
+use Rattle.pipe_model.specs.Form.Parting.{Whole}
+use Rattle.pipe_model.specs.Shape.{Keeping}
+use Rattle.pipe_model.specs.Shape.Keeping.{Nothing, Console, File}
+use Rattle.pipe_model.specs.State.{Who, nothing_yet, strand_at}
+use Rattle.pipe_model.specs.Table.{line_of}
+use Rattle.stage_steps.specs.First.{IsFirstKind}
+
+-- where what a stage keeps goes
+abbrev pub keeping_of : Kind → Keeping
+keeping_of kind = keeping_by (line_of kind).shape
+
+-- what is kept is for the console
+abbrev pub is_shown : Keeping → Bool
+is_shown Nothing = false
+is_shown Console = true
+is_shown (File name) = false
+
+-- it is for a file
+abbrev pub is_filed : Keeping → Bool
+is_filed Nothing = false
+is_filed Console = false
+is_filed (File name) = true
+
+-- there is a stage of the kind, of one strand, which doesn't take what comes first and keeps no file
+pub record IsBuilt (kind : Kind) : Type 0 where
+  pub stage : IsFirstKind kind
+  pub whole : parting_by (line_of kind).shape ≡ Whole
+  pub ordered : meeting_by (line_of kind).shape ≡ Ordered
+  pub fileless : is_filed (keeping_of kind) ≡ false
+
+-- the strands of the net are of such kinds
+abbrev pub AreBuilt : Net → Type 0
+AreBuilt net = (s : Who) (p : Strand) → strand_at net nothing_yet s ≡ Some p → IsBuilt p.kind
