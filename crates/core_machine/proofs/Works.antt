@@ -1,5 +1,5 @@
 -- The job that a turn gave is run on the bytes of the room, and finished.
-use Rattle.std.proofs.Common.{◌≡◌, ℕ, List, [], ◌∷◌, ◌++◌, refl, sym, ◌∙◌, ap, subst, Some}
+use Rattle.std.proofs.Common.{◌≡◌, ◌==◌, ℕ, suc, true, List, [], ◌∷◌, ◌++◌, length, refl, sym, ◌∙◌, ap, subst, Some}
 use Rattle.std.specs.Prelude.{take, IfOk}
 use Rattle.pipe_model.specs.declared.net.Strand.{Strand}
 use Rattle.pipe_model.specs.declared.step.Entry.{Entry}
@@ -7,14 +7,17 @@ use Rattle.pipe_model.specs.Event.{Event}
 use Rattle.pipe_model.specs.Licence.{licence, none_left}
 use Rattle.pipe_model.specs.Play.{play}
 use Rattle.stage_steps.specs.Coroutine.{bytes_with, CanResume, Resumes}
+use Rattle.confluence_laws.proofs.Basics.{or_second}
 use Rattle.confluence_laws.proofs.LeftOut.{licensed_too}
 use Rattle.core_machine.specs.declared.job.Job.{Job}
 use Rattle.core_machine.specs.declared.job.Finished.{Finished}
 use Rattle.core_machine.specs.declared.job.Turned.TheVariants.{Work}
 use Rattle.core_machine.specs.Answered.{TurnedAs}
 use Rattle.core_machine.specs.Jobs.{JobStands, DoneStands}
-use Rattle.core_machine.specs.Machine.{Machine, left_by, looks_at, state_of}
+use Rattle.core_machine.specs.Machine.{Machine, left_by, is_among, looks_at, state_of}
+use Rattle.core_machine.proofs.GoesOn.{one_among}
 use Rattle.core_machine.proofs.Jobs.{can_run, done_take, if_ok}
+use Rattle.core_machine.proofs.Plays.{end_length}
 
 front_and_last : {X : Type 0} (xs ys : List X) (x y : X) → xs ++ x ∷ [] ≡ ys ++ y ∷ [] → (xs ≡ ys) × (x ≡ y)
 front_and_last [] [] x y e = (refl, cc)
@@ -28,6 +31,11 @@ front_and_last (z ∷ zs) (w ∷ ws) x y e =
     let rest = front_and_last zs ws x y tails in
     let fronts = rest.0 in
     (cc, rest.1)
+
+-- the last place of those that are out is one of them
+among_end : (p : ℕ) (out : List ℕ) → is_among p (out ++ p ∷ []) ≡ true
+among_end p [] = one_among p
+among_end p (q ∷ out) = or_second (q == p) (is_among p (out ++ p ∷ [])) (among_end p out)
 
 module _ {S : Type 0} (stands : S → Strand → List Event → Type 0) (m n : Machine) (s k room : ℕ) (job : Job S) (bytes : List ℕ) (turned : TurnedAs stands m s k room (Work job) n bytes) where
   given : JobStands stands n.net n.journal job.strand job.place job.seen job.stage
@@ -65,3 +73,9 @@ module _ {S : Type 0} (stands : S → Strand → List Event → Type 0) (m n : M
       subst (λ z. DoneStands stands n.net (take done.place n.journal) z done.place done.stage w) (sym strand)
       (subst (λ z. DoneStands stands n.net (take z n.journal) job.strand z done.stage w) (sym place)
       (done_take stands n.net n.journal job.strand job.place job.seen job.stage given bytes its_bytes done.stage w resumed))) resumes
+
+  -- and its place is one of those that are out
+  pub work_among : (done : Finished S) → done.place ≡ job.place → is_among done.place n.out ≡ true
+  work_among done place =
+      let here : done.place ≡ suc (length m.journal) = place ∙ given.place_is ∙ ap (λ (z : Machine). length z.journal) turned.2 ∙ end_length m.journal (record { strand = s; stream = k }) in
+      ap (λ p. is_among p n.out) here ∙ ap (λ (z : Machine). is_among (suc (length m.journal)) z.out) turned.2 ∙ among_end (suc (length m.journal)) m.out

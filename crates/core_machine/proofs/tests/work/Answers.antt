@@ -1,11 +1,11 @@
 -- While the job is out, a turn that isn't made changes nothing, and the job is run on the room's bytes and finished.
-use Rattle.std.proofs.Common.{◌≡◌, ℕ, List, ap, subst, sym}
+use Rattle.std.proofs.Common.{◌≡◌, ℕ, true, List, ap, subst, sym}
 use Rattle.std.specs.Prelude.{take, IfOk, vec_capacity}
 use Rattle.stage_steps.specs.Coroutine.{CanResume, Resumes}
 use Rattle.stage_steps.specs.First.{FirstStands}
 use Rattle.core_machine.specs.Jobs.{DoneStands}
-use Rattle.core_machine.specs.Machine.{Machine}
-use Rattle.core_machine.proofs.Works.{work_runs, work_done}
+use Rattle.core_machine.specs.Machine.{Machine, is_among}
+use Rattle.core_machine.proofs.Works.{work_runs, work_done, work_among}
 use Rattle.core_machine.proofs.tests.work.Goals as goal
 
 pub run-done-requires : goal.run-done-requires
@@ -22,3 +22,11 @@ finish-requires-clause-stands c =
     let stands = work_done (λ x s h. FirstStands x s h) c.args.core.now c.turn.new.self c.args.strand 0 (vec_capacity c.args.room.now) job c.turn.new.room.items c.in-Work.ensures.turned done c.run-done.ensures.strand c.run-done.ensures.place resumes in
     let same : c.turn-2.new.self ≡ c.turn.new.self = c.in-NotReady.ensures.turned.2 in
     subst (λ (z : Machine). IfOk done.want (λ want. DoneStands (λ x s h. FirstStands x s h) z.net (take done.place z.journal) done.strand done.place done.stage want)) (sym same) stands
+
+pub finish-requires-clause-among : goal.finish-requires-clause-among
+finish-requires-clause-among c =
+    let job = c.in-Work.job in
+    let done = c.run-done.result in
+    let out = work_among (λ x s h. FirstStands x s h) c.args.core.now c.turn.new.self c.args.strand 0 (vec_capacity c.args.room.now) job c.turn.new.room.items c.in-Work.ensures.turned done c.run-done.ensures.place in
+    let same : c.turn-2.new.self ≡ c.turn.new.self = c.in-NotReady.ensures.turned.2 in
+    subst (λ (z : Machine). is_among done.place z.out ≡ true) (sym same) out
