@@ -1,5 +1,5 @@
 -- A net whose reading CONSOLE is given the bytes of the input.
-use Rattle.std.specs.Prelude.{ℕ, Bool, true, false, List, slice_get, slice_set}
+use Rattle.std.specs.Prelude.{ℕ, Bool, List, slice_get, slice_set}
 use Rattle.std.specs.List.{position}
 use Rattle.std.specs.Option.{option_map_or}
 use Rattle.std.specs.declared.option.Option.{Option}
@@ -7,13 +7,7 @@ use Rattle.pipe_model.specs.declared.kind.Kind.{Kind}
 use Rattle.pipe_model.specs.declared.kind.Kind.TheVariants.{ConsoleIn}
 use Rattle.pipe_model.specs.declared.net.Net.{Net}
 use Rattle.pipe_model.specs.declared.net.Strand.{Strand}
-use Rattle.pipe_model.specs.Table.{Feed, line_of}
-use Rattle.pipe_model.specs.Table.Feed.{Unfed, Input, OfFile}
-
-abbrev pub is_input : Feed → Bool
-is_input Unfed = false
-is_input Input = true
-is_input (OfFile name) = false
+use Rattle.pipe_model.specs.Table.{is_input, line_of}
 
 -- the kind is the CONSOLE that reads: the table says that it is fed the input
 abbrev pub reads_input : Kind → Bool

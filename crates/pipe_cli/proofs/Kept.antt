@@ -9,7 +9,8 @@ use Rattle.pipe_model.specs.State.{State, Who, past}
 use Rattle.pipe_model.specs.Table.{form}
 use Rattle.stage_steps.specs.Coroutine.{kept_by}
 use Rattle.pipe_cli.specs.declared.status.Outcome.{Outcome}
-use Rattle.pipe_cli.specs.Built.{is_shown, keeping_of}
+use Rattle.pipe_model.specs.Form.{is_shown}
+use Rattle.pipe_cli.specs.Built.{keeping_of}
 use Rattle.pipe_cli.specs.Devices.{Device, Steady}
 use Rattle.pipe_cli.specs.Steps.{IsPartWritten}
 use Rattle.pipe_cli.proofs.Runs.{console_more, console_less, kept_part}

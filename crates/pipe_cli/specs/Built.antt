@@ -17,12 +17,6 @@ use Rattle.stage_steps.specs.First.{IsFirstKind}
 abbrev pub keeping_of : Kind → Keeping
 keeping_of kind = keeping_by (line_of kind).shape
 
--- what is kept is for the console
-abbrev pub is_shown : Keeping → Bool
-is_shown Nothing = false
-is_shown Console = true
-is_shown (File name) = false
-
 -- it is for a file
 abbrev pub is_filed : Keeping → Bool
 is_filed Nothing = false

@@ -9,7 +9,7 @@ use crate::read::read_all;
 use crate::status::Outcome;
 use net_graph::feed;
 use outside::Source;
-use pipe_model::{Kind, Net, Rec, Strand};
+use pipe_model::{Net, Rec, Strand, reads_input};
 use std::alloc::Global;
 
 // Reads the input to its end, where a CONSOLE of the net reads it, and gives it to that. An error is a read fault, too much input or want of
@@ -44,5 +44,5 @@ fn reader(net: &Net) -> Option<u32>
 fn reads(strand: &Strand) -> bool
     ensures { result ≡ reads_input strand.now.kind }
 {
-    matches!(strand.kind, Kind::ConsoleIn { .. })
+    reads_input(&strand.kind)
 }

@@ -7,7 +7,8 @@ ghost use Rattle.pipe_model.specs.WellFormed.{IsWellFormed};
 ghost use Rattle.core_machine.specs.Machine.{started, state_of};
 ghost use Rattle.stage_steps.specs.declared.first.FirstStage.{FirstStage as StageIs};
 ghost use Rattle.stage_steps.specs.First.{IsFirstKind, FirstStands};
-ghost use Rattle.pipe_cli.specs.Built.{AreBuilt, is_shown, keeping_of};
+ghost use Rattle.pipe_model.specs.Form.{is_shown};
+ghost use Rattle.pipe_cli.specs.Built.{AreBuilt, keeping_of};
 ghost use Rattle.pipe_cli.specs.Devices.{device};
 ghost use Rattle.pipe_cli.specs.Runs.{IsOutcomeOf};
 ghost use Rattle.pipe_cli.specs.Steps.{HasCompleted, StopsRunning, IsWritten, IsPartWritten};
@@ -16,7 +17,7 @@ use crate::status::Outcome;
 use crate::write::write_all;
 use core_machine::{Core, RunEnd};
 use outside::{Gate, Sink};
-use pipe_model::{Kind, Net, NoMemory, worst};
+use pipe_model::{Net, NoMemory, is_shown, worst};
 use stage_steps::FirstStage;
 use std::alloc::Global;
 
@@ -105,11 +106,4 @@ pub(crate) fn write_kept<O: Sink>(
         }
     }
     Ok(())
-}
-
-// What a stage of the kind keeps is for the console.
-fn is_shown(kind: &Kind) -> bool
-    ensures { result ≡ is_shown (keeping_of kind.now) }
-{
-    matches!(kind, Kind::ConsoleOut)
 }

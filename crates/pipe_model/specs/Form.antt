@@ -5,7 +5,7 @@ use Rattle.pipe_model.specs.Shape.{Outs, Width, Keeping, Shape}
 use Rattle.pipe_model.specs.Shape.Outs.{Pairs, Endless}
 use Rattle.pipe_model.specs.Shape.Order.{WritesFirst}
 use Rattle.pipe_model.specs.Shape.Width.{Two, All}
-use Rattle.pipe_model.specs.Shape.Keeping.{Nothing}
+use Rattle.pipe_model.specs.Shape.Keeping.{Nothing, Console, File}
 use Rattle.pipe_model.specs.Shape.Shape.{Absent, Sources, Lists, Sinks, Firsts, Turns, Rounds, Gates, Dams, Queues}
 
 -- how the order in which records come to a strand's inputs matters
@@ -57,6 +57,12 @@ meeting_by _ = Ordered
 abbrev pub keeping_by : Shape → Keeping
 keeping_by (Sinks keeping) = keeping
 keeping_by _ = Nothing
+
+-- it is the text of standard output
+abbrev pub is_shown : Keeping → Bool
+is_shown Nothing = false
+is_shown Console = true
+is_shown (File name) = false
 
 abbrev pub has_none : List Pair → Bool
 has_none [] = true

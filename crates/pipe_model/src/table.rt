@@ -1,6 +1,6 @@
 ghost use Rattle.std.specs.Prelude.{◌≡◌};
-ghost use Rattle.pipe_model.specs.Form.{inputs_by};
-ghost use Rattle.pipe_model.specs.Table.{line_of, outputs_by};
+ghost use Rattle.pipe_model.specs.Form.{inputs_by, is_shown, keeping_by};
+ghost use Rattle.pipe_model.specs.Table.{is_input, line_of, outputs_by};
 
 use crate::kind::Kind;
 
@@ -46,4 +46,18 @@ pub fn most_outputs(kind: &Kind) -> u16
         Kind::FanOut | Kind::Deal | Kind::Synchronise | Kind::Gate | Kind::Dam => 64,
         _ => 1,
     }
+}
+
+/// Whether a stage of this kind is fed the bytes of standard input.
+pub fn reads_input(kind: &Kind) -> bool
+    ensures { result ≡ is_input (line_of kind.now).feed }
+{
+    matches!(kind, Kind::ConsoleIn { .. })
+}
+
+/// Whether what a stage of this kind took is the text of standard output.
+pub fn is_shown(kind: &Kind) -> bool
+    ensures { result ≡ is_shown (keeping_by (line_of kind.now).shape) }
+{
+    matches!(kind, Kind::ConsoleOut)
 }
