@@ -1,9 +1,8 @@
+pub mod Acts
 pub mod Bytes
 pub mod Cuts
 pub mod Fields
 pub mod Flags
-pub mod Fresh
-pub mod Given
-pub mod Sources
+pub mod Groups
 pub mod Walks
 pub mod Words

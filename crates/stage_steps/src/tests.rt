@@ -1,7 +1,6 @@
 ghost use Rattle.std.specs.Prelude.{IfOk};
 ghost use Rattle.stage_steps.specs.First.{IsFirstKind};
 
-use crate::ranges::{columns, fields, words};
 use crate::*;
 use pipe_model::{Kind, NoMemory, Out, Range, Rec, Seen, Span, Want};
 use std::alloc::{AllocError, Global};
