@@ -12,7 +12,7 @@ apart a b p = grind (arith, nat_tests)
 alike : (a b : ℕ) → a ≡ b → (a == b) ≡ true
 alike a b p = grind (arith, nat_tests)
 
-and_true : (b : Bool) → (b && true) ≡ b
+pub and_true : (b : Bool) → (b && true) ≡ b
 and_true true = refl
 and_true false = refl
 

@@ -1,8 +1,11 @@
 pub mod Acts
 pub mod Bytes
 pub mod Cuts
+pub mod Drives
 pub mod Fields
 pub mod Flags
 pub mod Groups
+pub mod Sources
+pub mod Starts
 pub mod Walks
 pub mod Words

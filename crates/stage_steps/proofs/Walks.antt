@@ -326,21 +326,24 @@ written_plain (Fresh bytes) rec h is = refl
 module _ {L : Type 0} (stands : L → Stream → Records → List Act → Type 0) (order : RowOrder) (t : Stream) (outputs : List Bool) (h : List Event)
     (x y : L) (hand hand' : Option Group) (place' : Place) (flags : List Bool) (asked : Asked) (p : Past) where
   -- what is so when it has asked
-  abbrev HasAsked : Type 0
-  HasAsked = PlaceIs stands order t true y place' hand' flags p × (Some (meaning asked (last_seen h)) ≡ want_in p.phase)
+  abbrev pub HasAsked : Place → Type 0
+  HasAsked from = PlaceIs stands order t true y place' hand' flags p × (Some (meaning asked (last_seen h)) ≡ want_in p.phase) × ((all : List ℕ) → AllIs from all h → AllIs place' all h)
 
-  plainly : (from : Place) → (y ≡ x) × (hand' ≡ hand) × (place' ≡ from) × (asked ≡ want_at from) → PlaceIs stands order t true x from hand flags p → Some (meaning (want_at from) (last_seen h)) ≡ want_in p.phase → HasAsked
+  plainly : (from : Place) → (y ≡ x) × (hand' ≡ hand) × (place' ≡ from) × (asked ≡ want_at from) → PlaceIs stands order t true x from hand flags p → Some (meaning (want_at from) (last_seen h)) ≡ want_in p.phase → HasAsked from
   plainly from asks is want = (
     subst (λ z. PlaceIs stands order t true z place' hand' flags p) (sym asks.0)
         (subst (λ g. PlaceIs stands order t true x place' g flags p) (sym asks.1) (subst (λ f. PlaceIs stands order t true x f hand flags p) (sym asks.2) is)),
     ap (λ a. Some (meaning a (last_seen h))) asks.3 ∙ want,
+    λ all kept. subst (λ f. AllIs f all h) (sym asks.2) kept,
   )
 
   -- nothing was left to write
-  turns : (from : Place) → hand' ≡ None → place' ≡ from → asked ≡ want_at place' → PlaceIs stands order t true y from None flags p → Some (meaning (want_at from) (last_seen h)) ≡ want_in p.phase → HasAsked
-  turns from none place_is asks is want = (
+  turns : (follow : Follow) (from : Place) → hand' ≡ None → place' ≡ from → asked ≡ want_at place' → PlaceIs stands order t true y from None flags p → Some (meaning (want_at from) (last_seen h)) ≡ want_in p.phase →
+      ((all : List ℕ) → AllIs (Writing follow) all h → AllIs from all h) → HasAsked (Writing follow)
+  turns follow from none place_is asks is want kept = (
     subst (λ g. PlaceIs stands order t true y place' g flags p) (sym none) (subst (λ f. PlaceIs stands order t true y f None flags p) (sym place_is) is),
     ap (λ a. Some (meaning a (last_seen h))) (asks ∙ ap want_at place_is) ∙ want,
+    λ all is. subst (λ f. AllIs f all h) (sym place_is) (kept all is),
   )
 
   look_want : (stops : Bool) (code : ℤ) → p.phase ≡ Doing [] (cond stops (Ends code) (Asking (Want.Read 0))) → Some (meaning (want_at (cond stops (Ending code) Looking)) (last_seen h)) ≡ want_in p.phase
@@ -348,15 +351,16 @@ module _ {L : Type 0} (stands : L → Stream → Records → List Act → Type 0
   look_want false code is = ap want_in (sym is)
 
   behind : (follow : Follow) → stands y t (records_of p.known.seen) [] → hand' ≡ None → place' ≡ place_behind follow t (records_of p.known.seen) → asked ≡ want_at place' →
-      p.phase ≡ Doing (and_behind follow []) (goal_behind follow t (records_of p.known.seen)) → HasAsked
-  behind Take stood none place_is asks is = turns Taking none place_is asks ([], stood, refl, none_before order, is) (ap want_in (sym is))
+      p.phase ≡ Doing (and_behind follow []) (goal_behind follow t (records_of p.known.seen)) → HasAsked (Writing follow)
+  behind Take stood none place_is asks is = turns Take Taking none place_is asks ([], stood, refl, none_before order, is) (ap want_in (sym is)) (λ all kept. kept)
   behind Look stood none place_is asks is =
-      turns (look_place t (records_of p.known.seen)) none place_is asks (look_by stands order t true y None flags p stood refl is) (look_want (t.stops (records_of p.known.seen)) (t.code (records_of p.known.seen)) is)
-  behind End stood none place_is asks is = turns (Ending (t.code (records_of p.known.seen))) none place_is asks is (ap want_in (sym is))
+      turns Look (look_place t (records_of p.known.seen)) none place_is asks (look_by stands order t true y None flags p stood refl is) (look_want (t.stops (records_of p.known.seen)) (t.code (records_of p.known.seen)) is)
+      (λ all kept. (elim (t.stops (records_of p.known.seen)) as (λ b. AllIs (cond b (Ending (t.code (records_of p.known.seen))) Looking) all h) [ true ↦ tt | false ↦ kept ]))
+  behind End stood none place_is asks is = turns End (Ending (t.code (records_of p.known.seen))) none place_is asks is (ap want_in (sym is)) (λ all kept. tt)
 
   one : (follow : Follow) (g : Group) (rest before : List Act) → last_seen_on 0 h ≡ at_hand_of (records_of p.known.seen) → is_due flags g ≡ true → stands y t (records_of p.known.seen) rest →
       hand' ≡ less_one g → place' ≡ Writing follow → asked ≡ Asked.Write g.output (plain g.out) → live flags before ≡ live flags (group_acts (at_hand_of (records_of p.known.seen)) g ++ rest) →
-      p.phase ≡ Doing (live flags (and_behind follow before)) (goal_behind follow t (records_of p.known.seen)) → HasAsked
+      p.phase ≡ Doing (live flags (and_behind follow before)) (goal_behind follow t (records_of p.known.seen)) → HasAsked (Writing follow)
   one follow g rest before sight due stood hand_is place_is asks same is =
       let rec = at_hand_of (records_of p.known.seen) in
       let goal = goal_behind follow t (records_of p.known.seen) in
@@ -367,9 +371,10 @@ module _ {L : Type 0} (stands : L → Stream → Records → List Act → Type 0
             (rest, stood, (live flags (and_behind follow (group_acts rec g ++ rest)), (g.output, record_of rec g.out), phase, first.0, first.1 ∙ ap (λ z. live flags (and_behind follow (held_acts rec z ++ rest))) (sym hand_is))),
         ap (λ a. Some (meaning a (last_seen h))) asks ∙ ap (λ r. Some (Want.Write g.output r)) (written_plain g.out rec h sight)
             ∙ sym (want_first (live flags (and_behind follow (group_acts rec g ++ rest))) goal (g.output, record_of rec g.out) first.0) ∙ ap want_in (sym phase),
+        λ all kept. subst (λ f. AllIs f all h) (sym place_is) kept,
       )
 
-  asks_at : (follow : Follow) (given : Option Group) → last_seen_on 0 h ≡ at_hand_of (records_of p.known.seen) → PlaceIs stands order t false x (Writing follow) hand flags p → Fetches stands flags x hand y given → Turns stands follow y given hand' place' asked → HasAsked
+  asks_at : (follow : Follow) (given : Option Group) → last_seen_on 0 h ≡ at_hand_of (records_of p.known.seen) → PlaceIs stands order t false x (Writing follow) hand flags p → Fetches stands flags x hand y given → Turns stands follow y given hand' place' asked → HasAsked (Writing follow)
   asks_at follow None sight is fetches turn =
       let rec = at_hand_of (records_of p.known.seen) in
       let f = fetches t (records_of p.known.seen) is.0 is.1 in
@@ -380,7 +385,7 @@ module _ {L : Type 0} (stands : L → Stream → Records → List Act → Type 0
       one follow g f.0 (held_acts (at_hand_of (records_of p.known.seen)) hand ++ is.0) sight fetches.0 f.2 turn.0 turn.1 turn.2 f.1 is.2
 
   -- it asks for what is wanted
-  pub by_want : (from : Place) → last_seen_on 0 h ≡ at_hand_of (records_of p.known.seen) → PlaceIs stands order t false x from hand flags p → Asks stands flags x hand from y hand' place' asked → HasAsked
+  pub by_want : (from : Place) → last_seen_on 0 h ≡ at_hand_of (records_of p.known.seen) → PlaceIs stands order t false x from hand flags p → Asks stands flags x hand from y hand' place' asked → HasAsked from
   by_want Starting sight is asks = plainly Starting asks is (ap want_in (sym is.3))
   by_want Committing sight is asks = plainly Committing asks is (ap want_in (sym is.3))
   by_want Looking sight is asks = plainly Looking asks is (ap want_in (sym is.2))
