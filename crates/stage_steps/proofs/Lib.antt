@@ -3,6 +3,7 @@ pub mod Bytes
 pub mod Cuts
 pub mod Drives
 pub mod Fields
+pub mod Fitting
 pub mod Flags
 pub mod Groups
 pub mod Sources

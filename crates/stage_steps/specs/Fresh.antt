@@ -18,5 +18,5 @@ pub record Fits {L : Type 0} (stands : L → Stream → Records → List Act →
   pub begins : stands lists t [] []
 
 -- the driver of these stands for each strand that they fit, before its first event
-abbrev pub IsFresh : {L : Type 0} → (L → Stream → Records → List Act → Type 0) → Bool → L → Order → List Bool → Bool → L → Walk → Type 0
-IsFresh stands looks lists order outputs keeps x w = (s : Strand) (t : Stream) → Fits stands looks lists order outputs keeps s t → ListedIs stands looks true x w s []
+abbrev pub IsFresh : {L : Type 0} → (L → Stream → Records → List Act → Type 0) → (L → Bool) → L → Order → List Bool → Bool → L → Walk → Type 0
+IsFresh stands is_looking lists order outputs keeps x w = (s : Strand) (t : Stream) → Fits stands (is_looking lists) lists order outputs keeps s t → ListedIs stands (is_looking x) true x w s []

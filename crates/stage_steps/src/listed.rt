@@ -1,4 +1,4 @@
-use crate::kept::{Kept, note_kept};
+use crate::kept::{kept_if, note_kept};
 use crate::lists::Lists;
 use crate::order::Order;
 use crate::outputs::Outputs;
@@ -29,9 +29,8 @@ impl<L: Lists> Listed<L> {
         outputs: &[bool],
         keeps: bool,
     ) -> Result<Listed<L>, NoMemory>
-        ensures { IfOk result (λ it. IsFresh L.stands (L.is_looking lists) lists order outputs.now keeps it.lists it.walk) }
+        ensures { IfOk result (λ it. IsFresh L.stands L.is_looking lists order outputs.now keeps it.lists it.walk) }
     {
-        let kept = if keeps { Some(Kept::new(alloc)) } else { None };
         Ok(Listed {
             lists,
             walk: Walk {
@@ -39,7 +38,7 @@ impl<L: Lists> Listed<L> {
                 place: Place::Starting,
                 hand: None,
                 outputs: Outputs::new(alloc, outputs)?,
-                kept,
+                kept: kept_if(alloc, keeps),
             },
         })
     }
