@@ -174,14 +174,25 @@ module _ {L : Type 0} (stands : L → Stream → Records → List Act → Type 0
       )
 
 module _ {L : Type 0} (stands : L → Stream → Records → List Act → Type 0) (looks : Bool) (x y z : L) (seen : Seen) (bytes : List ℕ) (w : Walk) (kept' : Option KeptText) (outputs' : Outputs)
-    (place1 place2 : Place) (hand' : Option Group) (asked : Asked) (s : Strand) (h : List Event) where
-  -- the driver's one step, from what its parts do
-  pub steps : (e : Event) → IsTold (λ v s h. ListedIs stands looks true v w s h) x seen bytes s h e →
+    (place1 : Place) (v : Walk) (looks' : Bool) (asked : Asked) (s : Strand) (h : List Event) where
+  abbrev Stepped : Event → Type 0
+  Stepped e = ListedIs stands looks true z (record { order = w.order; place = v.place; hand = v.hand; outputs = outputs'; kept = kept' }) s (e ∷ h) × (Some (meaning asked (last_seen (e ∷ h))) ≡ owed s (e ∷ h))
+
+  by_event : (e : Event) → IsTold (λ v s h. ListedIs stands looks true v w s h) x seen bytes s h e →
       kept' ≡ option_map (kept_after seen bytes) w.kept → outputs'.flags.items ≡ open_after seen w.outputs.flags.items → outputs'.connected ≡ w.outputs.connected →
       Hears stands looks w.order (is_none kept' && none_left outputs'.connected outputs'.flags.items) x w.place seen bytes y place1 →
-      Asks stands outputs'.flags.items y w.hand place1 z hand' place2 asked →
-      ListedIs stands looks true z (record { order = w.order; place = place2; hand = hand'; outputs = outputs'; kept = kept' }) s (e ∷ h) × (Some (meaning asked (last_seen (e ∷ h))) ≡ owed s (e ∷ h))
-  steps (Ended code) t kept_is flags_is connected_is hears asks =
-      ends_here stands looks x y z seen bytes w kept' outputs' place1 place2 hand' asked s h (Ended code) t.stood t.answer t.seen_is t.bytes_are t.room kept_is flags_is connected_is hears asks code refl
-  steps e t kept_is flags_is connected_is hears asks =
-      goes_on stands looks x y z seen bytes w kept' outputs' place1 place2 hand' asked s h e t.stood t.answer t.seen_is t.bytes_are t.room kept_is flags_is connected_is hears asks (going s h e t.answer).0
+      Asks stands outputs'.flags.items y w.hand place1 z v.hand v.place asked → Stepped e
+  by_event (Ended code) t kept_is flags_is connected_is hears asks =
+      ends_here stands looks x y z seen bytes w kept' outputs' place1 v.place v.hand asked s h (Ended code) t.stood t.answer t.seen_is t.bytes_are t.room kept_is flags_is connected_is hears asks code refl
+  by_event e t kept_is flags_is connected_is hears asks =
+      goes_on stands looks x y z seen bytes w kept' outputs' place1 v.place v.hand asked s h e t.stood t.answer t.seen_is t.bytes_are t.room kept_is flags_is connected_is hears asks (going s h e t.answer).0
+
+  -- the driver's one step, from what its parts do
+  pub steps : (e : Event) → looks' ≡ looks → v ≡ record { order = w.order; place = v.place; hand = v.hand; outputs = outputs'; kept = kept' } → IsTold (λ v s h. ListedIs stands looks true v w s h) x seen bytes s h e →
+      kept' ≡ option_map (kept_after seen bytes) w.kept → outputs'.flags.items ≡ open_after seen w.outputs.flags.items → outputs'.connected ≡ w.outputs.connected →
+      Hears stands looks w.order (is_none kept' && none_left outputs'.connected outputs'.flags.items) x w.place seen bytes y place1 →
+      Asks stands outputs'.flags.items y w.hand place1 z v.hand v.place asked →
+      ListedIs stands looks' true z v s (e ∷ h) × (Some (meaning asked (last_seen (e ∷ h))) ≡ owed s (e ∷ h))
+  steps e same others t kept_is flags_is connected_is hears asks =
+      let done = by_event e t kept_is flags_is connected_is hears asks in
+      (subst (λ b. ListedIs stands b true z v s (e ∷ h)) (sym same) (subst (λ (u : Walk). ListedIs stands looks true z u s (e ∷ h)) (sym others) done.0), done.1)

@@ -143,9 +143,12 @@ module _ {L : Type 0} (stands : L → Stream → Records → List Act → Type 0
   at_sight_is : (known : Known) (acts : List Act) → stands y t (records_of known.seen) acts → hand ≡ None → (order' : Order) →
       PlaceIs stands (order_of order') t false y (place_with order') hand (open_from 0 outputs p.refused)
       (record { known = known; refused = p.refused; phase = Doing (filter (is_live outputs p.refused) (in_order (order_of order') acts (Takes 0))) (next_record t (records_of known.seen)) })
-  at_sight_is known acts stood none WritesFirst =
-      (acts, stood, ap (λ l. Doing l (next_record t (records_of known.seen))) (live_is outputs p.refused (acts ++ Takes 0 ∷ []))
-          ∙ ap (λ g. Doing (live (open_from 0 outputs p.refused) ((held_acts (at_hand_of (records_of known.seen)) g ++ acts) ++ Takes 0 ∷ [])) (next_record t (records_of known.seen))) (sym none))
+  at_sight_is known acts stood none WritesFirst = (
+    acts,
+    stood,
+    ap (λ l. Doing l (next_record t (records_of known.seen))) (live_is outputs p.refused (acts ++ Takes 0 ∷ []))
+        ∙ ap (λ g. Doing (live (open_from 0 outputs p.refused) ((held_acts (at_hand_of (records_of known.seen)) g ++ acts) ++ Takes 0 ∷ [])) (next_record t (records_of known.seen))) (sym none),
+  )
   at_sight_is known acts stood none TakesFirst = (acts, stood, none, tt, ap (λ l. Doing (Takes 0 ∷ l) (next_record t (records_of known.seen))) (live_is outputs p.refused acts))
 
   sight_kept : (halts : Bool) (code : ℤ) (order' : Order) (all : List ℕ) (g : List Event) → all ≡ text (taken_from 0 g ++ last_seen_on 0 g ∷ []) → AllIs (cond halts (Ending code) (place_with order')) all g
@@ -262,10 +265,12 @@ module _ {L : Type 0} (stands : L → Stream → Records → List Act → Type 0
       (look_by stands (order_of order) t false x hand (open_from 0 outputs p.refused) q stood_there none
       (phase_is ∙ ap (λ l. Doing (live (open_from 0 outputs p.refused) l) (next_record t (records_of p.known.seen))) before ∙ ap (λ l. Doing [] (next_record t (records_of l))) (sym seen)))
   take_by TakesFirst acts same stood none before place_is q seen phase_is =
-      subst (λ f. Stood x f q) (sym place_is)
-      (acts, subst (λ l. stands x t (records_of l) acts) (sym seen) stood,
-      phase_is ∙ ap (λ l. Doing (live (open_from 0 outputs p.refused) acts) (next_record t (records_of l))) (sym seen)
-      ∙ ap (λ g. Doing (live (open_from 0 outputs p.refused) (held_acts (at_hand_of (records_of q.known.seen)) g ++ acts)) (next_record t (records_of q.known.seen))) (sym none))
+      subst (λ f. Stood x f q) (sym place_is) (
+        acts,
+        subst (λ l. stands x t (records_of l) acts) (sym seen) stood,
+        phase_is ∙ ap (λ l. Doing (live (open_from 0 outputs p.refused) acts) (next_record t (records_of l))) (sym seen)
+            ∙ ap (λ g. Doing (live (open_from 0 outputs p.refused) (held_acts (at_hand_of (records_of q.known.seen)) g ++ acts)) (next_record t (records_of q.known.seen))) (sym none),
+      )
 
   take_kept : (order' : Order) (all : List ℕ) (g : List Event) → all ≡ text (taken_from 0 g) → AllIs (taken_place order' t (records_of p.known.seen)) all g
   take_kept WritesFirst all g is = (elim (t.stops (records_of p.known.seen)) as (λ b. AllIs (cond b (Ending (t.code (records_of p.known.seen))) Looking) all g) [ true ↦ tt | false ↦ is ])

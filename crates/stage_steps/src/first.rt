@@ -34,7 +34,13 @@ impl FirstStage {
                 Ok(FirstStage::Source(source))
             }
             Kind::ConsoleOut => {
-                let sink = Listed::new(alloc, Copies::new(true), Order::WritesFirst, outputs, true)?;
+                let sink = Listed::new(
+                    alloc,
+                    Copies::new(true),
+                    Order::WritesFirst,
+                    outputs,
+                    true,
+                )?;
                 Ok(FirstStage::Sink(sink))
             }
             Kind::Locate { range, text } => {

@@ -144,7 +144,11 @@ pub(crate) fn hear<L: Lists>(
 
 // The next group whose output is open.
 #[inline(always)]
-fn next_group<L: Lists>(lists: &mut L, outputs: &Outputs, alloc: Global) -> Result<Option<Group>, NoMemory>
+fn next_group<L: Lists>(
+    lists: &mut L,
+    outputs: &Outputs,
+    alloc: Global,
+) -> Result<Option<Group>, NoMemory>
     ensures looks_same { L.is_looking lists.new ≡ L.is_looking lists.old }
     ensures fetches { IfOk result (λ given. Fetches L.stands outputs.now.flags.items lists.old None lists.new given) }
 {
@@ -158,7 +162,12 @@ fn next_group<L: Lists>(lists: &mut L, outputs: &Outputs, alloc: Global) -> Resu
 
 // The same, the one in hand first, which leaves it.
 #[inline(always)]
-fn fetch<L: Lists>(lists: &mut L, hand: &mut Option<Group>, outputs: &Outputs, alloc: Global) -> Result<Option<Group>, NoMemory>
+fn fetch<L: Lists>(
+    lists: &mut L,
+    hand: &mut Option<Group>,
+    outputs: &Outputs,
+    alloc: Global,
+) -> Result<Option<Group>, NoMemory>
     ensures looks_same { L.is_looking lists.new ≡ L.is_looking lists.old }
     ensures hand { IfOk result (λ _. hand.new ≡ None) }
     ensures fetches { IfOk result (λ given. Fetches L.stands outputs.now.flags.items lists.old hand.old lists.new given) }
