@@ -60,7 +60,7 @@ ends_at stands order t x (Ending code') hand flags p code is fits = ap Ending (s
 
 module _ {L : Type 0} (stands : L → Stream → Records → List Act → Type 0) (looks : Bool) (x y z : L) (seen : Seen) (bytes : List ℕ) (w : Walk) (kept' : Option KeptText) (outputs' : Outputs)
     (place1 place2 : Place) (hand' : Option Group) (asked : Asked) (s : Strand) (h : List Event) (e : Event)
-    (is : ListedIs stands looks true x w s h) (answer : answers (next s h) e ≡ true) (seen_is : told e ≡ seen) (came : bytes_with (form s).looks e ≡ bytes) (room : length h < 50000000)
+    (is : ListedIs stands looks x w s h) (answer : answers (next s h) e ≡ true) (seen_is : told e ≡ seen) (came : bytes_with (form s).looks e ≡ bytes) (room : length h < 50000000)
     (kept_is : kept' ≡ option_map (kept_after seen bytes) w.kept) (flags_is : outputs'.flags.items ≡ open_after seen w.outputs.flags.items) (connected_is : outputs'.connected ≡ w.outputs.connected)
     (hears : Hears stands looks w.order (is_none kept' && none_left outputs'.connected outputs'.flags.items) x w.place seen bytes y place1)
     (asks : Asks stands outputs'.flags.items y w.hand place1 z hand' place2 asked) where
@@ -145,7 +145,7 @@ module _ {L : Type 0} (stands : L → Stream → Records → List Act → Type 0
   kept_now : KeepsAll place2 → KeptIs place2 kept' (form s).keeping (e ∷ h)
   kept_now all = subst (λ k. KeptIs place2 k (form s).keeping (e ∷ h)) (sym (kept_is ∙ ap (λ v. option_map (kept_after v bytes) w.kept) (sym seen_is))) (kept_by_it w.kept is.keeps_is is.kept_is all)
 
-  stands_for : (has_ended (e ∷ h) ≡ false → PlaceIs stands (order_of w.order) is.stream true z place2 hand' flags new) → KeepsAll place2 → ListedIs stands looks true z walk s (e ∷ h)
+  stands_for : (has_ended (e ∷ h) ≡ false → PlaceIs stands (order_of w.order) is.stream true z place2 hand' flags new) → KeepsAll place2 → ListedIs stands looks z walk s (e ∷ h)
   stands_for place_is all = record {
     keeps = is.keeps;
     keeps_is = ap is_some kept_is ∙ some_is (kept_after seen bytes) w.kept ∙ is.keeps_is;
@@ -163,10 +163,10 @@ module _ {L : Type 0} (stands : L → Stream → Records → List Act → Type 0
     kept_is = kept_now all;
   }
 
-  goes_on : has_ended (e ∷ h) ≡ false → ListedIs stands looks true z walk s (e ∷ h) × (Some (meaning asked (last_seen (e ∷ h))) ≡ next s (e ∷ h))
+  goes_on : has_ended (e ∷ h) ≡ false → ListedIs stands looks z walk s (e ∷ h) × (Some (meaning asked (last_seen (e ∷ h))) ≡ next s (e ∷ h))
   goes_on more = (stands_for (λ m. (wants m).0) (wants more).2, wants_next more)
 
-  ends_here : (code : ℤ) → e ≡ Ended code → ListedIs stands looks true z walk s (e ∷ h) × (Some (meaning asked (last_seen (e ∷ h))) ≡ Some (Want.Done code))
+  ends_here : (code : ℤ) → e ≡ Ended code → ListedIs stands looks z walk s (e ∷ h) × (Some (meaning asked (last_seen (e ∷ h))) ≡ Some (Want.Done code))
   ends_here code it =
       let at = stays code it in (
         stands_for (λ more. let no : true ≡ false = ap (λ v. has_ended (v ∷ h)) (sym it) ∙ more in cc) (λ all kept. subst (λ f. AllIs f all (e ∷ h)) (sym at.0) tt),
@@ -176,9 +176,9 @@ module _ {L : Type 0} (stands : L → Stream → Records → List Act → Type 0
 module _ {L : Type 0} (stands : L → Stream → Records → List Act → Type 0) (looks : Bool) (x y z : L) (seen : Seen) (bytes : List ℕ) (w : Walk) (kept' : Option KeptText) (outputs' : Outputs)
     (place1 : Place) (v : Walk) (looks' : Bool) (asked : Asked) (s : Strand) (h : List Event) where
   abbrev Stepped : Event → Type 0
-  Stepped e = ListedIs stands looks true z (record { order = w.order; place = v.place; hand = v.hand; outputs = outputs'; kept = kept' }) s (e ∷ h) × (Some (meaning asked (last_seen (e ∷ h))) ≡ owed s (e ∷ h))
+  Stepped e = ListedIs stands looks z (record { order = w.order; place = v.place; hand = v.hand; outputs = outputs'; kept = kept' }) s (e ∷ h) × (Some (meaning asked (last_seen (e ∷ h))) ≡ owed s (e ∷ h))
 
-  by_event : (e : Event) → IsTold (λ v s h. ListedIs stands looks true v w s h) x seen bytes s h e →
+  by_event : (e : Event) → IsTold (λ v s h. ListedIs stands looks v w s h) x seen bytes s h e →
       kept' ≡ option_map (kept_after seen bytes) w.kept → outputs'.flags.items ≡ open_after seen w.outputs.flags.items → outputs'.connected ≡ w.outputs.connected →
       Hears stands looks w.order (is_none kept' && none_left outputs'.connected outputs'.flags.items) x w.place seen bytes y place1 →
       Asks stands outputs'.flags.items y w.hand place1 z v.hand v.place asked → Stepped e
@@ -188,11 +188,11 @@ module _ {L : Type 0} (stands : L → Stream → Records → List Act → Type 0
       goes_on stands looks x y z seen bytes w kept' outputs' place1 v.place v.hand asked s h e t.stood t.answer t.seen_is t.bytes_are t.room kept_is flags_is connected_is hears asks (going s h e t.answer).0
 
   -- the driver's one step, from what its parts do
-  pub steps : (e : Event) → looks' ≡ looks → v ≡ record { order = w.order; place = v.place; hand = v.hand; outputs = outputs'; kept = kept' } → IsTold (λ v s h. ListedIs stands looks true v w s h) x seen bytes s h e →
+  pub steps : (e : Event) → looks' ≡ looks → v ≡ record { order = w.order; place = v.place; hand = v.hand; outputs = outputs'; kept = kept' } → IsTold (λ v s h. ListedIs stands looks v w s h) x seen bytes s h e →
       kept' ≡ option_map (kept_after seen bytes) w.kept → outputs'.flags.items ≡ open_after seen w.outputs.flags.items → outputs'.connected ≡ w.outputs.connected →
       Hears stands looks w.order (is_none kept' && none_left outputs'.connected outputs'.flags.items) x w.place seen bytes y place1 →
       Asks stands outputs'.flags.items y w.hand place1 z v.hand v.place asked →
-      ListedIs stands looks' true z v s (e ∷ h) × (Some (meaning asked (last_seen (e ∷ h))) ≡ owed s (e ∷ h))
+      ListedIs stands looks' z v s (e ∷ h) × (Some (meaning asked (last_seen (e ∷ h))) ≡ owed s (e ∷ h))
   steps e same others t kept_is flags_is connected_is hears asks =
       let done = by_event e t kept_is flags_is connected_is hears asks in
-      (subst (λ b. ListedIs stands b true z v s (e ∷ h)) (sym same) (subst (λ (u : Walk). ListedIs stands looks true z u s (e ∷ h)) (sym others) done.0), done.1)
+      (subst (λ b. ListedIs stands b z v s (e ∷ h)) (sym same) (subst (λ (u : Walk). ListedIs stands looks z u s (e ∷ h)) (sym others) done.0), done.1)

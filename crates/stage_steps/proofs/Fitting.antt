@@ -15,7 +15,7 @@ use Rattle.stage_steps.specs.declared.locate.Locates.{Locates}
 use Rattle.stage_steps.specs.declared.text_lines.TextLines.{TextLines}
 use Rattle.stage_steps.specs.declared.order.Order.TheVariants.{WritesFirst}
 use Rattle.stage_steps.specs.FirstLists.{LinesStand, CopiesStand, LocatesStand}
-use Rattle.stage_steps.specs.Fresh.{Fits}
+use Rattle.stage_steps.specs.Drivers.{Fits}
 use Rattle.stage_steps.specs.Listed.{lists_of, only_before}
 use Rattle.stage_steps.specs.Waiting.{waiting_act}
 

@@ -13,7 +13,7 @@ use Rattle.stage_steps.specs.Kept.{nothing_kept}
 use Rattle.stage_steps.specs.Outputs.{open_from}
 use Rattle.stage_steps.specs.Places.{order_of}
 use Rattle.stage_steps.specs.Listed.{Listing, KeptIs, ListedIs}
-use Rattle.stage_steps.specs.Fresh.{Fits}
+use Rattle.stage_steps.specs.Drivers.{Fits}
 use Rattle.stage_steps.proofs.Flags.{and_true}
 use Rattle.stage_steps.proofs.Sources.{Keeps, past_of_lists, kept_of_lists}
 
@@ -32,7 +32,7 @@ module _ {L : Type 0} (stands : L → Stream → Records → List Act → Type 0
   kept_by false is = is.0 refl
 
   -- the driver stands for the strand
-  pub fresh : ListedIs stands looks true lists (record { order = order; place = Starting; hand = None; outputs = outputs; kept = kept }) s []
+  pub fresh : ListedIs stands looks lists (record { order = order; place = Starting; hand = None; outputs = outputs; kept = kept }) s []
   fresh = record {
     keeps = keeps;
     keeps_is = ap is_some kept_is ∙ some_is keeps;

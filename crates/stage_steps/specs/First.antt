@@ -6,7 +6,7 @@ use Rattle.pipe_model.specs.declared.kind.Kind.TheVariants.{ConsoleIn, ConsoleOu
 use Rattle.pipe_model.specs.Event.{Event}
 use Rattle.stage_steps.specs.declared.first.FirstStage.{FirstStage}
 use Rattle.stage_steps.specs.declared.first.FirstStage.TheVariants.{Source, Sink, Locating}
-use Rattle.stage_steps.specs.Listed.{ListedIs}
+use Rattle.stage_steps.specs.Drivers.{ListedStands}
 use Rattle.stage_steps.specs.FirstLists.{LinesStand, CopiesStand, LocatesStand}
 
 -- the kinds that there are stages of
@@ -18,6 +18,6 @@ IsFirstKind _ = ⊥
 
 -- the stage stands for this history of this strand
 abbrev pub FirstStands : FirstStage → Strand → List Event → Type 0
-FirstStands (Source x) s h = ListedIs (λ l t recs acts. LinesStand l.bytes l.at t acts) false true x.lists x.walk s h
-FirstStands (Sink x) s h = ListedIs (λ l t recs acts. CopiesStand l.waiting t recs acts) x.lists.is_looking true x.lists x.walk s h
-FirstStands (Locating x) s h = ListedIs (λ l t recs acts. LocatesStand l.range l.text l.waiting t recs acts) true true x.lists x.walk s h
+FirstStands (Source x) s h = ListedStands (λ l t recs acts. LinesStand l.bytes l.at t acts) (λ l. false) x s h
+FirstStands (Sink x) s h = ListedStands (λ l t recs acts. CopiesStand l.waiting t recs acts) (λ l. l.is_looking) x s h
+FirstStands (Locating x) s h = ListedStands (λ l t recs acts. LocatesStand l.range l.text l.waiting t recs acts) (λ l. true) x s h

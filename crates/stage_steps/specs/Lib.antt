@@ -1,7 +1,7 @@
 pub mod Coroutine
+pub mod Drivers
 pub mod First
 pub mod FirstLists
-pub mod Fresh
 pub mod Group
 pub mod Kept
 pub mod KeptText

@@ -125,15 +125,15 @@ pub record WalkIs {L : Type 0} (stands : L → Stream → Records → List Act �
   pub few : length (records_of p.known.seen) ≤ length h
   pub place_is : has_ended h ≡ false → PlaceIs stands order t has_asked x place hand flags p
 
--- the driver stands for a strand's history, before it asks or when it has asked
-pub record ListedIs {L : Type 0} (stands : L → Stream → Records → List Act → Type 0) (looks : Bool) (has_asked : Bool) (x : L) (w : Walk) (s : Strand) (h : List Event) : Type 0 where
+-- these parts of a driver, which has asked, stand for a strand's history
+pub record ListedIs {L : Type 0} (stands : L → Stream → Records → List Act → Type 0) (looks : Bool) (x : L) (w : Walk) (s : Strand) (h : List Event) : Type 0 where
   pub keeps : Bool
   pub keeps_is : is_some w.kept ≡ keeps
   pub stream : Stream
   -- the strand's past is that of these lists, whatever happens
   pub past_is : (g : List Event) → past_by (form s).row s.ports.has_output g ≡ past_by (list_row (order_of w.order) keeps stream) s.ports.has_output g
   pub connected_is : w.outputs.connected ≡ list_any (λ flag. flag) s.ports.has_output
-  pub walk_is : WalkIs stands (order_of w.order) stream has_asked s.ports.has_output x w.place w.hand w.outputs.flags.items h (past_by (list_row (order_of w.order) keeps stream) s.ports.has_output h)
+  pub walk_is : WalkIs stands (order_of w.order) stream true s.ports.has_output x w.place w.hand w.outputs.flags.items h (past_by (list_row (order_of w.order) keeps stream) s.ports.has_output h)
   pub looks_are : looks ≡ (form s).looks
   -- who keeps records looks at them
   pub looking : keeps ≡ true → looks ≡ true

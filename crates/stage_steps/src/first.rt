@@ -34,13 +34,8 @@ impl FirstStage {
                 Ok(FirstStage::Source(source))
             }
             Kind::ConsoleOut => {
-                let sink = Listed::new(
-                    alloc,
-                    Copies::new(true),
-                    Order::WritesFirst,
-                    outputs,
-                    true,
-                )?;
+                let copies = Copies::new(true);
+                let sink = Listed::new(alloc, copies, Order::WritesFirst, outputs, true)?;
                 Ok(FirstStage::Sink(sink))
             }
             Kind::Locate { range, text } => {

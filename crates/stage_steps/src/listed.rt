@@ -18,7 +18,7 @@ pub struct Listed<L: Lists> {
 
 impl<L: Lists> Listed<L> {
     ghost use Rattle.std.specs.Prelude.{◌≡◌, IfOk};
-    ghost use Rattle.stage_steps.specs.Fresh.{IsFresh};
+    ghost use Rattle.stage_steps.specs.Drivers.{IsFresh};
 
     /// A fresh driver of these lists, with these connected outputs. Where it keeps the text of the records that it takes,
     /// refusals don't end it.
@@ -29,7 +29,7 @@ impl<L: Lists> Listed<L> {
         outputs: &[bool],
         keeps: bool,
     ) -> Result<Listed<L>, NoMemory>
-        ensures { IfOk result (λ it. IsFresh L.stands L.is_looking lists order outputs.now keeps it.lists it.walk) }
+        ensures { IfOk result (λ it. IsFresh L.stands L.is_looking lists order outputs.now keeps it) }
     {
         Ok(Listed {
             lists,
@@ -45,11 +45,11 @@ impl<L: Lists> Listed<L> {
 }
 
 impl<L: Lists> Stage for Listed<L> {
-    ghost use Rattle.std.specs.Prelude.{IfOk, true};
+    ghost use Rattle.std.specs.Prelude.{IfOk};
     ghost use Rattle.stage_steps.specs.Coroutine.{Resumes};
-    ghost use Rattle.stage_steps.specs.Listed.{ListedIs};
+    ghost use Rattle.stage_steps.specs.Drivers.{ListedStands};
 
-    ghost stands = { λ x s h. ListedIs L.stands (L.is_looking x.lists) true x.lists x.walk s h };
+    ghost stands = { λ x s h. ListedStands L.stands L.is_looking x s h };
 
     fn first(&self) -> Want {
         Want::Commit(-1)
@@ -57,7 +57,7 @@ impl<L: Lists> Stage for Listed<L> {
 
     // It may be told any event; what isn't answered ends it.
     fn resume(&mut self, alloc: Global, seen: Seen, bytes: &[u8]) -> Result<Want, NoMemory>
-        ensures { IfOk result (λ asked. Resumes (λ x s h. ListedIs L.stands (L.is_looking x.lists) true x.lists x.walk s h) self.old self.new seen bytes.now asked) }
+        ensures { IfOk result (λ asked. Resumes (λ x s h. ListedStands L.stands L.is_looking x s h) self.old self.new seen bytes.now asked) }
     {
         note_kept(&mut self.walk.kept, seen, bytes)?;
         self.walk.outputs.note(seen);

@@ -19,7 +19,7 @@ returns-in_ok-source-in-ConsoleIn c =
 pub returns-in_ok-sink-in-ConsoleOut : goal.returns-in_ok-sink-in-ConsoleOut
 returns-in_ok-sink-in-ConsoleOut c =
     let s = c.args.strand.now in
-    c.in_ok-sink-in-ConsoleOut.ensures s (each_record copied) (copies_fit s c.as_slice-outputs.result.now c.as_slice-outputs.ensures c.new-in-ConsoleOut.result c.in-ConsoleOut.is c.new-in-ConsoleOut.ensures)
+    c.in_ok-sink-in-ConsoleOut.ensures s (each_record copied) (copies_fit s c.as_slice-outputs.result.now c.as_slice-outputs.ensures c.new-copies.result c.in-ConsoleOut.is c.new-copies.ensures)
 
 pub returns-in_ok-locating-in-Locate : goal.returns-in_ok-locating-in-Locate
 returns-in_ok-locating-in-Locate c =
