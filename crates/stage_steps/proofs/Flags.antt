@@ -12,7 +12,7 @@ apart a b p = grind (arith, nat_tests)
 alike : (a b : ℕ) → a ≡ b → (a == b) ≡ true
 alike a b p = grind (arith, nat_tests)
 
-and_true : (b : Bool) → (b && true) ≡ b
+pub and_true : (b : Bool) → (b && true) ≡ b
 and_true true = refl
 and_true false = refl
 
@@ -64,6 +64,20 @@ pub flag_open : (outputs : List Bool) (refused : List ℕ) (o : ℕ) → flag_at
 flag_open outputs refused o =
     let same : 0 + o ≡ o = omega arith in
     flag_open_from 0 o outputs refused ∙ ap (λ n. flag_at outputs o && not (has refused n)) same
+
+still_open : (f a b : Bool) → (f && not (b || a)) ≡ true → (f && not a) ≡ true
+still_open true true true h = h
+still_open true true false h = h
+still_open true false b h = refl
+still_open false a b h = h
+
+-- what is open after a refusal was open before it
+pub fewer_open : (outputs : List Bool) (refused : List ℕ) (q o : ℕ) → flag_at (open_from 0 outputs (q ∷ refused)) o ≡ true → flag_at (open_from 0 outputs refused) o ≡ true
+fewer_open outputs refused q o h = flag_open outputs refused o ∙ still_open (flag_at outputs o) (has refused o) (q == o) (sym (flag_open outputs (q ∷ refused) o) ∙ h)
+
+-- an output that refused isn't open
+pub shut : (outputs : List Bool) (refused : List ℕ) (q o : ℕ) → q ≡ o → is_open outputs (q ∷ refused) o ≡ false
+shut outputs refused q o e = ap (λ b. flag_at outputs o && not (b || has refused o)) (alike q o e) ∙ and_false (flag_at outputs o)
 
 no_more : (f a x y : Bool) → y ≡ not x → ((not f || a) && y) ≡ not ((f && not a) || x)
 no_more true true x y e = e

@@ -1,9 +1,12 @@
+pub mod Acts
 pub mod Bytes
 pub mod Cuts
+pub mod Drives
 pub mod Fields
+pub mod Fitting
 pub mod Flags
-pub mod Fresh
-pub mod Given
+pub mod Groups
 pub mod Sources
+pub mod Starts
 pub mod Walks
 pub mod Words

@@ -1,420 +1,399 @@
 -- A walk of pairs, one event on.
-use Rattle.std.proofs.Common.{◌≡◌, ℕ, Bool, true, false, cond, ◌&&◌, ◌||◌, not, ◌==◌, List, [], ◌∷◌, ◌++◌, map, refl, sym, ◌∙◌, ap, subst, arith, Some, None, Option, ℤ, pos, negsuc, append_assoc, is_none, is_some, option_map}
+use Rattle.std.proofs.Common.{◌≡◌, ◌≤◌, ◌<◌, ℕ, zero, suc, ◌+◌, Bool, true, false, cond, ◌&&◌, not, ◌==◌, List, [], ◌∷◌, ◌++◌, length, map, refl, sym, ◌∙◌, ap, subst, arith, Some, None, Option, ℤ, pos, negsuc, append_assoc}
+use Rattle.std.proofs.lemmas.List.{map-append, length-append}
 use Rattle.std.specs.Prelude.{filter}
 use Rattle.std.specs.List.{list_any}
 use Rattle.std.specs.Ordering.{int_eq}
-use Rattle.std.proofs.lemmas.Bool.Decides.{nat_tests, Decides-int_eq}
-use Rattle.std.proofs.lemmas.List.{map-append}
-use Rattle.pipe_model.specs.declared.net.Strand.{Strand}
+use Rattle.std.proofs.lemmas.Bool.Decides.{Decides-int_eq}
 use Rattle.pipe_model.specs.declared.step.Seen.{Seen}
-use Rattle.pipe_model.specs.declared.step.Seen.TheVariants.{Saw as Sees}
 use Rattle.pipe_model.specs.declared.step.Want.{Want as Asked}
-use Rattle.pipe_model.specs.declared.step.Want.TheVariants as Ask
 use Rattle.pipe_model.specs.Event.{Event, Want, answers, has_ended, last_seen_on, taken_from}
 use Rattle.pipe_model.specs.Event.Event.{Up, Saw, SawEnd, Took, Put, Refused, Ended}
 use Rattle.pipe_model.specs.Records.{text}
-use Rattle.pipe_model.specs.Table.{form}
-use Rattle.pipe_model.specs.Row.{Pair as RowPair}
-use Rattle.pipe_model.specs.Shape.{Records, Keeping, records_of, writes, list_plan, each_record}
-use Rattle.pipe_model.specs.Shape.Order.{WritesFirst}
+use Rattle.pipe_model.specs.Row.{Pair, Act, Goal, Known, Row}
 use Rattle.pipe_model.specs.Row.Act.{Writes, Takes}
-use Rattle.pipe_model.specs.Row.Goal.{Asks, Ends}
-use Rattle.pipe_model.specs.Next.{Past, begins_plan, after, want_in, wanted_by, next, is_open, is_live, is_refused}
-use Rattle.pipe_model.specs.Members.{has, flag_at}
+use Rattle.pipe_model.specs.Row.Goal.{Asks as Asking, Ends}
+use Rattle.pipe_model.specs.Shape.{Records, Stream, Order as RowOrder, records_of, writes, acts_of, in_order, next_record, list_plan, last_pairs, at_hand_of, ends}
+use Rattle.pipe_model.specs.Shape.Order.{WritesFirst as RowWritesFirst, TakesFirst as RowTakesFirst}
+use Rattle.pipe_model.specs.Next.{Phase, Past, nothing_known, begins_plan, known_after, after, want_in, is_live, is_refused}
 use Rattle.pipe_model.specs.Next.Phase.{Doing}
 use Rattle.pipe_model.specs.Next.Phase.{Starting as Reaching}
+use Rattle.stage_steps.specs.declared.group.Group.{Group}
+use Rattle.stage_steps.specs.declared.order.Order.{Order}
+use Rattle.stage_steps.specs.declared.order.Order.TheVariants.{WritesFirst, TakesFirst}
+use Rattle.stage_steps.specs.declared.place.Follow.{Follow}
+use Rattle.stage_steps.specs.declared.place.Follow.TheVariants.{Take, Look, End}
 use Rattle.stage_steps.specs.declared.place.Place.{Place}
-use Rattle.stage_steps.specs.declared.place.Place.TheVariants.{Starting, Committing, Looking, Writing, Taking, Ending, Over}
-use Rattle.stage_steps.specs.declared.outputs.Pair.{Pair}
-use Rattle.stage_steps.specs.Coroutine.{meaning, told, bytes_with, last_seen, owed, written}
+use Rattle.stage_steps.specs.declared.place.Place.TheVariants.{Starting, Committing, Looking, Writing, Taking, Ending}
+use Rattle.pipe_model.specs.declared.step.Out.{Out}
+use Rattle.pipe_model.specs.declared.step.Out.TheVariants.{Same, Fresh}
+use Rattle.stage_steps.specs.Coroutine.{meaning, told, bytes_with, last_seen, written}
+use Rattle.stage_steps.specs.Group.{group_acts, held_acts, record_of, is_due, less_one, plain}
 use Rattle.stage_steps.specs.KeptText.{KeptText}
 use Rattle.stage_steps.specs.Kept.{kept_after}
+use Rattle.stage_steps.specs.Lists.{Begins, Sees, Finishes, Tells}
+use Rattle.stage_steps.specs.Listed.{list_row, first_write, when_written, and_behind, goal_behind, IsDoing, IsBeforeTake, PlaceIs, AllIs, WalkIs}
 use Rattle.stage_steps.specs.Outputs.{open_after, open_from, live, none_left}
-use Rattle.stage_steps.specs.Place.{place_after}
-use Rattle.stage_steps.specs.Walk.{each_row, gives_up, meant, rest_of, PlaceIs, AsksFrom}
-use Rattle.stage_steps.specs.Through.{Gives, AllIs, KeptIs, past_of, ThroughIs}
-use Rattle.stage_steps.proofs.Flags.{closed_open, flag_open, refused_is}
+use Rattle.stage_steps.specs.Places.{order_of, want_at, place_with, sight_place, look_place, taken_place, place_behind}
+use Rattle.stage_steps.specs.Walk.{IsBegun, Hears, Fetches, Turns, Asks}
+use Rattle.stage_steps.proofs.Flags.{closed_open, refused_is}
+use Rattle.stage_steps.proofs.Acts.{same_number, live_is, live_refused, want_first, after_put, after_refused, live_behind, comes}
 
-pub same_number : (a b : ℕ) → (a == b) ≡ true → a ≡ b
-same_number a b p = grind (arith, nat_tests)
+-- Records
 
-pub is_none_by : (kept : Option KeptText) (b : Bool) → is_some kept ≡ not b → b ≡ is_none kept
-is_none_by None true e = refl
-is_none_by None false e = cc
-is_none_by (Some k) true e = cc
-is_none_by (Some k) false e = refl
+pub at_hand : (recs : Records) (rec : List ℕ) → at_hand_of (recs ++ rec ∷ []) ≡ rec
+at_hand [] rec = refl
+at_hand (q ∷ []) rec = refl
+at_hand (q ∷ r ∷ recs) rec = at_hand (r ∷ recs) rec
 
--- who is answered has not ended
-pub going : (s : Strand) (h : List Event) (e : Event) → answers (next s h) e ≡ true → (has_ended h ≡ false) × (answers (wanted_by (form s).row s.ports.has_output h) e ≡ true)
-going s h e it =
-    (elim (has_ended h) as (λ b. answers (cond b None (wanted_by (form s).row s.ports.has_output h)) e ≡ true → (b ≡ false) × (answers (wanted_by (form s).row s.ports.has_output h) e ≡ true)) [ true ↦ λ x. cc | false ↦ λ x. (refl, x) ]) it
+one_more : (n m : ℕ) → n ≤ m → n ≤ suc m
+one_more n m le = omega arith
 
--- Pairs
-
--- of the acts that are to do, those can be done that write the live pairs
-live_acts : (outputs : List Bool) (refused : List ℕ) (flags : List Bool) → ((o : ℕ) → flag_at flags o ≡ is_open outputs refused o) → (sight : ℕ → List ℕ) (left : List Pair) →
-    filter (is_live outputs refused) (writes (map (meant sight) left) ++ Takes 0 ∷ []) ≡ rest_of sight flags left
-live_acts outputs refused flags same sight [] = refl
-live_acts outputs refused flags same sight (p ∷ ps) =
-    let ih = live_acts outputs refused flags same sight ps in
-    (elim (flag_at flags p.output) as (λ b. b ≡ is_open outputs refused p.output →
-    cond (is_open outputs refused p.output) (Writes p.output (written p.out sight) ∷ filter (is_live outputs refused) (writes (map (meant sight) ps) ++ Takes 0 ∷ [])) (filter (is_live outputs refused) (writes (map (meant sight) ps) ++ Takes 0 ∷ []))
-    ≡ writes (map (meant sight) (cond b (p ∷ live flags ps) (live flags ps))) ++ Takes 0 ∷ []) [
-      | true ↦ λ e. ap (λ z. cond z (Writes p.output (written p.out sight) ∷ filter (is_live outputs refused) (writes (map (meant sight) ps) ++ Takes 0 ∷ [])) (filter (is_live outputs refused) (writes (map (meant sight) ps) ++ Takes 0 ∷ []))) (sym e) ∙ ap (λ l. Writes p.output (written p.out sight) ∷ l) ih
-      | false ↦ λ e. ap (λ z. cond z (Writes p.output (written p.out sight) ∷ filter (is_live outputs refused) (writes (map (meant sight) ps) ++ Takes 0 ∷ [])) (filter (is_live outputs refused) (writes (map (meant sight) ps) ++ Takes 0 ∷ []))) (sym e) ∙ ih
-    ]) (same p.output)
-
-live_twice : (flags flags' : List Bool) → ((o : ℕ) → flag_at flags' o ≡ true → flag_at flags o ≡ true) → (left : List Pair) → live flags' (live flags left) ≡ live flags' left
-live_twice flags flags' fewer [] = refl
-live_twice flags flags' fewer (p ∷ ps) =
-    let ih = live_twice flags flags' fewer ps in
-    (elim (flag_at flags p.output) as (λ b. flag_at flags p.output ≡ b → live flags' (cond b (p ∷ live flags ps) (live flags ps)) ≡ cond (flag_at flags' p.output) (p ∷ live flags' ps) (live flags' ps)) [
-      | true ↦ λ e. ap (λ l. cond (flag_at flags' p.output) (p ∷ l) l) ih
-      | false ↦ λ e. ih ∙ (elim (flag_at flags' p.output) as (λ b. flag_at flags' p.output ≡ b → live flags' ps ≡ cond b (p ∷ live flags' ps) (live flags' ps)) [
-        | true ↦ λ e'. let no : true ≡ false = sym (fewer p.output e') ∙ e in cc
-        | false ↦ λ e'. refl
-      ]) refl
-    ]) refl
-
-still_open : (f a b : Bool) → (f && not (b || a)) ≡ true → (f && not a) ≡ true
-still_open true true true h = h
-still_open true true false h = h
-still_open true false b h = refl
-still_open false a b h = h
-
--- what was open after a refusal was open before it
-fewer_open : (outputs : List Bool) (refused : List ℕ) (q o : ℕ) → flag_at (open_from 0 outputs (q ∷ refused)) o ≡ true → flag_at (open_from 0 outputs refused) o ≡ true
-fewer_open outputs refused q o h = flag_open outputs refused o ∙ still_open (flag_at outputs o) (has refused o) (q == o) (sym (flag_open outputs (q ∷ refused) o) ∙ h)
-
--- what is left to do after a refusal
-rest_refused : (outputs : List Bool) (refused : List ℕ) (q : ℕ) (sight : ℕ → List ℕ) (left : List Pair) →
-    filter (is_live outputs (q ∷ refused)) (rest_of sight (open_from 0 outputs refused) left) ≡ rest_of sight (open_from 0 outputs (q ∷ refused)) left
-rest_refused outputs refused q sight left =
-    live_acts outputs (q ∷ refused) (open_from 0 outputs (q ∷ refused)) (flag_open outputs (q ∷ refused)) sight (live (open_from 0 outputs refused) left)
-    ∙ ap (λ l. writes (map (meant sight) l) ++ Takes 0 ∷ []) (live_twice (open_from 0 outputs refused) (open_from 0 outputs (q ∷ refused)) (fewer_open outputs refused q) left)
-
--- One event
-
--- where the event is the sight of a record its pairs are given, and else nothing changes
-abbrev pub GivesAt : {L : Type 0} → (L → (Records → List RowPair) → Records → Type 0) → Bool → L → L → Seen → List ℕ → List Pair → List Pair → Type 0
-GivesAt gives looks x y (Sees i) bytes left left' = Gives gives looks x y bytes left'
-GivesAt gives looks x y _ bytes left left' = (y ≡ x) × (left' ≡ left)
-
--- the event is one that a walk is told in this place
-abbrev pub takes : Place → Event → Bool
-takes Starting (Up level code) = true
-takes Committing (Up level code) = true
-takes Looking (Saw i rec) = i == 0
-takes Looking (SawEnd i) = true
-takes Writing (Put o rec) = true
-takes Writing (Refused o) = true
-takes Taking (Took i) = i == 0
-takes Ending (Ended code) = true
-takes _ _ = false
-
-module _ {L : Type 0} (gives : L → (Records → List RowPair) → Records → Type 0) (looks yields : Bool) (outs : Records → List RowPair)
-    (x y : L) (bytes : List ℕ) (left left' : List Pair) (outputs : List Bool) (h : List Event) (p : Past) (stood : gives x outs (records_of p.known.seen)) where
-  -- what is so after the event
-  pub record After (f : Place) (e : Event) (q : Past) : Type 0 where
-    pub fits : takes f e ≡ true
-    pub gives_is : gives y outs (records_of q.known.seen)
-    pub flags_are : open_after (told e) (open_from 0 outputs p.refused) ≡ open_from 0 outputs q.refused
-    pub place_is : has_ended (e ∷ h) ≡ false → PlaceIs false (place_after f (told e) Looking (gives_up (told e) yields (list_any (λ flag. flag) outputs) (open_after (told e) (open_from 0 outputs p.refused)))) (last_seen (e ∷ h)) (open_after (told e) (open_from 0 outputs p.refused)) left' q
-
-  from_start : (e : Event) → p.known.told ≡ [] → answers (Some (Want.Commit (negsuc 0))) e ≡ true → GivesAt gives looks x y (told e) bytes left left' →
-      After Starting e (after (each_row yields outs) outputs p (Reaching (negsuc 0)) e)
-  from_start (Up l c) none fits given = record {
-    fits = refl;
-    gives_is = subst (λ z. gives z outs (records_of p.known.seen)) (sym given.0) stood;
-    flags_are = refl;
-    place_is = λ on. (elim (int_eq c (pos 0)) as (λ z. PlaceIs false (cond z Committing Ending) (last_seen (Up l c ∷ h)) (open_from 0 outputs p.refused) left' (record p { phase = cond z (Reaching (pos 0)) (Doing [] (Ends (pos 0))) })) [ true ↦ (none, refl) | false ↦ refl ]);
-  }
-  from_start _ none fits given = cc
-
-  begun : (e : Event) → p.known.told ≡ [] → begins_plan outputs p.refused (list_plan WritesFirst (each_record outs) p.known p.known.told) ≡ Doing [] (Asks (Want.Read 0))
-  begun e none = ap (λ l. begins_plan outputs p.refused (list_plan WritesFirst (each_record outs) p.known l)) none
-
-  from_commit : (e : Event) → p.known.told ≡ [] → answers (Some (Want.Commit (pos 0))) e ≡ true → GivesAt gives looks x y (told e) bytes left left' →
-      After Committing e (after (each_row yields outs) outputs p (Reaching (pos 0)) e)
-  from_commit (Up l c) none fits given = record {
-    fits = refl;
-    gives_is = subst (λ z. gives z outs (records_of p.known.seen)) (sym given.0) stood;
-    flags_are = refl;
-    place_is = λ on. (elim (int_eq c (pos 0)) as (λ z. PlaceIs false (cond z Looking Ending) (last_seen (Up l c ∷ h)) (open_from 0 outputs p.refused) left'
-        (record p { phase = cond z (begins_plan outputs p.refused (list_plan WritesFirst (each_record outs) p.known p.known.told)) (Doing [] (Ends (pos 0))) })) [ true ↦ begun (Up l c) none | false ↦ refl ]);
-  }
-  from_commit _ none fits given = cc
-
-  sees : (rec : List ℕ) → bytes_with looks (Saw 0 rec) ≡ bytes → Gives gives looks x y bytes left' →
-      After Looking (Saw 0 rec) (after (each_row yields outs) outputs p (Doing [] (Asks (Want.Read 0))) (Saw 0 rec))
-  sees rec came given =
-      let g = given outs (records_of p.known.seen) rec h stood came in
-      let all : records_of (p.known.seen ++ (0, rec) ∷ []) ≡ records_of p.known.seen ++ rec ∷ [] = map-append (λ (q : RowPair). q.1) p.known.seen ((0, rec) ∷ []) in record {
-        fits = refl;
-        gives_is = subst (gives y outs) (sym all) g.0;
-        flags_are = refl;
-        place_is = λ on.
-            ap (λ l. Doing (filter (is_live outputs p.refused) (writes l ++ Takes 0 ∷ [])) (Asks (Want.Read 0))) (ap outs all ∙ sym g.1)
-            ∙ ap (λ l. Doing l (Asks (Want.Read 0))) (live_acts outputs p.refused (open_from 0 outputs p.refused) (flag_open outputs p.refused) (last_seen (Saw 0 rec ∷ h)) left');
-      }
-
-  sees_end : (y ≡ x) × (left' ≡ left) → After Looking (SawEnd 0) (after (each_row yields outs) outputs p (Doing [] (Asks (Want.Read 0))) (SawEnd 0))
-  sees_end given = record { fits = refl; gives_is = subst (λ z. gives z outs (records_of p.known.seen)) (sym given.0) stood; flags_are = refl; place_is = λ on. refl }
-
-  looked : (e : Event) → answers (Some (Want.Read 0)) e ≡ true → bytes_with looks e ≡ bytes → GivesAt gives looks x y (told e) bytes left left' →
-      After Looking e (after (each_row yields outs) outputs p (Doing [] (Asks (Want.Read 0))) e)
-  looked (Saw i rec) fits came given =
-      let zero_is : 0 ≡ i = sym (same_number i 0 fits) in
-      subst (λ j. bytes_with looks (Saw j rec) ≡ bytes → After Looking (Saw j rec) (after (each_row yields outs) outputs p (Doing [] (Asks (Want.Read 0))) (Saw j rec))) zero_is (λ b. sees rec b given) came
-  looked (SawEnd i) fits came given =
-      let zero_is : 0 ≡ i = sym (same_number i 0 fits) in
-      subst (λ j. After Looking (SawEnd j) (after (each_row yields outs) outputs p (Doing [] (Asks (Want.Read 0))) (SawEnd j))) zero_is (sees_end given)
-  looked _ fits came given = cc
-
-  wrote : (q : RowPair) (e : Event) → answers (Some (Want.Write q.0 q.1)) e ≡ true → GivesAt gives looks x y (told e) bytes left left' →
-      After Writing e (after (each_row yields outs) outputs p (Doing (Writes q.0 q.1 ∷ rest_of (last_seen h) (open_from 0 outputs p.refused) left) (Asks (Want.Read 0))) e)
-  wrote q (Put o rec) fits given = record {
-    fits = refl;
-    gives_is = subst (λ z. gives z outs (records_of p.known.seen)) (sym given.0) stood;
-    flags_are = refl;
-    place_is = λ on. ap (λ l. Doing (rest_of (last_seen h) (open_from 0 outputs p.refused) l) (Asks (Want.Read 0))) (sym given.1);
-  }
-  wrote q (Refused r) fits given = record {
-    fits = refl;
-    gives_is = subst (λ z. gives z outs (records_of p.known.seen)) (sym given.0) stood;
-    flags_are = closed_open 0 r outputs p.refused;
-    place_is = λ on.
-        let now = open_from 0 outputs (r ∷ p.refused) in
-        let rest = filter (is_live outputs (r ∷ p.refused)) (rest_of (last_seen h) (open_from 0 outputs p.refused) left) in
-        let is : (z : Bool) → PlaceIs false (cond z Ending Writing) (last_seen h) now left' (record { known = p.known; refused = r ∷ p.refused; phase = cond z (Doing [] (Ends (pos 0))) (Doing rest (Asks (Want.Read 0))) }) =
-        (λ z. elim z as (λ z. PlaceIs false (cond z Ending Writing) (last_seen h) now left' (record { known = p.known; refused = r ∷ p.refused; phase = cond z (Doing [] (Ends (pos 0))) (Doing rest (Asks (Want.Read 0))) })) [
-          | true ↦ refl
-          | false ↦ ap (λ l. Doing l (Asks (Want.Read 0))) (rest_refused outputs p.refused r (last_seen h) left ∙ ap (rest_of (last_seen h) now) (sym given.1))
-        ]) in
-        subst (λ l. PlaceIs false (cond (yields && none_left (list_any (λ flag. flag) outputs) l) Ending Writing) (last_seen h) l left'
-        (record { known = p.known; refused = r ∷ p.refused; phase = cond (yields && is_refused outputs (r ∷ p.refused)) (Doing [] (Ends (pos 0))) (Doing rest (Asks (Want.Read 0))) }))
-        (sym (closed_open 0 r outputs p.refused))
-        (subst (λ z. PlaceIs false (cond (yields && none_left (list_any (λ flag. flag) outputs) now) Ending Writing) (last_seen h) now left'
-        (record { known = p.known; refused = r ∷ p.refused; phase = cond (yields && z) (Doing [] (Ends (pos 0))) (Doing rest (Asks (Want.Read 0))) }))
-        (sym (refused_is outputs (r ∷ p.refused)))
-        (is (yields && none_left (list_any (λ flag. flag) outputs) now)));
-  }
-  wrote q _ fits given = cc
-
-  took : (e : Event) → answers (Some (Want.Take 0)) e ≡ true → GivesAt gives looks x y (told e) bytes left left' →
-      After Taking e (after (each_row yields outs) outputs p (Doing (Takes 0 ∷ []) (Asks (Want.Read 0))) e)
-  took (Took i) fits given = record { fits = fits; gives_is = subst (λ z. gives z outs (records_of p.known.seen)) (sym given.0) stood; flags_are = refl; place_is = λ on. refl }
-  took _ fits given = cc
-
-  ended : (e : Event) → answers (Some (Want.Done (pos 0))) e ≡ true → GivesAt gives looks x y (told e) bytes left left' →
-      After Ending e (after (each_row yields outs) outputs p (Doing [] (Ends (pos 0))) e)
-  ended (Ended c) fits given = record { fits = refl; gives_is = subst (λ z. gives z outs (records_of p.known.seen)) (sym given.0) stood; flags_are = refl; place_is = λ on. cc }
-  ended _ fits given = cc
-
-  pub by_place : (f : Place) (e : Event) → PlaceIs true f (last_seen h) (open_from 0 outputs p.refused) left p → answers (want_in p.phase) e ≡ true → bytes_with looks e ≡ bytes →
-      GivesAt gives looks x y (told e) bytes left left' → After f e (after (each_row yields outs) outputs p p.phase e)
-  by_place Starting e is fits came given =
-      subst (λ z. After Starting e (after (each_row yields outs) outputs p z e)) (sym is.1) (from_start e is.0 (subst (λ z. answers (want_in z) e ≡ true) is.1 fits) given)
-  by_place Committing e is fits came given =
-      subst (λ z. After Committing e (after (each_row yields outs) outputs p z e)) (sym is.1) (from_commit e is.0 (subst (λ z. answers (want_in z) e ≡ true) is.1 fits) given)
-  by_place Looking e is fits came given =
-      subst (λ z. After Looking e (after (each_row yields outs) outputs p z e)) (sym is) (looked e (subst (λ z. answers (want_in z) e ≡ true) is fits) came given)
-  by_place Writing e is fits came given =
-      subst (λ z. After Writing e (after (each_row yields outs) outputs p z e)) (sym is.1) (wrote is.0 e (subst (λ z. answers (want_in z) e ≡ true) is.1 fits) given)
-  by_place Taking e is fits came given = subst (λ z. After Taking e (after (each_row yields outs) outputs p z e)) (sym is) (took e (subst (λ z. answers (want_in z) e ≡ true) is fits) given)
-  by_place Ending e is fits came given = subst (λ z. After Ending e (after (each_row yields outs) outputs p z e)) (sym is) (ended e (subst (λ z. answers (want_in z) e ≡ true) is fits) given)
-  by_place Over e is fits came given = absurd is
-
--- What is kept
-
-text-append : (recs : List (List ℕ)) (rec : List ℕ) → text (recs ++ rec ∷ []) ≡ (text recs ++ rec) ++ 10 ∷ []
+text-append : (recs : Records) (rec : List ℕ) → text (recs ++ rec ∷ []) ≡ (text recs ++ rec) ++ 10 ∷ []
 text-append [] rec = refl
 text-append (first ∷ rest) rec = ap (λ t. first ++ (10 ∷ t)) (text-append rest rec) ∙ simp append_assoc
 
-kept_places : (z : Bool) (f g : Place) (all : List ℕ) (h : List Event) → AllIs f all h → AllIs g all h → AllIs (cond z f g) all h
-kept_places true f g all h a b = a
-kept_places false f g all h a b = b
+-- what is kept is the same after an event that takes and shows nothing
+all_same : (place : Place) (all : List ℕ) (g h : List Event) → taken_from 0 g ≡ taken_from 0 h → last_seen_on 0 g ≡ last_seen_on 0 h → AllIs place all h → AllIs place all g
+all_same (Writing Take) all g h taken seen is = is ∙ ap (λ r. text (r ++ last_seen_on 0 h ∷ [])) (sym taken) ∙ ap (λ r. text (taken_from 0 g ++ r ∷ [])) (sym seen)
+all_same (Writing Look) all g h taken seen is = is ∙ ap text (sym taken)
+all_same (Writing End) all g h taken seen is = is ∙ ap text (sym taken)
+all_same Taking all g h taken seen is = is ∙ ap (λ r. text (r ++ last_seen_on 0 h ∷ [])) (sym taken) ∙ ap (λ r. text (taken_from 0 g ++ r ∷ [])) (sym seen)
+all_same Starting all g h taken seen is = is ∙ ap text (sym taken)
+all_same Committing all g h taken seen is = is ∙ ap text (sym taken)
+all_same Looking all g h taken seen is = is ∙ ap text (sym taken)
+all_same (Ending code) all g h taken seen is = tt
 
--- the text of all that was seen, after an event
-all_goes : (f : Place) (e : Event) (ends : Bool) (kept : KeptText) (bytes : List ℕ) (h : List Event) → takes f e ≡ true → bytes_with true e ≡ bytes → AllIs f kept.all h →
-    AllIs (place_after f (told e) Looking ends) (kept_after (told e) bytes kept).all (e ∷ h)
-all_goes Starting (Up level code) ends kept bytes h fits came is = kept_places (int_eq code (pos 0)) Committing Ending kept.all (Up level code ∷ h) is tt
-all_goes Committing (Up level code) ends kept bytes h fits came is = kept_places (int_eq code (pos 0)) Looking Ending kept.all (Up level code ∷ h) is tt
-all_goes Looking (Saw i rec) ends kept bytes h fits came is =
-    ap (λ l. (l ++ bytes) ++ 10 ∷ []) is ∙ ap (λ l. (text (taken_from 0 h) ++ l) ++ 10 ∷ []) (sym came) ∙ sym (text-append (taken_from 0 h) rec)
-    ∙ ap (λ b. text (taken_from 0 h ++ cond b rec (last_seen_on 0 h) ∷ [])) (sym fits)
-all_goes Looking (SawEnd i) ends kept bytes h fits came is = tt
-all_goes Writing (Put o rec) ends kept bytes h fits came is = is
-all_goes Writing (Refused o) ends kept bytes h fits came is = kept_places ends Ending Writing kept.all (Refused o ∷ h) tt is
-all_goes Taking (Took i) ends kept bytes h fits came is = is ∙ ap (λ b. text (cond b (taken_from 0 h ++ last_seen_on 0 h ∷ []) (taken_from 0 h))) (sym fits)
-all_goes Ending (Ended code) ends kept bytes h fits came is = tt
-all_goes _ _ ends kept bytes h fits came is = cc
+none_before : (order : RowOrder) → IsBeforeTake order []
+none_before RowWritesFirst = refl
+none_before RowTakesFirst = tt
 
--- the text of what was taken, after an event
-taken_goes : (f : Place) (e : Event) (kept : KeptText) (bytes : List ℕ) (h : List Event) → takes f e ≡ true → AllIs f kept.all h → kept.taken ≡ text (taken_from 0 h) →
-    (kept_after (told e) bytes kept).taken ≡ text (taken_from 0 (e ∷ h))
-taken_goes Starting (Up level code) kept bytes h fits all is = is
-taken_goes Committing (Up level code) kept bytes h fits all is = is
-taken_goes Looking (Saw i rec) kept bytes h fits all is = is
-taken_goes Looking (SawEnd i) kept bytes h fits all is = is
-taken_goes Writing (Put o rec) kept bytes h fits all is = is
-taken_goes Writing (Refused o) kept bytes h fits all is = is
-taken_goes Taking (Took i) kept bytes h fits all is = all ∙ ap (λ b. text (cond b (taken_from 0 h ++ last_seen_on 0 h ∷ []) (taken_from 0 h))) (sym fits)
-taken_goes Ending (Ended code) kept bytes h fits all is = is
-taken_goes _ _ kept bytes h fits all is = cc
+-- the next record, or the end
+look_by : {L : Type 0} (stands : L → Stream → Records → List Act → Type 0) (order : RowOrder) (t : Stream) (has_asked : Bool) (x : L) (hand : Option Group) (flags : List Bool) (p : Past) →
+    stands x t (records_of p.known.seen) [] → hand ≡ None → p.phase ≡ Doing [] (next_record t (records_of p.known.seen)) →
+    PlaceIs stands order t has_asked x (look_place t (records_of p.known.seen)) hand flags p
+look_by stands order t has_asked x hand flags p stood none is =
+    (elim (t.stops (records_of p.known.seen)) as (λ b. p.phase ≡ Doing [] (cond b (Ends (t.code (records_of p.known.seen))) (Asking (Want.Read 0))) →
+    PlaceIs stands order t has_asked x (cond b (Ending (t.code (records_of p.known.seen))) Looking) hand flags p) [ true ↦ λ e. e | false ↦ λ e. (stood, none, e) ]) is
 
-kept_goes : (f : Place) (e : Event) (ends looks : Bool) (kept : Option KeptText) (keeping : Keeping) (bytes : List ℕ) (h : List Event) → takes f e ≡ true → (is_none kept ≡ false → looks ≡ true) →
-    bytes_with looks e ≡ bytes → KeptIs f kept keeping h → KeptIs (place_after f (told e) Looking ends) (option_map (kept_after (told e) bytes) kept) keeping (e ∷ h)
-kept_goes f e ends looks None keeping bytes h fits looking came is = is
-kept_goes f e ends looks (Some kept) keeping bytes h fits looking came is =
-    let whole : bytes_with true e ≡ bytes = ap (λ b. bytes_with b e) (sym (looking refl)) ∙ came in
-    (is.0, taken_goes f e kept bytes h fits is.2 is.1, all_goes f e ends kept bytes h fits whole is.2)
+-- One event
 
-module _ {L : Type 0} (gives : L → (Records → List RowPair) → Records → Type 0) (looks : Bool) where
-  -- the driver after an event, before it asks
-  pub goes : (x y : L) (place : Place) (bytes : List ℕ) (left left' : List Pair) (connected : Bool) (flags : List Bool) (kept : Option KeptText) (s : Strand) (h : List Event) (e : Event) →
-      ThroughIs gives looks true x place left connected flags kept s h → answers (next s h) e ≡ true → bytes_with looks e ≡ bytes → GivesAt gives looks x y (told e) bytes left left' →
-      ThroughIs gives looks false y (place_after place (told e) Looking (gives_up (told e) (is_none kept) connected (open_after (told e) flags))) left' connected (open_after (told e) flags)
-      (option_map (kept_after (told e) bytes) kept) s (e ∷ h)
-  goes x y place bytes left left' connected flags kept s h e is answer came given =
-      let g = going s h e answer in
-      let past = past_of (is_none kept) is.outs s h in
-      let fits : answers (want_in past.phase) e ≡ true = subst (λ r. answers (wanted_by r s.ports.has_output h) e ≡ true) is.row_is g.1 in
-      let at : PlaceIs true place (last_seen h) (open_from 0 s.ports.has_output past.refused) left past = subst (λ l. PlaceIs true place (last_seen h) l left past) is.flags_are (is.place_is g.0) in
-      let after = by_place gives looks (is_none kept) is.outs x y bytes left left' s.ports.has_output h past is.gives_is place e at fits came given in
-      let same : is_none (option_map (kept_after (told e) bytes) kept) ≡ is_none kept = (elim kept as (λ k. is_none (option_map (kept_after (told e) bytes) k) ≡ is_none k) [ None ↦ refl | Some k ↦ refl ]) in
-      record {
-        outs = is.outs;
-        row_is = is.row_is ∙ ap (λ b. each_row b is.outs) (sym same);
-        gives_is = subst (λ b. gives y is.outs (records_of (past_of b is.outs s (e ∷ h)).known.seen)) (sym same) after.gives_is;
-        connected_is = is.connected_is;
-        flags_are = ap (open_after (told e)) is.flags_are ∙ after.flags_are ∙ ap (λ b. open_from 0 s.ports.has_output (past_of b is.outs s (e ∷ h)).refused) (sym same);
-        place_is = λ on.
-            subst (λ b. PlaceIs false (place_after place (told e) Looking (gives_up (told e) (is_none kept) connected (open_after (told e) flags))) (last_seen (e ∷ h)) (open_after (told e) flags) left' (past_of b is.outs s (e ∷ h))) (sym same)
-            (subst (λ l. PlaceIs false (place_after place (told e) Looking (gives_up (told e) (is_none kept) connected (open_after (told e) l))) (last_seen (e ∷ h)) (open_after (told e) l) left' (past_of (is_none kept) is.outs s (e ∷ h))) (sym is.flags_are)
-            (subst (λ c. PlaceIs false (place_after place (told e) Looking (gives_up (told e) (is_none kept) c (open_after (told e) (open_from 0 s.ports.has_output past.refused)))) (last_seen (e ∷ h)) (open_after (told e) (open_from 0 s.ports.has_output past.refused)) left' (past_of (is_none kept) is.outs s (e ∷ h))) (sym is.connected_is)
-            (after.place_is on)));
-        looks_are = is.looks_are;
-        looking = λ some. is.looking (sym same ∙ some);
-        kept_is = kept_goes place e (gives_up (told e) (is_none kept) connected (open_after (told e) flags)) looks kept (form s).keeping bytes h after.fits is.looking came is.kept_is;
+module _ {L : Type 0} (stands : L → Stream → Records → List Act → Type 0) (looks keeps : Bool) (order : Order) (t : Stream) (outputs : List Bool) (h : List Event) (bytes : List ℕ)
+    (x y : L) (hand : Option Group) (place' : Place) (p : Past) where
+  -- what is so after an event
+  pub record After (f : Place) (e : Event) (q : Past) : Type 0 where
+    pub walk : WalkIs stands (order_of order) t false outputs y place' hand (open_after (told e) (open_from 0 outputs p.refused)) (e ∷ h) q
+    pub all : (kept : KeptText) → bytes_with true e ≡ bytes → AllIs f kept.all h → AllIs place' (kept_after (told e) bytes kept).all (e ∷ h)
+    pub taken : (kept : KeptText) → AllIs f kept.all h → kept.taken ≡ text (taken_from 0 h) → (kept_after (told e) bytes kept).taken ≡ text (taken_from 0 (e ∷ h))
+
+module _ {L : Type 0} (stands : L → Stream → Records → List Act → Type 0) (looks keeps : Bool) (order : Order) (t : Stream) (outputs : List Bool) (h : List Event) (bytes : List ℕ)
+    (ends_it : Bool) (x y : L) (hand : Option Group) (place' : Place) (p : Past) (sight_is : last_seen_on 0 h ≡ at_hand_of (records_of p.known.seen)) (few : length (records_of p.known.seen) ≤ length h) where
+  abbrev Next : Place → Event → Past → Type 0
+  Next f e q = After stands looks keeps order t outputs h bytes x y hand place' p f e q
+
+  abbrev Stood : L → Place → Past → Type 0
+  Stood z f q = PlaceIs stands (order_of order) t false z f hand (open_from 0 outputs p.refused) q
+
+  -- the lists and the place are those that the event leaves
+  placed : (f : Place) (q : Past) → y ≡ x → place' ≡ f → Stood x f q → Stood y place' q
+  placed f q same is stood = subst (λ z. Stood z place' q) (sym same) (subst (λ f. Stood x f q) (sym is) stood)
+
+  from_start : (e : Event) → stands x t [] [] → hand ≡ None → p.known ≡ nothing_known → answers (Some (Want.Commit (negsuc 0))) e ≡ true → Hears stands looks order ends_it x Starting (told e) bytes y place' →
+      Next Starting e (after (list_row (order_of order) keeps t) outputs p (Reaching (negsuc 0)) e)
+  from_start (Up l c) stood none known fits heard = record {
+    walk = record {
+      flags_are = refl;
+      sight_is = sight_is;
+      few = one_more _ _ few;
+      place_is = λ on. placed (cond (int_eq c (pos 0)) Committing (Ending (pos 0))) (record p { phase = cond (int_eq c (pos 0)) (Reaching (pos 0)) (Doing [] (Ends (pos 0))) }) heard.0 heard.1
+          (elim (int_eq c (pos 0)) as (λ b. Stood x (cond b Committing (Ending (pos 0))) (record p { phase = cond b (Reaching (pos 0)) (Doing [] (Ends (pos 0))) })) [ true ↦ (stood, none, known, refl) | false ↦ refl ]);
+    };
+    all = λ kept came is. subst (λ f. AllIs f kept.all (Up l c ∷ h)) (sym heard.1) (elim (int_eq c (pos 0)) as (λ b. AllIs (cond b Committing (Ending (pos 0))) kept.all (Up l c ∷ h)) [ true ↦ is | false ↦ tt ]);
+    taken = λ kept is taken. taken;
+  }
+  from_start _ stood none known fits heard = cc
+
+  begun : hand ≡ None → p.known ≡ nothing_known → stands y t [] (writes t.before) → Stood y (Writing Look) (record p { phase = begins_plan outputs p.refused (list_plan (order_of order) t p.known p.known.told) })
+  begun none known stood =
+      subst (λ k. Stood y (Writing Look) (record { known = k; refused = p.refused; phase = begins_plan outputs p.refused (list_plan (order_of order) t k k.told) })) (sym known)
+      (writes t.before, stood, ap (λ l. Doing l (next_record t [])) (live_is outputs p.refused (writes t.before)) ∙ ap (λ g. Doing (live (open_from 0 outputs p.refused) (held_acts [] g ++ writes t.before)) (next_record t [])) (sym none))
+
+  from_commit : (e : Event) → stands x t [] [] → hand ≡ None → p.known ≡ nothing_known → answers (Some (Want.Commit (pos 0))) e ≡ true → Hears stands looks order ends_it x Committing (told e) bytes y place' →
+      Next Committing e (after (list_row (order_of order) keeps t) outputs p (Reaching (pos 0)) e)
+  from_commit (Up l c) stood none known fits heard = record {
+    walk = record {
+      flags_are = refl;
+      sight_is = (elim (int_eq c (pos 0)) as (λ b. last_seen_on 0 h ≡ at_hand_of (records_of p.known.seen)) [ true ↦ sight_is | false ↦ sight_is ]);
+      few = one_more _ _ few;
+      place_is = λ on. (elim (int_eq c (pos 0)) as (λ b. IsBegun stands x y place' b →
+          Stood y place' (record p { phase = cond b (begins_plan outputs p.refused (list_plan (order_of order) t p.known p.known.told)) (Doing [] (Ends (pos 0))) })) [
+            | true ↦ λ heard. subst (λ f. Stood y f (record p { phase = begins_plan outputs p.refused (list_plan (order_of order) t p.known p.known.told) })) (sym heard.1) (begun none known (heard.0 t stood))
+            | false ↦ λ heard. subst (λ f. Stood y f (record p { phase = Doing [] (Ends (pos 0)) })) (sym heard.1) refl
+          ]) heard;
+    };
+    all = λ kept came is. (elim (int_eq c (pos 0)) as (λ b. IsBegun stands x y place' b → AllIs place' kept.all (Up l c ∷ h)) [
+      | true ↦ λ heard. subst (λ f. AllIs f kept.all (Up l c ∷ h)) (sym heard.1) is
+      | false ↦ λ heard. subst (λ f. AllIs f kept.all (Up l c ∷ h)) (sym heard.1) tt
+    ]) heard;
+    taken = λ kept is taken. taken;
+  }
+  from_commit _ stood none known fits heard = cc
+
+  -- the place at the sight of a record, by the records with that one
+  at_sight_is : (known : Known) (acts : List Act) → stands y t (records_of known.seen) acts → hand ≡ None → (order' : Order) →
+      PlaceIs stands (order_of order') t false y (place_with order') hand (open_from 0 outputs p.refused)
+      (record { known = known; refused = p.refused; phase = Doing (filter (is_live outputs p.refused) (in_order (order_of order') acts (Takes 0))) (next_record t (records_of known.seen)) })
+  at_sight_is known acts stood none WritesFirst = (
+    acts,
+    stood,
+    ap (λ l. Doing l (next_record t (records_of known.seen))) (live_is outputs p.refused (acts ++ Takes 0 ∷ []))
+        ∙ ap (λ g. Doing (live (open_from 0 outputs p.refused) ((held_acts (at_hand_of (records_of known.seen)) g ++ acts) ++ Takes 0 ∷ [])) (next_record t (records_of known.seen))) (sym none),
+  )
+  at_sight_is known acts stood none TakesFirst = (acts, stood, none, tt, ap (λ l. Doing (Takes 0 ∷ l) (next_record t (records_of known.seen))) (live_is outputs p.refused acts))
+
+  sight_kept : (halts : Bool) (code : ℤ) (order' : Order) (all : List ℕ) (g : List Event) → all ≡ text (taken_from 0 g ++ last_seen_on 0 g ∷ []) → AllIs (cond halts (Ending code) (place_with order')) all g
+  sight_kept true code order' all g is = tt
+  sight_kept false code WritesFirst all g is = is
+  sight_kept false code TakesFirst all g is = is
+
+  sees : (rec : List ℕ) → stands x t (records_of p.known.seen) [] → hand ≡ None → length (records_of p.known.seen) < 50000000 → (looks ≡ true → bytes ≡ rec) →
+      Sees stands looks x y bytes → Tells stands y place' (sight_place order) → Next Looking (Saw 0 rec) (after (list_row (order_of order) keeps t) outputs p (Doing [] (Asking (Want.Read 0))) (Saw 0 rec))
+  sees rec stood none room came sight tells =
+      let known = known_after p.known (Saw 0 rec) in
+      let all : records_of known.seen ≡ records_of p.known.seen ++ rec ∷ [] = map-append (λ (q : Pair). q.1) p.known.seen ((0, rec) ∷ []) in
+      let new : stands y t (records_of known.seen) (acts_of t.outs (records_of known.seen)) = subst (λ r. stands y t r (acts_of t.outs r)) (sym all) (sight t (records_of p.known.seen) rec stood room came) in
+      let place_is : place' ≡ sight_place order t (records_of known.seen) = tells t (records_of known.seen) (acts_of t.outs (records_of known.seen)) new in record {
+        walk = record {
+          flags_are = refl;
+          sight_is = sym (ap at_hand_of all ∙ at_hand (records_of p.known.seen) rec);
+          few = let n : length (records_of known.seen) ≡ length (records_of p.known.seen) + 1 = ap length all ∙ length-append (records_of p.known.seen) (rec ∷ []) in omega (arith, n, few);
+          place_is = λ on. subst (λ f. Stood y f (after (list_row (order_of order) keeps t) outputs p (Doing [] (Asking (Want.Read 0))) (Saw 0 rec))) (sym place_is)
+              (elim (t.halts (records_of known.seen)) as (λ b. Stood y (cond b (Ending (t.code (records_of known.seen))) (place_with order)) (record {
+                known = known;
+                refused = p.refused;
+                phase = begins_plan outputs p.refused (cond b (ends (t.code (records_of known.seen))) (record { acts = in_order (order_of order) (acts_of t.outs (records_of known.seen)) (Takes 0); goal = next_record t (records_of known.seen) }));
+              })) [ true ↦ refl | false ↦ at_sight_is known (acts_of t.outs (records_of known.seen)) new none order ]);
+        };
+        all = λ kept bytes_are is. subst (λ f. AllIs f ((kept.all ++ bytes) ++ 10 ∷ []) (Saw 0 rec ∷ h)) (sym place_is)
+            (sight_kept (t.halts (records_of known.seen)) (t.code (records_of known.seen)) order ((kept.all ++ bytes) ++ 10 ∷ []) (Saw 0 rec ∷ h)
+            (ap (λ l. (l ++ bytes) ++ 10 ∷ []) is ∙ ap (λ l. (text (taken_from 0 h) ++ l) ++ 10 ∷ []) (sym bytes_are) ∙ sym (text-append (taken_from 0 h) rec)));
+        taken = λ kept is taken. taken;
       }
 
-  -- Its want
+  sees_end : stands x t (records_of p.known.seen) [] → hand ≡ None → Finishes stands x y → place' ≡ Writing End →
+      Next Looking (SawEnd 0) (after (list_row (order_of order) keeps t) outputs p (Doing [] (Asking (Want.Read 0))) (SawEnd 0))
+  sees_end stood none finishes place_is =
+      let acts = writes (last_pairs t.last (records_of p.known.seen)) in
+      let goal : Goal = Ends (t.code (records_of p.known.seen)) in record {
+        walk = record {
+          flags_are = refl;
+          sight_is = sight_is;
+          few = one_more _ _ few;
+          place_is = λ on. subst (λ f. Stood y f (after (list_row (order_of order) keeps t) outputs p (Doing [] (Asking (Want.Read 0))) (SawEnd 0))) (sym place_is) (
+            acts,
+            finishes t (records_of p.known.seen) stood,
+            ap (λ l. Doing l goal) (live_is outputs p.refused acts) ∙ ap (λ g. Doing (live (open_from 0 outputs p.refused) (held_acts (at_hand_of (records_of p.known.seen)) g ++ acts)) goal) (sym none),
+          );
+        };
+        all = λ kept came is. subst (λ f. AllIs f kept.all (SawEnd 0 ∷ h)) (sym place_is) is;
+        taken = λ kept is taken. taken;
+      }
 
-  by_want : (place place' : Place) (left left' : List Pair) (asked : Asked) (sight : ℕ → List ℕ) (flags : List Bool) (p : Past) →
-      PlaceIs false place sight flags left p → AsksFrom place flags left place' left' asked →
-      PlaceIs true place' sight flags left' p × (Some (meaning asked sight) ≡ want_in p.phase)
-  by_want Starting place' left left' asked sight flags p is asks =
-      (subst (λ f. PlaceIs true f sight flags left' p) (sym asks.0) is, ap (λ a. Some (meaning a sight)) asks.1 ∙ ap want_in (sym is.1))
-  by_want Committing place' left left' asked sight flags p is asks =
-      (subst (λ f. PlaceIs true f sight flags left' p) (sym asks.0) is, ap (λ a. Some (meaning a sight)) asks.1 ∙ ap want_in (sym is.1))
-  by_want Looking place' left left' asked sight flags p is asks =
-      (subst (λ f. PlaceIs true f sight flags left' p) (sym asks.0) is, ap (λ a. Some (meaning a sight)) asks.1 ∙ ap want_in (sym is))
-  by_want Writing place' left left' (Ask.Write o out) sight flags p is asks =
-      let phase : p.phase ≡ Doing (Writes o (written out sight) ∷ rest_of sight flags left') (Asks (Want.Read 0)) =
-      is ∙ ap (λ l. Doing (writes (map (meant sight) l) ++ Takes 0 ∷ []) (Asks (Want.Read 0))) asks.1 in
-      (subst (λ f. PlaceIs true f sight flags left' p) (sym asks.0) ((o, written out sight), phase), ap want_in (sym phase))
-  by_want Writing place' left left' (Ask.Take i) sight flags p is asks =
-      let phase : p.phase ≡ Doing (Takes 0 ∷ []) (Asks (Want.Read 0)) = is ∙ ap (λ l. Doing (writes (map (meant sight) l) ++ Takes 0 ∷ []) (Asks (Want.Read 0))) asks.2 in
-      (subst (λ f. PlaceIs true f sight flags left' p) (sym asks.1) phase, ap (λ n. Some (Want.Take n)) asks.0 ∙ ap want_in (sym phase))
-  by_want Writing place' left left' _ sight flags p is asks = absurd asks
-  by_want Taking place' left left' asked sight flags p is asks =
-      (subst (λ f. PlaceIs true f sight flags left' p) (sym asks.0) is, ap (λ a. Some (meaning a sight)) asks.1 ∙ ap want_in (sym is))
-  by_want Ending place' left left' asked sight flags p is asks =
-      (subst (λ f. PlaceIs true f sight flags left' p) (sym asks.0) is, ap (λ a. Some (meaning a sight)) asks.1 ∙ ap want_in (sym is))
-  by_want Over place' left left' asked sight flags p is asks = absurd is
+  looked : (e : Event) → stands x t (records_of p.known.seen) [] → hand ≡ None → length h < 50000000 → answers (Some (Want.Read 0)) e ≡ true → bytes_with looks e ≡ bytes → Hears stands looks order ends_it x Looking (told e) bytes y place' →
+      Next Looking e (after (list_row (order_of order) keeps t) outputs p (Doing [] (Asking (Want.Read 0))) e)
+  looked (Saw i rec) stood none room fits came heard =
+      let zero_is : 0 ≡ i = sym (same_number i 0 fits) in
+      subst (λ j. Next Looking (Saw j rec) (after (list_row (order_of order) keeps t) outputs p (Doing [] (Asking (Want.Read 0))) (Saw j rec))) zero_is
+      (sees rec stood none (omega (arith, few, room)) (λ on. sym came ∙ ap (λ b. bytes_with b (Saw i rec)) on) heard.0 heard.1)
+  looked (SawEnd i) stood none room fits came heard =
+      let zero_is : 0 ≡ i = sym (same_number i 0 fits) in
+      subst (λ j. Next Looking (SawEnd j) (after (list_row (order_of order) keeps t) outputs p (Doing [] (Asking (Want.Read 0))) (SawEnd j))) zero_is (sees_end stood none heard.0 heard.1)
+  looked _ stood none room fits came heard = cc
 
-  -- what is kept doesn't change by asking
-  all_asks : (place place' : Place) (flags : List Bool) (left left' : List Pair) (asked : Asked) (all : List ℕ) (h : List Event) → AsksFrom place flags left place' left' asked → AllIs place all h → AllIs place' all h
-  all_asks Writing place' flags left left' (Ask.Write o out) all h asks is = subst (λ f. AllIs f all h) (sym asks.0) is
-  all_asks Writing place' flags left left' (Ask.Take i) all h asks is = subst (λ f. AllIs f all h) (sym asks.1) is
-  all_asks Writing place' flags left left' _ all h asks is = absurd asks
-  all_asks Starting place' flags left left' asked all h asks is = subst (λ f. AllIs f all h) (sym asks.0) is
-  all_asks Committing place' flags left left' asked all h asks is = subst (λ f. AllIs f all h) (sym asks.0) is
-  all_asks Looking place' flags left left' asked all h asks is = subst (λ f. AllIs f all h) (sym asks.0) is
-  all_asks Taking place' flags left left' asked all h asks is = subst (λ f. AllIs f all h) (sym asks.0) is
-  all_asks Ending place' flags left left' asked all h asks is = subst (λ f. AllIs f all h) (sym asks.0) is
-  all_asks Over place' flags left left' asked all h asks is = subst (λ f. AllIs f all h) (sym asks.0) is
+  wrote : (follow : Follow) (left acts : List Act) (q : Pair) (e : Event) → stands x t (records_of p.known.seen) left →
+      ends_it ≡ (not keeps && none_left (list_any (λ flag. flag) outputs) (open_after (told e) (open_from 0 outputs p.refused))) →
+      p.phase ≡ Doing acts (goal_behind follow t (records_of p.known.seen)) → first_write acts ≡ Some q →
+      when_written acts ≡ live (open_from 0 outputs p.refused) (and_behind follow (held_acts (at_hand_of (records_of p.known.seen)) hand ++ left)) →
+      answers (Some (Want.Write q.0 q.1)) e ≡ true → Hears stands looks order ends_it x (Writing follow) (told e) bytes y place' →
+      Next (Writing follow) e (after (list_row (order_of order) keeps t) outputs p (Doing acts (goal_behind follow t (records_of p.known.seen))) e)
+  wrote follow left acts q (Put o rec) stood ends_is phase_is first rest fits heard =
+      subst (λ z. Next (Writing follow) (Put o rec) z) (sym (after_put (list_row (order_of order) keeps t) outputs p acts (goal_behind follow t (records_of p.known.seen)) q o rec first phase_is)) (record {
+        walk = record {
+          flags_are = refl;
+          sight_is = sight_is;
+          few = one_more _ _ few;
+          place_is = λ on. placed (Writing follow) (record p { phase = Doing (when_written acts) (goal_behind follow t (records_of p.known.seen)) }) heard.0 heard.1
+              (left, stood, ap (λ l. Doing l (goal_behind follow t (records_of p.known.seen))) rest);
+        };
+        all = λ kept came is. subst (λ f. AllIs f kept.all (Put o rec ∷ h)) (sym heard.1) (all_same (Writing follow) kept.all (Put o rec ∷ h) h refl refl is);
+        taken = λ kept is taken. taken;
+      })
+  wrote follow left acts q (Refused o) stood ends_is phase_is first rest fits heard =
+      let goal = goal_behind follow t (records_of p.known.seen) in
+      let old = open_from 0 outputs p.refused in
+      let now = open_from 0 outputs (o ∷ p.refused) in
+      let done = and_behind follow (held_acts (at_hand_of (records_of p.known.seen)) hand ++ left) in
+      let gone : ends_it ≡ (not keeps && is_refused outputs (o ∷ p.refused)) =
+      ends_is ∙ ap (λ l. not keeps && none_left (list_any (λ flag. flag) outputs) l) (closed_open 0 o outputs p.refused) ∙ ap (λ b. not keeps && b) (sym (refused_is outputs (o ∷ p.refused))) in
+      let rest_is : filter (is_live outputs (o ∷ p.refused)) (when_written acts) ≡ live now done = ap (filter (is_live outputs (o ∷ p.refused))) rest ∙ live_refused outputs p.refused o done in
+      subst (λ z. Next (Writing follow) (Refused o) z) (sym (after_refused (list_row (order_of order) keeps t) outputs p acts goal q o first (same_number o q.0 fits))) (record {
+        walk = record {
+          flags_are = closed_open 0 o outputs p.refused;
+          sight_is = sight_is;
+          few = one_more _ _ few;
+          place_is = λ on.
+              subst (λ l. PlaceIs stands (order_of order) t false y place' hand l (record { known = p.known; refused = o ∷ p.refused; phase = cond (not keeps && is_refused outputs (o ∷ p.refused)) (Doing [] (Ends (pos 0))) (Doing (filter (is_live outputs (o ∷ p.refused)) (when_written acts)) goal) })) (sym (closed_open 0 o outputs p.refused))
+              (subst (λ b. PlaceIs stands (order_of order) t false y place' hand now (record { known = p.known; refused = o ∷ p.refused; phase = cond b (Doing [] (Ends (pos 0))) (Doing (filter (is_live outputs (o ∷ p.refused)) (when_written acts)) goal) })) gone
+              (subst (λ f. PlaceIs stands (order_of order) t false y f hand now (record { known = p.known; refused = o ∷ p.refused; phase = cond ends_it (Doing [] (Ends (pos 0))) (Doing (filter (is_live outputs (o ∷ p.refused)) (when_written acts)) goal) })) (sym heard.1)
+              (subst (λ z. PlaceIs stands (order_of order) t false z (cond ends_it (Ending (pos 0)) (Writing follow)) hand now (record { known = p.known; refused = o ∷ p.refused; phase = cond ends_it (Doing [] (Ends (pos 0))) (Doing (filter (is_live outputs (o ∷ p.refused)) (when_written acts)) goal) })) (sym heard.0)
+              (elim ends_it as (λ b. PlaceIs stands (order_of order) t false x (cond b (Ending (pos 0)) (Writing follow)) hand now (record { known = p.known; refused = o ∷ p.refused; phase = cond b (Doing [] (Ends (pos 0))) (Doing (filter (is_live outputs (o ∷ p.refused)) (when_written acts)) goal) })) [
+                | true ↦ refl
+                | false ↦ (left, stood, ap (λ l. Doing l goal) rest_is)
+              ]))));
+        };
+        all = λ kept came is. subst (λ f. AllIs f kept.all (Refused o ∷ h)) (sym heard.1)
+            (elim ends_it as (λ b. AllIs (cond b (Ending (pos 0)) (Writing follow)) kept.all (Refused o ∷ h)) [ true ↦ tt | false ↦ all_same (Writing follow) kept.all (Refused o ∷ h) h refl refl is ]);
+        taken = λ kept is taken. taken;
+      })
+  wrote follow left acts q _ stood ends_is phase_is first rest fits heard = cc
 
-  kept_asks : (place place' : Place) (flags : List Bool) (left left' : List Pair) (asked : Asked) (kept : Option KeptText) (keeping : Keeping) (h : List Event) → AsksFrom place flags left place' left' asked →
-      KeptIs place kept keeping h → KeptIs place' kept keeping h
-  kept_asks place place' flags left left' asked None keeping h asks is = is
-  kept_asks place place' flags left left' asked (Some kept) keeping h asks is = (is.0, is.1, all_asks place place' flags left left' asked kept.all h asks is.2)
+  take_by : (order' : Order) (acts : List Act) → order' ≡ order → stands x t (records_of p.known.seen) acts → hand ≡ None → IsBeforeTake (order_of order') acts → place' ≡ taken_place order' t (records_of p.known.seen) → (q : Past) →
+      q.known.seen ≡ p.known.seen → q.phase ≡ Doing (live (open_from 0 outputs p.refused) acts) (next_record t (records_of p.known.seen)) → Stood x place' q
+  take_by WritesFirst acts same stood none before place_is q seen phase_is =
+      let stood_there : stands x t (records_of q.known.seen) [] = subst (λ l. stands x t (records_of l) []) (sym seen) (subst (stands x t (records_of p.known.seen)) before stood) in
+      subst (λ f. Stood x f q) (sym (place_is ∙ ap (λ l. look_place t (records_of l)) (sym seen)))
+      (look_by stands (order_of order) t false x hand (open_from 0 outputs p.refused) q stood_there none
+      (phase_is ∙ ap (λ l. Doing (live (open_from 0 outputs p.refused) l) (next_record t (records_of p.known.seen))) before ∙ ap (λ l. Doing [] (next_record t (records_of l))) (sym seen)))
+  take_by TakesFirst acts same stood none before place_is q seen phase_is =
+      subst (λ f. Stood x f q) (sym place_is) (
+        acts,
+        subst (λ l. stands x t (records_of l) acts) (sym seen) stood,
+        phase_is ∙ ap (λ l. Doing (live (open_from 0 outputs p.refused) acts) (next_record t (records_of l))) (sym seen)
+            ∙ ap (λ g. Doing (live (open_from 0 outputs p.refused) (held_acts (at_hand_of (records_of q.known.seen)) g ++ acts)) (next_record t (records_of q.known.seen))) (sym none),
+      )
 
-  module _ (x : L) (place place' : Place) (left left' : List Pair) (connected : Bool) (flags : List Bool) (kept : Option KeptText) (asked : Asked) (s : Strand) (h : List Event)
-      (is : ThroughIs gives looks false x place left connected flags kept s h) (asks : AsksFrom place flags left place' left' asked) where
-    -- the driver when it has asked
-    pub asks_it : ThroughIs gives looks true x place' left' connected flags kept s h
-    asks_it = record {
-      outs = is.outs;
-      row_is = is.row_is;
-      gives_is = is.gives_is;
-      connected_is = is.connected_is;
-      flags_are = is.flags_are;
-      place_is = λ on. (by_want place place' left left' asked (last_seen h) flags (past_of (is_none kept) is.outs s h) (is.place_is on) asks).0;
-      looks_are = is.looks_are;
-      looking = is.looking;
-      kept_is = kept_asks place place' flags left left' asked kept (form s).keeping h asks is.kept_is;
-    }
+  take_kept : (order' : Order) (all : List ℕ) (g : List Event) → all ≡ text (taken_from 0 g) → AllIs (taken_place order' t (records_of p.known.seen)) all g
+  take_kept WritesFirst all g is = (elim (t.stops (records_of p.known.seen)) as (λ b. AllIs (cond b (Ending (t.code (records_of p.known.seen))) Looking) all g) [ true ↦ tt | false ↦ is ])
+  take_kept TakesFirst all g is = is
 
-    -- what it asks for is what its strand wants
-    pub wants_it : has_ended h ≡ false → Some (meaning asked (last_seen h)) ≡ next s h
-    wants_it on =
-        (by_want place place' left left' asked (last_seen h) flags (past_of (is_none kept) is.outs s h) (is.place_is on) asks).1
-        ∙ ap (λ r. wanted_by r s.ports.has_output h) (sym is.row_is) ∙ ap (λ z. cond z None (wanted_by (form s).row s.ports.has_output h)) (sym on)
+  took : (acts : List Act) (e : Event) → stands x t (records_of p.known.seen) acts → hand ≡ None → IsBeforeTake (order_of order) acts → answers (Some (Want.Take 0)) e ≡ true → Hears stands looks order ends_it x Taking (told e) bytes y place' →
+      Next Taking e (after (list_row (order_of order) keeps t) outputs p (Doing (Takes 0 ∷ live (open_from 0 outputs p.refused) acts) (next_record t (records_of p.known.seen))) e)
+  took acts (Took i) stood none before fits heard =
+      let place_is : place' ≡ taken_place order t (records_of p.known.seen) = heard.1 t (records_of p.known.seen) acts stood in
+      let one : taken_from 0 (Took i ∷ h) ≡ taken_from 0 h ++ last_seen_on 0 h ∷ [] = ap (λ b. cond b (taken_from 0 h ++ last_seen_on 0 h ∷ []) (taken_from 0 h)) fits in
+      let q = after (list_row (order_of order) keeps t) outputs p (Doing (Takes 0 ∷ live (open_from 0 outputs p.refused) acts) (next_record t (records_of p.known.seen))) (Took i) in record {
+        walk = record {
+          flags_are = refl;
+          sight_is = sight_is;
+          few = one_more _ _ few;
+          place_is = λ on. subst (λ z. Stood z place' q) (sym heard.0) (take_by order acts refl stood none before place_is q refl refl);
+        };
+        all = λ kept came is. subst (λ f. AllIs f kept.all (Took i ∷ h)) (sym place_is) (take_kept order kept.all (Took i ∷ h) (is ∙ ap text (sym one)));
+        taken = λ kept is taken. is ∙ ap text (sym one);
+      }
+  took acts _ stood none before fits heard = cc
 
-  -- it ends with code 0, from the place where it is to end
-  ends_at : (place : Place) (sight : ℕ → List ℕ) (flags : List Bool) (left : List Pair) (p : Past) (code : ℤ) → PlaceIs true place sight flags left p → answers (want_in p.phase) (Ended code) ≡ true → (place ≡ Ending) × (code ≡ pos 0)
-  ends_at Starting sight flags left p code is fits = let z : answers (want_in (Reaching (negsuc 0))) (Ended code) ≡ true = subst (λ f. answers (want_in f) (Ended code) ≡ true) is.1 fits in cc
-  ends_at Committing sight flags left p code is fits = let z : answers (want_in (Reaching (pos 0))) (Ended code) ≡ true = subst (λ f. answers (want_in f) (Ended code) ≡ true) is.1 fits in cc
-  ends_at Looking sight flags left p code is fits = let z : answers (want_in (Doing [] (Asks (Want.Read 0)))) (Ended code) ≡ true = subst (λ f. answers (want_in f) (Ended code) ≡ true) is fits in cc
-  ends_at Writing sight flags left p code is fits =
-      let z : answers (want_in (Doing (Writes is.0.0 is.0.1 ∷ rest_of sight flags left) (Asks (Want.Read 0)))) (Ended code) ≡ true = subst (λ f. answers (want_in f) (Ended code) ≡ true) is.1 fits in cc
-  ends_at Taking sight flags left p code is fits = let z : answers (want_in (Doing (Takes 0 ∷ []) (Asks (Want.Read 0)))) (Ended code) ≡ true = subst (λ f. answers (want_in f) (Ended code) ≡ true) is fits in cc
-  ends_at Ending sight flags left p code is fits = (refl, (Decides-int_eq code (pos 0)).0 (subst (λ f. answers (want_in f) (Ended code) ≡ true) is fits))
-  ends_at Over sight flags left p code is fits = absurd is
+  ended : (code : ℤ) (e : Event) → answers (Some (Want.Done code)) e ≡ true → Hears stands looks order ends_it x (Ending code) (told e) bytes y place' →
+      Next (Ending code) e (after (list_row (order_of order) keeps t) outputs p (Doing [] (Ends code)) e)
+  ended code (Ended c) fits heard = record {
+    walk = record { flags_are = refl; sight_is = sight_is; few = one_more _ _ few; place_is = λ on. cc };
+    all = λ kept came is. subst (λ f. AllIs f kept.all (Ended c ∷ h)) (sym heard.1) tt;
+    taken = λ kept is taken. taken;
+  }
+  ended code _ fits heard = cc
 
-  -- the want after an event
-  pub owes : (x y : L) (place place' : Place) (bytes : List ℕ) (left left' left'' : List Pair) (connected : Bool) (flags : List Bool) (kept : Option KeptText) (asked : Asked) (s : Strand) (h : List Event) (e : Event) →
-      ThroughIs gives looks true x place left connected flags kept s h → answers (next s h) e ≡ true → bytes_with looks e ≡ bytes → GivesAt gives looks x y (told e) bytes left left' →
-      AsksFrom (place_after place (told e) Looking (gives_up (told e) (is_none kept) connected (open_after (told e) flags))) (open_after (told e) flags) left' place' left'' asked →
-      Some (meaning asked (last_seen (e ∷ h))) ≡ owed s (e ∷ h)
-  owes x y place place' bytes left left' left'' connected flags kept asked s h (Ended code) is answer came given asks =
-      let g = going s h (Ended code) answer in
-      let past = past_of (is_none kept) is.outs s h in
-      let fits : answers (want_in past.phase) (Ended code) ≡ true = subst (λ r. answers (wanted_by r s.ports.has_output h) (Ended code) ≡ true) is.row_is g.1 in
-      let at = ends_at place (last_seen h) flags left past code (is.place_is g.0) fits in
-      let over : AsksFrom (place_after Ending (told (Ended code)) Looking false) flags left' place' left'' asked = subst (λ f. AsksFrom (place_after f (told (Ended code)) Looking false) flags left' place' left'' asked) at.0 asks in
-      ap (λ a. Some (meaning a (last_seen (Ended code ∷ h)))) over.1 ∙ ap (λ c. Some (Want.Done c)) (sym at.1)
-  owes x y place place' bytes left left' left'' connected flags kept asked s h e is answer came given asks =
-      wants_it y (place_after place (told e) Looking (gives_up (told e) (is_none kept) connected (open_after (told e) flags))) place' left' left'' connected (open_after (told e) flags) (option_map (kept_after (told e) bytes) kept) asked s (e ∷ h)
-      (goes x y place bytes left left' connected flags kept s h e is answer came given) asks (going s h e answer).0
+  pub by_place : (f : Place) (e : Event) → PlaceIs stands (order_of order) t true x f hand (open_from 0 outputs p.refused) p → length h < 50000000 →
+      ends_it ≡ (not keeps && none_left (list_any (λ flag. flag) outputs) (open_after (told e) (open_from 0 outputs p.refused))) →
+      answers (want_in p.phase) e ≡ true → bytes_with looks e ≡ bytes → Hears stands looks order ends_it x f (told e) bytes y place' →
+      Next f e (after (list_row (order_of order) keeps t) outputs p p.phase e)
+  by_place Starting e is room ends_is fits came heard =
+      subst (λ z. Next Starting e (after (list_row (order_of order) keeps t) outputs p z e)) (sym is.3) (from_start e is.0 is.1 is.2 (subst (λ z. answers (want_in z) e ≡ true) is.3 fits) heard)
+  by_place Committing e is room ends_is fits came heard =
+      subst (λ z. Next Committing e (after (list_row (order_of order) keeps t) outputs p z e)) (sym is.3) (from_commit e is.0 is.1 is.2 (subst (λ z. answers (want_in z) e ≡ true) is.3 fits) heard)
+  by_place Looking e is room ends_is fits came heard =
+      subst (λ z. Next Looking e (after (list_row (order_of order) keeps t) outputs p z e)) (sym is.2) (looked e is.0 is.1 room (subst (λ z. answers (want_in z) e ≡ true) is.2 fits) came heard)
+  by_place (Writing follow) e is room ends_is fits came heard =
+      let doing = is.2 in
+      subst (λ z. Next (Writing follow) e (after (list_row (order_of order) keeps t) outputs p z e)) (sym doing.2)
+      (wrote follow is.0 doing.0 doing.1 e is.1 ends_is doing.2 doing.3 doing.4
+      (subst (λ z. answers z e ≡ true) (want_first doing.0 (goal_behind follow t (records_of p.known.seen)) doing.1 doing.3) (subst (λ z. answers (want_in z) e ≡ true) doing.2 fits)) heard)
+  by_place Taking e is room ends_is fits came heard =
+      subst (λ z. Next Taking e (after (list_row (order_of order) keeps t) outputs p z e)) (sym is.4) (took is.0 e is.1 is.2 is.3 (subst (λ z. answers (want_in z) e ≡ true) is.4 fits) heard)
+  by_place (Ending code) e is room ends_is fits came heard =
+      subst (λ z. Next (Ending code) e (after (list_row (order_of order) keeps t) outputs p z e)) (sym is) (ended code e (subst (λ z. answers (want_in z) e ≡ true) is fits) heard)
 
-  -- an event that isn't the sight of a record gives no pairs
-  pub none_given : (x : L) (seen : Seen) (bytes : List ℕ) (left : List Pair) → ((i : ℕ) → seen ≡ Sees i → ⊥) → GivesAt gives looks x x seen bytes left left
-  none_given x (Sees i) bytes left unseen = absurd (unseen i refl)
-  none_given x _ bytes left unseen = (refl, refl)
+-- Asking
 
-  module _ (x y : L) (seen : Seen) (bytes : List ℕ) (place place' : Place) (left pairs left' : List Pair) (connected connected' : Bool) (flags flags' : List Bool)
-      (kept kept' : Option KeptText) (yields : Bool) (asked : Asked) (s : Strand) (h : List Event) (e : Event)
-      (is : ThroughIs gives looks true x place left connected flags kept s h) (answer : answers (next s h) e ≡ true) (seen_is : told e ≡ seen) (came : bytes_with (form s).looks e ≡ bytes)
-      (given : GivesAt gives looks x y seen bytes left pairs) (yields_is : yields ≡ is_none kept) (kept_is : kept' ≡ option_map (kept_after seen bytes) kept)
-      (connected_is : connected' ≡ connected) (flags_are : flags' ≡ open_after seen flags)
-      (asks : AsksFrom (place_after place seen Looking (gives_up seen yields connected (open_after seen flags))) (open_after seen flags) pairs place' left' asked) where
-    -- the driver's one step, from what its parts do
-    pub steps : ThroughIs gives looks true y place' left' connected' flags' kept' s (e ∷ h) × (Some (meaning asked (last_seen (e ∷ h))) ≡ owed s (e ∷ h))
-    steps =
-        let wants : AsksFrom (place_after place (told e) Looking (gives_up (told e) (is_none kept) connected (open_after (told e) flags))) (open_after (told e) flags) pairs place' left' asked =
-        subst (λ z. AsksFrom (place_after place (told e) Looking (gives_up (told e) z connected (open_after (told e) flags))) (open_after (told e) flags) pairs place' left' asked) yields_is
-        (subst (λ z. AsksFrom (place_after place z Looking (gives_up z yields connected (open_after z flags))) (open_after z flags) pairs place' left' asked) (sym seen_is) asks) in
-        let its : bytes_with looks e ≡ bytes = ap (λ b. bytes_with b e) is.looks_are ∙ came in
-        let gave : GivesAt gives looks x y (told e) bytes left pairs = subst (λ z. GivesAt gives looks x y z bytes left pairs) (sym seen_is) given in
-        let holds : kept' ≡ option_map (kept_after (told e) bytes) kept = kept_is ∙ ap (λ z. option_map (kept_after z bytes) kept) (sym seen_is) in
-        let now : flags' ≡ open_after (told e) flags = flags_are ∙ ap (λ z. open_after z flags) (sym seen_is) in
-        let new = asks_it y (place_after place (told e) Looking (gives_up (told e) (is_none kept) connected (open_after (told e) flags))) place' pairs left' connected (open_after (told e) flags)
-        (option_map (kept_after (told e) bytes) kept) asked s (e ∷ h) (goes x y place bytes left pairs connected flags kept s h e is answer its gave) wants in (
-          subst (λ z. ThroughIs gives looks true y place' left' z flags' kept' s (e ∷ h)) (sym connected_is)
-              (subst (λ z. ThroughIs gives looks true y place' left' connected z kept' s (e ∷ h)) (sym now)
-              (subst (λ z. ThroughIs gives looks true y place' left' connected (open_after (told e) flags) z s (e ∷ h)) (sym holds) new)),
-          owes x y place place' bytes left pairs left' connected flags kept asked s h e is answer its gave wants,
-        )
+written_plain : (out : Out) (rec : List ℕ) (h : List Event) → last_seen_on 0 h ≡ rec → written (plain out) (last_seen h) ≡ record_of rec out
+written_plain (Same i) rec h is = is
+written_plain (Fresh bytes) rec h is = refl
+
+module _ {L : Type 0} (stands : L → Stream → Records → List Act → Type 0) (order : RowOrder) (t : Stream) (outputs : List Bool) (h : List Event)
+    (x y : L) (hand hand' : Option Group) (place' : Place) (flags : List Bool) (asked : Asked) (p : Past) where
+  -- what is so when it has asked
+  abbrev pub HasAsked : Place → Type 0
+  HasAsked from = PlaceIs stands order t true y place' hand' flags p × (Some (meaning asked (last_seen h)) ≡ want_in p.phase) × ((all : List ℕ) → AllIs from all h → AllIs place' all h)
+
+  plainly : (from : Place) → (y ≡ x) × (hand' ≡ hand) × (place' ≡ from) × (asked ≡ want_at from) → PlaceIs stands order t true x from hand flags p → Some (meaning (want_at from) (last_seen h)) ≡ want_in p.phase → HasAsked from
+  plainly from asks is want = (
+    subst (λ z. PlaceIs stands order t true z place' hand' flags p) (sym asks.0)
+        (subst (λ g. PlaceIs stands order t true x place' g flags p) (sym asks.1) (subst (λ f. PlaceIs stands order t true x f hand flags p) (sym asks.2) is)),
+    ap (λ a. Some (meaning a (last_seen h))) asks.3 ∙ want,
+    λ all kept. subst (λ f. AllIs f all h) (sym asks.2) kept,
+  )
+
+  -- nothing was left to write
+  turns : (follow : Follow) (from : Place) → hand' ≡ None → place' ≡ from → asked ≡ want_at place' → PlaceIs stands order t true y from None flags p → Some (meaning (want_at from) (last_seen h)) ≡ want_in p.phase →
+      ((all : List ℕ) → AllIs (Writing follow) all h → AllIs from all h) → HasAsked (Writing follow)
+  turns follow from none place_is asks is want kept = (
+    subst (λ g. PlaceIs stands order t true y place' g flags p) (sym none) (subst (λ f. PlaceIs stands order t true y f None flags p) (sym place_is) is),
+    ap (λ a. Some (meaning a (last_seen h))) (asks ∙ ap want_at place_is) ∙ want,
+    λ all is. subst (λ f. AllIs f all h) (sym place_is) (kept all is),
+  )
+
+  look_want : (stops : Bool) (code : ℤ) → p.phase ≡ Doing [] (cond stops (Ends code) (Asking (Want.Read 0))) → Some (meaning (want_at (cond stops (Ending code) Looking)) (last_seen h)) ≡ want_in p.phase
+  look_want true code is = ap want_in (sym is)
+  look_want false code is = ap want_in (sym is)
+
+  behind : (follow : Follow) → stands y t (records_of p.known.seen) [] → hand' ≡ None → place' ≡ place_behind follow t (records_of p.known.seen) → asked ≡ want_at place' →
+      p.phase ≡ Doing (and_behind follow []) (goal_behind follow t (records_of p.known.seen)) → HasAsked (Writing follow)
+  behind Take stood none place_is asks is = turns Take Taking none place_is asks ([], stood, refl, none_before order, is) (ap want_in (sym is)) (λ all kept. kept)
+  behind Look stood none place_is asks is =
+      turns Look (look_place t (records_of p.known.seen)) none place_is asks (look_by stands order t true y None flags p stood refl is) (look_want (t.stops (records_of p.known.seen)) (t.code (records_of p.known.seen)) is)
+      (λ all kept. (elim (t.stops (records_of p.known.seen)) as (λ b. AllIs (cond b (Ending (t.code (records_of p.known.seen))) Looking) all h) [ true ↦ tt | false ↦ kept ]))
+  behind End stood none place_is asks is = turns End (Ending (t.code (records_of p.known.seen))) none place_is asks is (ap want_in (sym is)) (λ all kept. tt)
+
+  one : (follow : Follow) (g : Group) (rest before : List Act) → last_seen_on 0 h ≡ at_hand_of (records_of p.known.seen) → is_due flags g ≡ true → stands y t (records_of p.known.seen) rest →
+      hand' ≡ less_one g → place' ≡ Writing follow → asked ≡ Asked.Write g.output (plain g.out) → live flags before ≡ live flags (group_acts (at_hand_of (records_of p.known.seen)) g ++ rest) →
+      p.phase ≡ Doing (live flags (and_behind follow before)) (goal_behind follow t (records_of p.known.seen)) → HasAsked (Writing follow)
+  one follow g rest before sight due stood hand_is place_is asks same is =
+      let rec = at_hand_of (records_of p.known.seen) in
+      let goal = goal_behind follow t (records_of p.known.seen) in
+      let first = comes g rec flags follow rest due in
+      let acts : live flags (and_behind follow before) ≡ live flags (and_behind follow (group_acts rec g ++ rest)) = live_behind flags follow before ∙ ap (and_behind follow) same ∙ sym (live_behind flags follow (group_acts rec g ++ rest)) in
+      let phase : p.phase ≡ Doing (live flags (and_behind follow (group_acts rec g ++ rest))) goal = is ∙ ap (λ l. Doing l goal) acts in (
+        subst (λ f. PlaceIs stands order t true y f hand' flags p) (sym place_is)
+            (rest, stood, (live flags (and_behind follow (group_acts rec g ++ rest)), (g.output, record_of rec g.out), phase, first.0, first.1 ∙ ap (λ z. live flags (and_behind follow (held_acts rec z ++ rest))) (sym hand_is))),
+        ap (λ a. Some (meaning a (last_seen h))) asks ∙ ap (λ r. Some (Want.Write g.output r)) (written_plain g.out rec h sight)
+            ∙ sym (want_first (live flags (and_behind follow (group_acts rec g ++ rest))) goal (g.output, record_of rec g.out) first.0) ∙ ap want_in (sym phase),
+        λ all kept. subst (λ f. AllIs f all h) (sym place_is) kept,
+      )
+
+  asks_at : (follow : Follow) (given : Option Group) → last_seen_on 0 h ≡ at_hand_of (records_of p.known.seen) → PlaceIs stands order t false x (Writing follow) hand flags p → Fetches stands flags x hand y given → Turns stands follow y given hand' place' asked → HasAsked (Writing follow)
+  asks_at follow None sight is fetches turn =
+      let rec = at_hand_of (records_of p.known.seen) in
+      let f = fetches t (records_of p.known.seen) is.0 is.1 in
+      behind follow f.1 turn.0 (turn.1 t (records_of p.known.seen) [] f.1) turn.2
+      (is.2 ∙ ap (λ l. Doing l (goal_behind follow t (records_of p.known.seen))) (live_behind flags follow (held_acts rec hand ++ is.0) ∙ ap (and_behind follow) f.0))
+  asks_at follow (Some g) sight is fetches turn =
+      let f = fetches.1 t (records_of p.known.seen) is.0 is.1 in
+      one follow g f.0 (held_acts (at_hand_of (records_of p.known.seen)) hand ++ is.0) sight fetches.0 f.2 turn.0 turn.1 turn.2 f.1 is.2
+
+  -- it asks for what is wanted
+  pub by_want : (from : Place) → last_seen_on 0 h ≡ at_hand_of (records_of p.known.seen) → PlaceIs stands order t false x from hand flags p → Asks stands flags x hand from y hand' place' asked → HasAsked from
+  by_want Starting sight is asks = plainly Starting asks is (ap want_in (sym is.3))
+  by_want Committing sight is asks = plainly Committing asks is (ap want_in (sym is.3))
+  by_want Looking sight is asks = plainly Looking asks is (ap want_in (sym is.2))
+  by_want (Writing follow) sight is asks = asks_at follow asks.0 sight is asks.1 asks.2
+  by_want Taking sight is asks = plainly Taking asks is (ap want_in (sym is.4))
+  by_want (Ending code) sight is asks = plainly (Ending code) asks is (ap want_in (sym is))

@@ -1,10 +1,11 @@
 -- The outputs of a strand that are open: connected, and not refused.
-use Rattle.std.specs.Prelude.{ℕ, suc, Bool, ◌&&◌, not, ◌==◌, List, [], ◌∷◌, filter, Option, Some, None}
+use Rattle.std.specs.Prelude.{ℕ, suc, Bool, true, ◌&&◌, not, ◌==◌, List, [], ◌∷◌, filter}
 use Rattle.std.specs.List.{list_any}
 use Rattle.pipe_model.specs.declared.step.Seen.{Seen}
 use Rattle.pipe_model.specs.declared.step.Seen.TheVariants.{Refused}
 use Rattle.pipe_model.specs.Members.{has, flag_at}
-use Rattle.stage_steps.specs.declared.outputs.Pair.{Pair}
+use Rattle.pipe_model.specs.Row.{Act}
+use Rattle.pipe_model.specs.Row.Act.{Writes, Repeats, Takes}
 
 -- by the connected outputs from a number on, and the outputs that refused
 abbrev pub open_from : ℕ → List Bool → List ℕ → List Bool
@@ -24,11 +25,12 @@ open_after _ open_flags = open_flags
 abbrev pub none_left : Bool → List Bool → Bool
 none_left connected open_flags = connected && not (list_any (λ flag. flag) open_flags)
 
--- the pairs whose output is open
-abbrev pub live : List Bool → List Pair → List Pair
-live open_flags pairs = filter (λ p. flag_at open_flags p.output) pairs
+-- the act can be done
+abbrev pub can_do : List Bool → Act → Bool
+can_do open_flags (Writes o rec) = flag_at open_flags o
+can_do open_flags (Repeats o rec) = flag_at open_flags o
+can_do open_flags (Takes i) = true
 
--- the pairs of which the first may be kept apart
-abbrev pub joined : Option Pair → List Pair → List Pair
-joined None rest = rest
-joined (Some first) rest = first ∷ rest
+-- the acts that can be done
+abbrev pub live : List Bool → List Act → List Act
+live open_flags acts = filter (can_do open_flags) acts

@@ -1,70 +1,55 @@
--- What a walk of pairs stands for: a strand's own past, by a row that tells the pairs of each record.
-use Rattle.std.specs.Prelude.{◌≡◌, ℕ, Bool, true, false, ◌&&◌, List, [], ◌∷◌, ◌++◌, pos, negsuc, map}
+-- How a walk of pairs goes on: where it stands after an event, and what it asks for then.
+use Rattle.std.specs.Prelude.{◌≡◌, ℕ, Bool, true, false, ◌&&◌, if◌then◌else◌, List, [], ◌∷◌, ◌++◌, pos}
+use Rattle.std.specs.Ordering.{int_eq}
+use Rattle.std.specs.declared.option.Option.{Option}
+use Rattle.std.specs.declared.option.Option.TheVariants.{Some, None}
 use Rattle.pipe_model.specs.declared.step.Seen.{Seen}
-use Rattle.pipe_model.specs.declared.step.Seen.TheVariants.{Refused}
-use Rattle.pipe_model.specs.declared.step.Want.{Want as Asked}
-use Rattle.pipe_model.specs.declared.step.Want.TheVariants as Ask
-use Rattle.pipe_model.specs.Event.Want.{Read}
-use Rattle.pipe_model.specs.Row.{Pair as RowPair, Act, Row}
-use Rattle.pipe_model.specs.Shape.{Records, writes, listed, each_record}
-use Rattle.pipe_model.specs.Shape.Order.{WritesFirst}
-use Rattle.pipe_model.specs.Row.Act.{Writes, Takes}
-use Rattle.pipe_model.specs.Row.Goal.{Asks, Ends}
-use Rattle.pipe_model.specs.Next.{Phase, Past}
-use Rattle.pipe_model.specs.Next.Phase.{Doing}
-use Rattle.pipe_model.specs.Next.Phase.{Starting as Reaching}
+use Rattle.pipe_model.specs.declared.step.Seen.TheVariants.{Up, Saw, SawEnd, Took, Put, Refused, Ended}
+use Rattle.pipe_model.specs.declared.step.Want.{Want}
+use Rattle.pipe_model.specs.declared.step.Want.TheVariants.{Write}
+use Rattle.pipe_model.specs.Row.{Act}
+use Rattle.pipe_model.specs.Shape.{Records, Stream, at_hand_of}
+use Rattle.stage_steps.specs.declared.group.Group.{Group}
+use Rattle.stage_steps.specs.declared.order.Order.{Order}
+use Rattle.stage_steps.specs.declared.place.Follow.{Follow}
+use Rattle.stage_steps.specs.declared.place.Follow.TheVariants.{Look, End}
 use Rattle.stage_steps.specs.declared.place.Place.{Place}
-use Rattle.stage_steps.specs.declared.place.Place.TheVariants.{Starting, Committing, Looking, Writing, Taking, Ending, Over}
-use Rattle.stage_steps.specs.declared.outputs.Pair.{Pair}
-use Rattle.stage_steps.specs.Coroutine.{written}
-use Rattle.stage_steps.specs.Outputs.{live, none_left}
+use Rattle.stage_steps.specs.declared.place.Place.TheVariants.{Starting, Committing, Looking, Writing, Taking, Ending}
+use Rattle.stage_steps.specs.Group.{group_acts, held_acts, is_due, less_one, plain}
+use Rattle.stage_steps.specs.Lists.{Begins, Sees, Finishes, Tells}
+use Rattle.stage_steps.specs.Outputs.{live}
+use Rattle.stage_steps.specs.Places.{want_at, sight_place, taken_place, place_behind}
 
--- Through and Sink: each record's pairs are written before it is taken, and where it yields, refusals end it
-abbrev pub each_row : Bool → (Records → List RowPair) → Row
-each_row yields outs = record (listed WritesFirst (each_record outs)) { yields = yields }
+-- behind commit level 0 the pairs at the start are given, unless the code ends it
+abbrev pub IsBegun : {L : Type 0} → (L → Stream → Records → List Act → Type 0) → L → L → Place → Bool → Type 0
+IsBegun stands x y place true = Begins stands x y × (place ≡ Writing Look)
+IsBegun stands x y place false = (y ≡ x) × (place ≡ Ending (pos 0))
 
--- the walk ends at an event: it yields, and the last open output refused
-abbrev pub gives_up : Seen → Bool → Bool → List Bool → Bool
-gives_up (Refused o) yields connected flags = yields && none_left connected flags
-gives_up _ yields connected flags = false
+-- what becomes of the lists and of the place by an event that answers what was asked for
+abbrev pub Hears : {L : Type 0} → (L → Stream → Records → List Act → Type 0) → Bool → Order → Bool → L → Place → Seen → List ℕ → L → Place → Type 0
+Hears stands looks order gives_up x Starting (Up level code) bytes y place = (y ≡ x) × (place ≡ (if int_eq code (pos 0) then Committing else Ending (pos 0)))
+Hears stands looks order gives_up x Committing (Up level code) bytes y place = IsBegun stands x y place (int_eq code (pos 0))
+Hears stands looks order gives_up x Looking (Saw i) bytes y place = Sees stands looks x y bytes × Tells stands y place (sight_place order)
+Hears stands looks order gives_up x Looking (SawEnd i) bytes y place = Finishes stands x y × (place ≡ Writing End)
+Hears stands looks order gives_up x (Writing follow) (Put o) bytes y place = (y ≡ x) × (place ≡ Writing follow)
+Hears stands looks order gives_up x (Writing follow) (Refused o) bytes y place = (y ≡ x) × (place ≡ (if gives_up then Ending (pos 0) else Writing follow))
+Hears stands looks order gives_up x Taking (Took i) bytes y place = (y ≡ x) × Tells stands x place (taken_place order)
+Hears stands looks order gives_up x (Ending code) (Ended code') bytes y place = (y ≡ x) × (place ≡ Ending code)
+Hears stands looks order gives_up x _ _ bytes y place = Unit {0}
 
--- the pair of the stage table that a pair means, by the records last seen
-abbrev pub meant : (ℕ → List ℕ) → Pair → RowPair
-meant sight p = (p.output, written p.out sight)
+-- the group that comes next of those whose output is open, the one in hand first, or none where nothing is left
+abbrev pub Fetches : {L : Type 0} → (L → Stream → Records → List Act → Type 0) → List Bool → L → Option Group → L → Option Group → Type 0
+Fetches stands flags x hand y None = (t : Stream) (recs : Records) (acts : List Act) → stands x t recs acts →
+    (live flags (held_acts (at_hand_of recs) hand ++ acts) ≡ []) × stands y t recs []
+Fetches stands flags x hand y (Some g) = (is_due flags g ≡ true) × ((t : Stream) (recs : Records) (acts : List Act) → stands x t recs acts →
+    (rest : List Act) × (live flags (held_acts (at_hand_of recs) hand ++ acts) ≡ live flags (group_acts (at_hand_of recs) g ++ rest)) × stands y t recs rest)
 
--- what is left to do: the pairs whose output is open, and then the record is taken
-abbrev pub rest_of : (ℕ → List ℕ) → List Bool → List Pair → List Act
-rest_of sight flags left = writes (map (meant sight) (live flags left)) ++ Takes 0 ∷ []
+-- one of the group is asked for, and the others stay in hand; or where there is none the walk goes on
+abbrev pub Turns : {L : Type 0} → (L → Stream → Records → List Act → Type 0) → Follow → L → Option Group → Option Group → Place → Want → Type 0
+Turns stands follow y (Some g) hand place asked = (hand ≡ less_one g) × (place ≡ Writing follow) × (asked ≡ Write g.output (plain g.out))
+Turns stands follow y None hand place asked = (hand ≡ None) × Tells stands y place (place_behind follow) × (asked ≡ want_at place)
 
-abbrev pub WritingIs : Bool → List Act → Phase → Type 0
-WritingIs true rest phase = (p : RowPair) × (phase ≡ Doing (Writes p.0 p.1 ∷ rest) (Asks (Read 0)))
-WritingIs false rest phase = phase ≡ Doing rest (Asks (Read 0))
-
--- the walk's place, before it asks or when it has asked
-abbrev pub PlaceIs : Bool → Place → (ℕ → List ℕ) → List Bool → List Pair → Past → Type 0
-PlaceIs has_asked Starting sight flags left p = (p.known.told ≡ []) × (p.phase ≡ Reaching (negsuc 0))
-PlaceIs has_asked Committing sight flags left p = (p.known.told ≡ []) × (p.phase ≡ Reaching (pos 0))
-PlaceIs has_asked Looking sight flags left p = p.phase ≡ Doing [] (Asks (Read 0))
-PlaceIs has_asked Writing sight flags left p = WritingIs has_asked (rest_of sight flags left) p.phase
-PlaceIs has_asked Taking sight flags left p = p.phase ≡ Doing (Takes 0 ∷ []) (Asks (Read 0))
-PlaceIs has_asked Ending sight flags left p = p.phase ≡ Doing [] (Ends (pos 0))
-PlaceIs has_asked Over sight flags left p = ⊥
-
--- a plain want of a place
-abbrev pub asked_at : Place → Asked
-asked_at Starting = Ask.Commit (negsuc 0)
-asked_at Committing = Ask.Commit (pos 0)
-asked_at Looking = Ask.Read 0
-asked_at Taking = Ask.Take 0
-asked_at _ = Ask.Done (pos 0)
-
--- while it writes: the first live pair is asked for, or where none is left the record is taken
-abbrev pub AsksPair : List Bool → List Pair → Place → List Pair → Asked → Type 0
-AsksPair flags left place' left' (Ask.Write o out) = (place' ≡ Writing) × (live flags left ≡ record { output = o; out = out } ∷ live flags left')
-AsksPair flags left place' left' (Ask.Take i) = (i ≡ 0) × (place' ≡ Taking) × (live flags left ≡ [])
-AsksPair flags left place' left' _ = ⊥
-
--- what a walk asks for, and where it stands and which pairs are left then
-abbrev pub AsksFrom : Place → List Bool → List Pair → Place → List Pair → Asked → Type 0
-AsksFrom Writing flags left place' left' asked = AsksPair flags left place' left' asked
-AsksFrom place flags left place' left' asked = (place' ≡ place) × (asked ≡ asked_at place)
+-- what is asked for in a place, and what is so then
+abbrev pub Asks : {L : Type 0} → (L → Stream → Records → List Act → Type 0) → List Bool → L → Option Group → Place → L → Option Group → Place → Want → Type 0
+Asks stands flags x hand (Writing follow) y hand' place asked = (given : Option Group) × Fetches stands flags x hand y given × Turns stands follow y given hand' place asked
+Asks stands flags x hand from y hand' place asked = (y ≡ x) × (hand' ≡ hand) × (place ≡ from) × (asked ≡ want_at from)

@@ -1,19 +1,20 @@
 ghost use Rattle.std.specs.Prelude.{◌≡◌, IfOk};
 
-use crate::locate::Selects;
-use crate::sink::Copies;
-use crate::source::Source;
+use crate::copies::Copies;
+use crate::listed::Listed;
+use crate::locate::Locates;
+use crate::order::Order;
 use crate::stage::Stage;
-use crate::through::Through;
+use crate::text_lines::TextLines;
 use pipe_model::{Kind, NoMemory, Rec, Seen, Strand, Want};
 use std::alloc::Global;
 
 /// A stage of one of the first kinds: CONSOLE first in its pipeline or not, and LOCATE.
 #[derive(Drop)]
 pub enum FirstStage {
-    Source(Source),
-    Sink(Through<Copies>),
-    Locating(Through<Selects>),
+    Source(Listed<TextLines>),
+    Sink(Listed<Copies>),
+    Locating(Listed<Locates>),
 }
 
 impl FirstStage {
@@ -28,19 +29,18 @@ impl FirstStage {
         let outputs = strand.ports.has_output.as_slice();
         match &strand.kind {
             Kind::ConsoleIn { bytes } => {
-                let source = Source::new(alloc, bytes.bytes(), outputs)?;
+                let lines = TextLines::new(alloc, bytes.bytes())?;
+                let source = Listed::new(alloc, lines, Order::WritesFirst, outputs, false)?;
                 Ok(FirstStage::Source(source))
             }
             Kind::ConsoleOut => {
-                let sink = Through::new(alloc, Copies, outputs, true)?;
+                let copies = Copies::new(true);
+                let sink = Listed::new(alloc, copies, Order::WritesFirst, outputs, true)?;
                 Ok(FirstStage::Sink(sink))
             }
             Kind::Locate { range, text } => {
-                let lists = Selects {
-                    range: *range,
-                    text: copy_of(alloc, text)?,
-                };
-                let locating = Through::new(alloc, lists, outputs, false)?;
+                let locates = Locates::new(*range, copy_of(alloc, text)?);
+                let locating = Listed::new(alloc, locates, Order::WritesFirst, outputs, false)?;
                 Ok(FirstStage::Locating(locating))
             }
             _ => unreachable!(),

@@ -1,4 +1,4 @@
-ghost use Rattle.std.specs.Prelude.{◌≡◌, IfOk, [], vec_len};
+ghost use Rattle.std.specs.Prelude.{◌≡◌, if◌then◌else◌, IfOk, [], Some, None, vec_len};
 ghost use Rattle.std.specs.Option.{option_map};
 ghost use Rattle.stage_steps.specs.Kept.{kept_after, nothing_kept};
 
@@ -56,6 +56,13 @@ impl Kept {
     {
         &self.bytes[..self.taken]
     }
+}
+
+// Nothing kept yet, where something is to be.
+pub(crate) fn kept_if(alloc: Global, keeps: bool) -> Option<Kept>
+    ensures { result ≡ (if keeps then Some nothing_kept else None) }
+{
+    if keeps { Some(Kept::new(alloc)) } else { None }
 }
 
 // What is kept after an event, where something is.

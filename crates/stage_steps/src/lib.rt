@@ -1,29 +1,40 @@
-//! The sequential parts of stages: what a stage promises, the drivers that walk its pairs, and the first stages.
+//! The sequential parts of stages: what a stage promises, the driver of the stages that are made of lists of pairs, the
+//! first of them, and what others need of records.
 #![tactic(auto)]
 
 mod boxed;
+mod copies;
 mod first;
+mod group;
 mod kept;
+mod keys;
+mod listed;
 mod lists;
 mod locate;
+mod order;
 mod outputs;
 mod place;
 mod ranges;
-mod sink;
 mod slices;
-mod source;
 mod stage;
-mod through;
+mod strings;
+mod text_lines;
+mod waiting;
 mod walk;
 
+pub use copies::Copies;
 pub use first::FirstStage;
+pub use group::Group;
+pub use keys::{is_less, is_same};
+pub use listed::Listed;
 pub use lists::Lists;
-pub use locate::Selects;
-pub use outputs::{Pair, Pairs};
-pub use sink::Copies;
-pub use source::Source;
+pub use locate::Locates;
+pub use order::Order;
+pub use ranges::part_of;
 pub use stage::Stage;
-pub use through::Through;
+pub use strings::contains;
+pub use text_lines::TextLines;
+pub use waiting::take_waiting;
 
 #[cfg(test)]
 mod tests;

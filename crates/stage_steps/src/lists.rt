@@ -1,25 +1,57 @@
-ghost use Rattle.std.specs.Prelude.{◌≡◌, List, [], Bool, IfOk};
-ghost use Rattle.pipe_model.specs.Row.{Pair as RowPair};
-ghost use Rattle.pipe_model.specs.Shape.{Records};
-ghost use Rattle.stage_steps.specs.Through.{Gives};
+ghost use Rattle.std.specs.Prelude.{◌≡◌, ◌<◌, ℕ, List, [], Bool, IfOk, IfSome};
+ghost use Rattle.pipe_model.specs.Row.{Act};
+ghost use Rattle.pipe_model.specs.Shape.{Records, Stream};
+ghost use Rattle.stage_steps.specs.Lists.{Begins, Sees, Finishes, GivesNext, Tells};
 
-use crate::outputs::Pairs;
+use crate::group::Group;
 use pipe_model::NoMemory;
 use std::alloc::Global;
 
-/// What a stage writes: the pairs of each record.
+/// What a stage of lists does: a value that has seen some records, and gives the list of pairs that is due group by
+/// group, each made as it is asked for. A new list is begun only when the last one was given whole.
 pub trait Lists: Sized + Drop {
-    /// The value stands for this rule, which tells the pairs of a record by all records so far, after these records.
-    ghost gives: { Self → (Records → List RowPair) → Records → Type 0 };
+    /// The value stands for this stream of the stage table, these records so far, and these acts, which are left of the
+    /// list that it gives now.
+    ghost stands: { Self → Stream → Records → List Act → Type 0 };
 
     /// It needs the bytes of the records.
     ghost is_looking: { Self → Bool };
 
-    /// Adds the pairs of one more record. `bytes` is the record where they are needed, else empty.
-    fn outs(&mut self, alloc: Global, bytes: &[u8], pairs: &mut Pairs) -> Result<(), NoMemory>
-        requires { pairs.old ≡ [] }
+    /// How many groups are left at most.
+    ghost left: { Self → ℕ };
+
+    /// Gives the pairs at the start from now on.
+    fn begin(&mut self)
         ensures looks_same { is_looking self.new ≡ is_looking self.old }
-        ensures gives { IfOk result (λ _. Gives gives (is_looking self.old) self.old self.new bytes.now pairs.new) };
+        ensures begins { Begins stands self.old self.new };
+
+    /// Gives the pairs of one more record. `bytes` is the record where they are needed, else empty.
+    fn see(&mut self, alloc: Global, bytes: &[u8]) -> Result<(), NoMemory>
+        ensures looks_same { is_looking self.new ≡ is_looking self.old }
+        ensures sees { IfOk result (λ _. Sees stands (is_looking self.old) self.old self.new bytes.now) };
+
+    /// Gives the pairs at the end of input.
+    fn end(&mut self, alloc: Global) -> Result<(), NoMemory>
+        ensures looks_same { is_looking self.new ≡ is_looking self.old }
+        ensures finishes { IfOk result (λ _. Finishes stands self.old self.new) };
+
+    /// The next group of the list, or None where nothing is left.
+    fn next(&mut self, alloc: Global) -> Result<Option<Group>, NoMemory>
+        ensures looks_same { is_looking self.new ≡ is_looking self.old }
+        ensures falls { IfOk result (λ given. IfSome given (λ _. left self.new < left self.old)) }
+        ensures gives { IfOk result (λ given. GivesNext stands self.old self.new given) };
+
+    /// Whether it ends at the sight of the record at hand.
+    fn halts(&self) -> bool
+        ensures { Tells stands self.now result (λ t recs. t.halts recs) };
+
+    /// Whether it ends after the record at hand, or before the first record.
+    fn stops(&self) -> bool
+        ensures { Tells stands self.now result (λ t recs. t.stops recs) };
+
+    /// The code with which it ends.
+    fn code(&self) -> i32
+        ensures { Tells stands self.now result (λ t recs. t.code recs) };
 
     /// Whether it needs the bytes of the records.
     fn looks(&self) -> bool

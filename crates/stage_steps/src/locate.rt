@@ -1,49 +1,33 @@
-ghost use Rattle.std.specs.Prelude.{◌≡◌, ◌∷◌, []};
-ghost use Rattle.pipe_model.specs.Search.{holds};
-
+use crate::group::Group;
 use crate::lists::Lists;
-use crate::outputs::{Pair, Pairs};
-use crate::ranges::{columns, fields, words};
-use bstr::ByteSlice;
-use pipe_model::{NoMemory, Out, Range, Rec, Span};
+use crate::ranges::part_of;
+use crate::strings::contains;
+use crate::waiting::take_waiting;
+use pipe_model::{NoMemory, Range, Rec};
 use std::alloc::Global;
 
-/// LOCATE: records in whose range the string stands go on output 0, and the others on output 1.
+/// LOCATE: records in whose range the string stands go on output 0, and the others on output 1. Without a string the
+/// range isn't to be empty.
 #[derive(Drop)]
-pub struct Selects {
+pub struct Locates {
     pub(crate) range: Range,
     pub(crate) text: Option<Rec>,
+    /// The output on which the record at hand is still to be written.
+    pub(crate) waiting: Option<u16>,
 }
 
-// Whether the string stands in the part.
-fn contains(part: &[u8], string: &[u8]) -> bool
-    ensures { result ≡ holds string.now part.now }
-{
-    if string.len() == 1 {
-        return contains_byte(part, string[0]);
-    }
-    part.contains_str(string)
-}
+impl Locates {
+    ghost use Rattle.std.specs.Prelude.{◌≡◌, if◌then◌else◌, None};
+    ghost use Rattle.pipe_model.specs.Ranges.{locates};
 
-// The same for a string of one byte, which needs no preparation.
-fn contains_byte(part: &[u8], byte: u8) -> bool
-    ensures { result ≡ holds (byte ∷ []) part.now }
-{
-    part.find_byte(byte).is_some()
-}
-
-impl Selects {
-    ghost use Rattle.std.specs.Prelude.{◌≡◌, if◌then◌else◌};
-    ghost use Rattle.pipe_model.specs.Ranges.{part_of, locates};
-
-    // The part of a record that the range names.
-    fn part<'a>(&self, rec: &'a [u8]) -> &'a [u8]
-        ensures { result.now ≡ part_of self.now.range rec.now }
+    // Before the first record.
+    pub(crate) fn new(range: Range, text: Option<Rec>) -> Locates
+        ensures { result ≡ record { range = range; text = text; waiting = None } }
     {
-        match self.range.span {
-            Span::Columns => columns(rec, self.range.first, self.range.last),
-            Span::Words => words(rec, self.range.first, self.range.last),
-            Span::Fields => fields(rec, self.range.first, self.range.last),
+        Locates {
+            range,
+            text,
+            waiting: None,
         }
     }
 
@@ -51,7 +35,7 @@ impl Selects {
     fn selects(&self, rec: &[u8]) -> bool
         ensures { result ≡ locates self.now.range self.now.text rec.now }
     {
-        let part = self.part(rec);
+        let part = part_of(self.range, rec);
         match &self.text {
             None => !part.is_empty(),
             Some(text) => contains(part, text.bytes()),
@@ -66,21 +50,42 @@ impl Selects {
     }
 }
 
-impl Lists for Selects {
-    ghost use Rattle.std.specs.Prelude.{◌≡◌, true};
-    ghost use Rattle.pipe_model.specs.SelectionRows.{selects};
-    ghost use Rattle.pipe_model.specs.Ranges.{locates};
+impl Lists for Locates {
+    ghost use Rattle.std.specs.Prelude.{true};
+    ghost use Rattle.stage_steps.specs.FirstLists.{LocatesStand};
+    ghost use Rattle.stage_steps.specs.Waiting.{how_many};
 
-    ghost gives = { λ x outs _. outs ≡ selects (locates x.range x.text) };
+    ghost stands = { λ x t recs acts. LocatesStand x.range x.text x.waiting t recs acts };
 
     ghost is_looking = { λ _. true };
 
-    fn outs(&mut self, _alloc: Global, bytes: &[u8], pairs: &mut Pairs) -> Result<(), NoMemory> {
-        pairs.push(Pair {
-            output: self.output(bytes),
-            out: Out::Same(0),
-        })?;
+    ghost left = { λ x. how_many x.waiting };
+
+    fn begin(&mut self) {}
+
+    fn see(&mut self, _alloc: Global, bytes: &[u8]) -> Result<(), NoMemory> {
+        self.waiting = Some(self.output(bytes));
         Ok(())
+    }
+
+    fn end(&mut self, _alloc: Global) -> Result<(), NoMemory> {
+        Ok(())
+    }
+
+    fn next(&mut self, _alloc: Global) -> Result<Option<Group>, NoMemory> {
+        Ok(take_waiting(&mut self.waiting))
+    }
+
+    fn halts(&self) -> bool {
+        false
+    }
+
+    fn stops(&self) -> bool {
+        false
+    }
+
+    fn code(&self) -> i32 {
+        0
     }
 
     fn looks(&self) -> bool {

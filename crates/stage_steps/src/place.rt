@@ -1,7 +1,18 @@
 ghost use Rattle.std.specs.Prelude.{◌≡◌};
-ghost use Rattle.stage_steps.specs.Place as Spec;
+ghost use Rattle.stage_steps.specs.Places as Spec;
 
-use pipe_model::Seen;
+use pipe_model::Want;
+
+/// What follows when nothing is left to write.
+#[derive(Clone, Copy)]
+pub(crate) enum Follow {
+    /// It takes the record at hand.
+    Take,
+    /// It looks at the next record, or stops.
+    Look,
+    /// It ends.
+    End,
+}
 
 /// Where a walk of pairs stands.
 #[derive(Clone, Copy)]
@@ -12,36 +23,25 @@ pub(crate) enum Place {
     Committing,
     /// It looks at the next record.
     Looking,
-    /// It writes pairs, and takes the record at hand after them where there is one.
-    Writing,
+    /// It writes pairs.
+    Writing(Follow),
     /// It takes the record at hand.
     Taking,
-    /// It ends.
-    Ending,
-    /// It has ended.
-    Over,
+    /// It ends with this code.
+    Ending(i32),
 }
 
-/// The place after an event. Behind commit level 0 it is `begins`, and a refusal ends the walk where it `gives_up`.
-pub(crate) fn place_after(place: Place, seen: Seen, begins: Place, gives_up: bool) -> Place
-    ensures { result ≡ Spec.place_after place seen begins gives_up }
+/// What is asked for in a place where nothing is written.
+#[inline(always)]
+pub(crate) fn want_at(place: Place) -> Want
+    ensures { result ≡ Spec.want_at place }
 {
-    match (place, seen) {
-        (Place::Starting, Seen::Up(_, code)) => if code == 0 {
-            Place::Committing
-        } else {
-            Place::Ending
-        },
-        (Place::Committing, Seen::Up(_, code)) => if code == 0 { begins } else { Place::Ending },
-        (Place::Looking, Seen::Saw(_)) => Place::Writing,
-        (Place::Looking, Seen::SawEnd(_)) => Place::Ending,
-        (Place::Writing, Seen::Put(_)) => Place::Writing,
-        (Place::Writing, Seen::Refused(_)) => if gives_up {
-            Place::Ending
-        } else {
-            Place::Writing
-        },
-        (Place::Taking, Seen::Took(_)) => Place::Looking,
-        _ => Place::Over,
+    match place {
+        Place::Starting => Want::Commit(-1),
+        Place::Committing => Want::Commit(0),
+        Place::Looking => Want::Read(0),
+        Place::Taking => Want::Take(0),
+        Place::Ending(code) => Want::Done(code),
+        Place::Writing(_) => Want::Done(0),
     }
 }

@@ -1,11 +1,12 @@
 ghost use Rattle.std.specs.Prelude.{◌≡◌, ◌==◌, ◌+◌, ◌-◌, ◌<◌, Option, ℕ, List, drop, take, not};
 ghost use Rattle.std.specs.List.{slice_split, join_with_byte, position, position_or_len};
-ghost use Rattle.pipe_model.specs.Ranges.{between, cut_by, words_from, words_spanned};
+ghost use Rattle.pipe_model.specs.Ranges.{between, cut_by, part_of, words_from, words_spanned};
 ghost use Rattle.pipe_model.specs.declared.range.Span.TheVariants.{Words, Fields};
 ghost use Rattle.stage_steps.specs.Parts.{AreBehind, WordsBehind};
 
 use crate::slices::{behind, front};
 use bstr::ByteSlice;
+use pipe_model::{Range, Span};
 
 // How many members a range has, which may be more than there are.
 fn width(first: u32, last: u32) -> usize
@@ -15,7 +16,7 @@ fn width(first: u32, last: u32) -> usize
 }
 
 // The columns of a record.
-pub(crate) fn columns(rec: &[u8], first: u32, last: Option<u32>) -> &[u8]
+fn columns(rec: &[u8], first: u32, last: Option<u32>) -> &[u8]
     ensures { result.now ≡ between first last rec.now }
 {
     let rest = behind(rec, first.saturating_sub(1) as usize);
@@ -58,7 +59,7 @@ fn front_fields(rec: &[u8], count: usize) -> &[u8]
 }
 
 // The fields of a record.
-pub(crate) fn fields(rec: &[u8], first: u32, last: Option<u32>) -> &[u8]
+fn fields(rec: &[u8], first: u32, last: Option<u32>) -> &[u8]
     ensures { result.now ≡ cut_by Fields first last rec.now }
 {
     let rest = behind_fields(rec, first.saturating_sub(1) as usize);
@@ -147,12 +148,23 @@ fn front_words(text: &[u8], count: usize) -> &[u8]
 }
 
 // The words of a record.
-pub(crate) fn words(rec: &[u8], first: u32, last: Option<u32>) -> &[u8]
+fn words(rec: &[u8], first: u32, last: Option<u32>) -> &[u8]
     ensures { result.now ≡ cut_by Words first last rec.now }
 {
     let text = from_word(behind_words(rec, first.saturating_sub(1) as usize));
     match last {
         None => front_words(text, text.len()),
         Some(last) => front_words(text, width(first, last)),
+    }
+}
+
+/// The part of a record that a range names.
+pub fn part_of(range: Range, rec: &[u8]) -> &[u8]
+    ensures { result.now ≡ part_of range rec.now }
+{
+    match range.span {
+        Span::Columns => columns(rec, range.first, range.last),
+        Span::Words => words(rec, range.first, range.last),
+        Span::Fields => fields(rec, range.first, range.last),
     }
 }

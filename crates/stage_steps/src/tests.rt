@@ -1,15 +1,17 @@
 ghost use Rattle.std.specs.Prelude.{IfOk};
 ghost use Rattle.stage_steps.specs.First.{IsFirstKind};
 
-use crate::ranges::{columns, fields, words};
 use crate::*;
-use pipe_model::{Kind, NoMemory, Out, Range, Rec, Seen, Span, Want};
+use pipe_model::{Kind, NoMemory, Out, Range, Rec, Seen, Span, Times, Want};
 use std::alloc::{AllocError, Global};
+use std::process::Abort;
 use std::test::Fail;
 
 mod made;
+mod scripted;
 
 use made::fresh;
+use scripted::{Script, a_script};
 
 // What is asked for, as text.
 fn shown(alloc: Global, want: &Want) -> Result<String, AllocError> {
@@ -106,6 +108,11 @@ fn a_console_writes_its_lines(rt: HostRuntime) -> Result<(), Fail> {
     Ok(())
 }
 
+// What a range names of a record.
+fn part(span: Span, first: u32, last: Option<u32>, rec: &[u8]) -> &[u8] {
+    part_of(Range { span, first, last }, rec)
+}
+
 #[test]
 fn parts_are_cut_by_ranges(rt: HostRuntime) -> Result<(), Fail> {
     let cases: [(&[u8], u32, Option<u32>, &[u8], &[u8], &[u8]); 7] = [
@@ -133,20 +140,179 @@ fn parts_are_cut_by_ranges(rt: HostRuntime) -> Result<(), Fail> {
     ];
     for (rec, first, last, by_columns, by_words, by_fields) in cases {
         assert_eq!(rt;
-            columns(rec, first, last),
+            part(Span::Columns, first, last, rec),
             by_columns,
             "columns {first} of {rec:?}"
         );
         assert_eq!(rt;
-            words(rec, first, last),
+            part(Span::Words, first, last, rec),
             by_words,
             "words {first} of {rec:?}"
         );
         assert_eq!(rt;
-            fields(rec, first, last),
+            part(Span::Fields, first, last, rec),
             by_fields,
             "fields {first} of {rec:?}"
         );
     }
     Ok(())
+}
+
+// Goes through these events with such lists, with both outputs connected, and looks at what is asked for after each.
+fn driven(
+    rt: &impl Abort,
+    alloc: Global,
+    lists: Script,
+    order: Order,
+    steps: &[(Seen, &str)],
+) -> Result<(), Fail> {
+    let mut stage = Listed::new(alloc, lists, order, &[true, true], false)?;
+    assert_eq!(rt; shown(alloc, &stage.first())?.as_str(), "commit -1");
+    for (seen, want) in steps {
+        let asked = stage.resume(alloc, *seen, b"")?;
+        assert_eq!(rt; shown(alloc, &asked)?.as_str(), *want, "after {seen:?}");
+    }
+    Ok(())
+}
+
+#[test]
+fn groups_are_written_so_many_times(rt: HostRuntime) -> Result<(), Fail> {
+    let steps = [
+        (Seen::Up(-1, 0), "commit 0"),
+        (Seen::Up(0, 0), "write 0 [98]"),
+        (Seen::Put(0), "write 0 [98]"),
+        (Seen::Put(0), "read 0"),
+        (Seen::Saw(0), "write 0 same 0"),
+        (Seen::Put(0), "write 0 same 0"),
+        (Seen::Put(0), "take 0"),
+        (Seen::Took(0), "read 0"),
+        (Seen::Saw(0), "write 0 same 0"),
+        (Seen::Refused(0), "take 0"),
+        (Seen::Took(0), "read 0"),
+        (Seen::SawEnd(0), "write 1 [122]"),
+        (Seen::Put(1), "done 8"),
+    ];
+    let alloc = rt.alloc();
+    driven(
+        &rt,
+        alloc,
+        a_script(alloc, Times::Only(2))?,
+        Order::WritesFirst,
+        &steps,
+    )
+}
+
+#[test]
+fn a_group_without_end_is_written_until_it_is_refused(rt: HostRuntime) -> Result<(), Fail> {
+    let steps = [
+        (Seen::Up(-1, 0), "commit 0"),
+        (Seen::Up(0, 0), "write 0 [98]"),
+        (Seen::Put(0), "write 0 [98]"),
+        (Seen::Put(0), "read 0"),
+        (Seen::Saw(0), "take 0"),
+        (Seen::Took(0), "write 0 same 0"),
+        (Seen::Put(0), "write 0 same 0"),
+        (Seen::Put(0), "write 0 same 0"),
+        (Seen::Refused(0), "read 0"),
+        (Seen::SawEnd(0), "write 1 [122]"),
+        (Seen::Refused(1), "done 0"),
+    ];
+    let alloc = rt.alloc();
+    driven(
+        &rt,
+        alloc,
+        a_script(alloc, Times::All)?,
+        Order::TakesFirst,
+        &steps,
+    )
+}
+
+#[test]
+fn it_ends_where_the_lists_say(rt: HostRuntime) -> Result<(), Fail> {
+    let alloc = rt.alloc();
+    let mut stopping = a_script(alloc, Times::Only(1))?;
+    stopping.stops_after = 1;
+    let steps = [
+        (Seen::Up(-1, 0), "commit 0"),
+        (Seen::Up(0, 0), "write 0 [98]"),
+        (Seen::Refused(0), "read 0"),
+        (Seen::Saw(0), "take 0"),
+        (Seen::Took(0), "done 8"),
+    ];
+    driven(&rt, alloc, stopping, Order::WritesFirst, &steps)?;
+    let mut halting = a_script(alloc, Times::Only(1))?;
+    halting.halts_at = 1;
+    let steps = [
+        (Seen::Up(-1, 0), "commit 0"),
+        (Seen::Up(0, 0), "write 0 [98]"),
+        (Seen::Refused(0), "read 0"),
+        (Seen::Saw(0), "done 8"),
+    ];
+    driven(&rt, alloc, halting, Order::TakesFirst, &steps)?;
+    let mut source = a_script(alloc, Times::Only(1))?;
+    source.stops_after = 0;
+    let steps = [
+        (Seen::Up(-1, 0), "commit 0"),
+        (Seen::Up(0, 0), "write 0 [98]"),
+        (Seen::Put(0), "write 0 [98]"),
+        (Seen::Put(0), "done 8"),
+    ];
+    driven(&rt, alloc, source, Order::WritesFirst, &steps)
+}
+
+#[test]
+fn a_bad_commit_ends_it(rt: HostRuntime) -> Result<(), Fail> {
+    let alloc = rt.alloc();
+    let steps = [(Seen::Up(-1, 4), "done 0"), (Seen::Ended(0), "done 0")];
+    driven(
+        &rt,
+        alloc,
+        a_script(alloc, Times::All)?,
+        Order::TakesFirst,
+        &steps,
+    )?;
+    let steps = [(Seen::Up(-1, 0), "commit 0"), (Seen::Up(0, 28), "done 0")];
+    driven(
+        &rt,
+        alloc,
+        a_script(alloc, Times::All)?,
+        Order::TakesFirst,
+        &steps,
+    )
+}
+
+#[test]
+fn copies_that_queue_are_taken_first(rt: HostRuntime) -> Result<(), Fail> {
+    let alloc = rt.alloc();
+    let mut stage = Listed::new(alloc, Copies::new(false), Order::TakesFirst, &[true], false)?;
+    assert!(rt; !stage.looks());
+    let steps = [
+        (Seen::Up(-1, 0), "commit 0"),
+        (Seen::Up(0, 0), "read 0"),
+        (Seen::Saw(0), "take 0"),
+        (Seen::Took(0), "write 0 same 0"),
+        (Seen::Put(0), "read 0"),
+        (Seen::SawEnd(0), "done 0"),
+    ];
+    for (seen, want) in steps {
+        let asked = stage.resume(alloc, seen, b"")?;
+        assert_eq!(rt; shown(alloc, &asked)?.as_str(), want, "after {seen:?}");
+    }
+    Ok(())
+}
+
+#[test]
+fn keys_are_compared_byte_by_byte(rt: HostRuntime) {
+    let cases: [(&[u8], &[u8], bool, bool); 6] = [
+        (b"", b"", false, true),
+        (b"", b"a", true, false),
+        (b"a", b"", false, false),
+        (b"ab", b"b", true, false),
+        (b"ab", b"ab", false, true),
+        (b"a\xff", b"ab", false, false),
+    ];
+    for (key, other, less, same) in cases {
+        assert_eq!(rt; is_less(key, other), less, "{key:?} and {other:?}");
+        assert_eq!(rt; is_same(key, other), same, "{key:?} and {other:?}");
+    }
 }

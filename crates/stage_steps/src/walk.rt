@@ -1,172 +1,279 @@
-ghost use Rattle.std.specs.Prelude.{◌≡◌, MatchOption};
-ghost use Rattle.stage_steps.specs.Outputs.{open_after};
-ghost use Rattle.stage_steps.specs.Place.{place_after};
-ghost use Rattle.stage_steps.specs.Walk.{gives_up, AsksFrom, AsksPair};
+ghost use Rattle.std.specs.Prelude.{◌≡◌, ◌&&◌, None, IfOk, is_none, pos};
+ghost use Rattle.std.specs.Ordering.{int_eq};
+ghost use Rattle.pipe_model.specs.declared.step.Want.TheVariants.{Write};
+ghost use Rattle.stage_steps.specs.declared.place.Place.TheVariants.{Writing};
+ghost use Rattle.stage_steps.specs.Outputs.{none_left};
+ghost use Rattle.stage_steps.specs.Group.{less, less_one, plain};
+ghost use Rattle.stage_steps.specs.Places.{look_place, sight_place, taken_place, place_behind};
+ghost use Rattle.stage_steps.specs.Lists.{Tells};
+ghost use Rattle.stage_steps.specs.Walk.{IsBegun, Hears, Fetches, Asks};
 
-use crate::outputs::{Outputs, Pair, Pairs, next_pair};
-use crate::place::{Place, place_after};
-use pipe_model::{Seen, Want};
+use crate::group::Group;
+use crate::kept::Kept;
+use crate::lists::Lists;
+use crate::order::Order;
+use crate::outputs::Outputs;
+use crate::place::{Follow, Place, want_at};
+use pipe_model::{NoMemory, Out, Rec, Seen, Times, Want};
+use std::alloc::Global;
 
-/// A walk of the pairs that each record causes.
+/// A walk of the pairs that lists give.
 #[derive(Drop)]
 pub(crate) struct Walk {
+    pub(crate) order: Order,
     pub(crate) place: Place,
-    /// The pairs that aren't written yet. Those whose output isn't open are passed over.
-    pub(crate) left: Pairs,
+    /// The group in hand, which comes before those that the lists still give.
+    pub(crate) hand: Option<Group>,
     pub(crate) outputs: Outputs,
+    /// The text of the records taken, of a stage that keeps it. Refusals end the others.
+    pub(crate) kept: Option<Kept>,
 }
 
 impl Walk {
-    ghost use Rattle.std.specs.Prelude.{◌≡◌, ℕ, false, MatchOption};
-    ghost use Rattle.pipe_model.specs.declared.step.Seen.TheVariants.{Saw};
-    ghost use Rattle.stage_steps.specs.declared.place.Place.TheVariants.{Looking};
-    ghost use Rattle.stage_steps.specs.Outputs.{open_after};
-    ghost use Rattle.stage_steps.specs.Place.{place_after};
-    ghost use Rattle.stage_steps.specs.Walk.{gives_up, AsksFrom, AsksPair};
+    ghost use Rattle.std.specs.Prelude.{◌≡◌, ◌&&◌, is_none};
+    ghost use Rattle.stage_steps.specs.Outputs.{none_left};
 
-    // What it asks for after the sight of a record that causes these pairs.
-    #[inline(always)]
-    pub(crate) fn look(&mut self, pairs: Pairs) -> Want
-        ensures flags { self.new.outputs.flags.items ≡ self.old.outputs.flags.items }
-        ensures connected { self.new.outputs.connected ≡ self.old.outputs.connected }
-        ensures asks { (i : ℕ) → AsksFrom (place_after self.old.place (Saw i) Looking false) self.old.outputs.flags.items pairs self.new.place self.new.left result }
+    // Whether it ends, as no output is left.
+    fn gives_up(&self) -> bool
+        ensures { result ≡ (is_none self.now.kept && none_left self.now.outputs.connected self.now.outputs.flags.items) }
     {
-        match self.place {
-            Place::Looking => {
-                self.place = Place::Writing;
-                self.ask_first(pairs)
-            }
-            _ => {
-                self.place = Place::Over;
-                Want::Done(0)
-            }
+        self.kept.is_none() && self.outputs.none_left()
+    }
+}
+
+// The place where it looks at the next record, or stops.
+#[inline(always)]
+fn look_place<L: Lists>(lists: &L) -> Place
+    ensures { Tells L.stands lists.now result look_place }
+{
+    if lists.stops() {
+        Place::Ending(lists.code())
+    } else {
+        Place::Looking
+    }
+}
+
+// The place at the sight of a record.
+#[inline(always)]
+fn sight_place<L: Lists>(lists: &L, order: Order) -> Place
+    ensures { Tells L.stands lists.now result (sight_place order) }
+{
+    if lists.halts() {
+        return Place::Ending(lists.code());
+    }
+    match order {
+        Order::WritesFirst => Place::Writing(Follow::Take),
+        Order::TakesFirst => Place::Taking,
+    }
+}
+
+// The place when the record was taken.
+#[inline(always)]
+fn taken_place<L: Lists>(lists: &L, order: Order) -> Place
+    ensures { Tells L.stands lists.now result (taken_place order) }
+{
+    match order {
+        Order::WritesFirst => look_place(lists),
+        Order::TakesFirst => Place::Writing(Follow::Look),
+    }
+}
+
+// The place when nothing is left to write.
+#[inline(always)]
+fn place_behind<L: Lists>(lists: &L, follow: Follow) -> Place
+    ensures { Tells L.stands lists.now result (place_behind follow) }
+{
+    match follow {
+        Follow::Take => Place::Taking,
+        Follow::Look => look_place(lists),
+        Follow::End => Place::Ending(lists.code()),
+    }
+}
+
+// The place behind commit level 0, with this code.
+fn begin<L: Lists>(lists: &mut L, code: i32) -> Place
+    ensures looks_same { L.is_looking lists.new ≡ L.is_looking lists.old }
+    ensures begun { IsBegun L.stands lists.old lists.new result (int_eq code (pos 0)) }
+{
+    if code == 0 {
+        lists.begin();
+        Place::Writing(Follow::Look)
+    } else {
+        Place::Ending(0)
+    }
+}
+
+// The place after an event. What isn't answered ends the walk.
+#[inline(always)]
+pub(crate) fn hear<L: Lists>(
+    lists: &mut L,
+    walk: &Walk,
+    alloc: Global,
+    seen: Seen,
+    bytes: &[u8],
+) -> Result<Place, NoMemory>
+    ensures looks_same { L.is_looking lists.new ≡ L.is_looking lists.old }
+    ensures hears { IfOk result (λ place. Hears L.stands (L.is_looking lists.old) walk.now.order (is_none walk.now.kept && none_left walk.now.outputs.connected walk.now.outputs.flags.items) lists.old walk.now.place seen bytes.now lists.new place) }
+{
+    match (walk.place, seen) {
+        (Place::Writing(follow), Seen::Put(_)) => Ok(Place::Writing(follow)),
+        (Place::Taking, Seen::Took(_)) => Ok(taken_place(lists, walk.order)),
+        (Place::Looking, Seen::Saw(_)) => {
+            lists.see(alloc, bytes)?;
+            Ok(sight_place(lists, walk.order))
         }
-    }
-
-    // What it asks for after an event. Where it yields, it ends when the last open output refuses.
-    #[inline(always)]
-    pub(crate) fn answer(&mut self, seen: Seen, yields: bool) -> Want
-        ensures flags { self.new.outputs.flags.items ≡ open_after seen self.old.outputs.flags.items }
-        ensures connected { self.new.outputs.connected ≡ self.old.outputs.connected }
-        ensures asks { AsksFrom (place_after self.old.place seen Looking (gives_up seen yields self.old.outputs.connected (open_after seen self.old.outputs.flags.items))) (open_after seen self.old.outputs.flags.items) self.old.left self.new.place self.new.left result }
-    {
-        match (seen, self.place) {
-            (Seen::Put(_), Place::Writing) => self.ask_pair(),
-            (Seen::Took(_), Place::Taking) => {
-                self.place = Place::Looking;
-                Want::Read(0)
-            }
-            _ => self.answer_rarely(seen, yields),
+        (Place::Looking, Seen::SawEnd(_)) => {
+            lists.end(alloc)?;
+            Ok(Place::Writing(Follow::End))
         }
-    }
-
-    // The same for any event.
-    #[inline(always)]
-    fn answer_rarely(&mut self, seen: Seen, yields: bool) -> Want
-        ensures flags { self.new.outputs.flags.items ≡ open_after seen self.old.outputs.flags.items }
-        ensures connected { self.new.outputs.connected ≡ self.old.outputs.connected }
-        ensures asks { AsksFrom (place_after self.old.place seen Looking (gives_up seen yields self.old.outputs.connected (open_after seen self.old.outputs.flags.items))) (open_after seen self.old.outputs.flags.items) self.old.left self.new.place self.new.left result }
-    {
-        self.go(seen, yields);
-        self.ask()
-    }
-
-    // The walk after an event.
-    #[inline(always)]
-    fn go(&mut self, seen: Seen, yields: bool)
-        ensures flags { self.new.outputs.flags.items ≡ open_after seen self.old.outputs.flags.items }
-        ensures connected { self.new.outputs.connected ≡ self.old.outputs.connected }
-        ensures left { self.new.left ≡ self.old.left }
-        ensures place { self.new.place ≡ place_after self.old.place seen Looking (gives_up seen yields self.new.outputs.connected self.new.outputs.flags.items) }
-    {
-        self.outputs.note(seen);
-        let ends = self.gives_up(seen, yields);
-        self.place = place_after(self.place, seen, Place::Looking, ends);
-    }
-
-    fn gives_up(&self, seen: Seen, yields: bool) -> bool
-        ensures { result ≡ gives_up seen yields self.now.outputs.connected self.now.outputs.flags.items }
-    {
-        match seen {
-            Seen::Refused(_) => yields && self.outputs.none_left(),
-            _ => false,
-        }
-    }
-
-    // What it asks for where it stands.
-    #[inline(always)]
-    fn ask(&mut self) -> Want
-        ensures flags { self.new.outputs.flags.items ≡ self.old.outputs.flags.items }
-        ensures connected { self.new.outputs.connected ≡ self.old.outputs.connected }
-        ensures asks { AsksFrom self.old.place self.old.outputs.flags.items self.old.left self.new.place self.new.left result }
-    {
-        match self.place {
-            Place::Starting => Want::Commit(-1),
-            Place::Committing => Want::Commit(0),
-            Place::Looking => Want::Read(0),
-            Place::Writing => self.ask_pair(),
-            Place::Taking => Want::Take(0),
-            Place::Ending | Place::Over => Want::Done(0),
-        }
-    }
-
-    // Asks for the first of these pairs whose output is open, and keeps those behind it.
-    #[inline(always)]
-    fn ask_first(&mut self, mut pairs: Pairs) -> Want
-        requires { self.old.place ≡ Place.Writing }
-        ensures flags { self.new.outputs.flags.items ≡ self.old.outputs.flags.items }
-        ensures connected { self.new.outputs.connected ≡ self.old.outputs.connected }
-        ensures asks { AsksPair self.old.outputs.flags.items pairs self.new.place self.new.left result }
-    {
-        let pair = next_pair(&mut pairs, &self.outputs);
-        self.keep(pairs);
-        self.ask_for(pair)
-    }
-
-    // Keeps these pairs in place of those that are left. Mostly none are, of either.
-    #[inline(always)]
-    fn keep(&mut self, pairs: Pairs)
-        ensures place { self.new.place ≡ self.old.place }
-        ensures flags { self.new.outputs.flags.items ≡ self.old.outputs.flags.items }
-        ensures connected { self.new.outputs.connected ≡ self.old.outputs.connected }
-        ensures left { self.new.left ≡ pairs }
-    {
-        if pairs.is_empty() {
-            self.left.clear();
+        (Place::Writing(follow), Seen::Refused(_)) => if walk.gives_up() {
+            Ok(Place::Ending(0))
         } else {
-            self.left = pairs;
+            Ok(Place::Writing(follow))
+        },
+        (Place::Starting, Seen::Up(_, code)) => if code == 0 {
+            Ok(Place::Committing)
+        } else {
+            Ok(Place::Ending(0))
+        },
+        (Place::Committing, Seen::Up(_, code)) => Ok(begin(lists, code)),
+        (Place::Ending(code), Seen::Ended(_)) => Ok(Place::Ending(code)),
+        _ => Ok(Place::Ending(0)),
+    }
+}
+
+// The next group whose output is open.
+#[inline(always)]
+fn next_group<L: Lists>(
+    lists: &mut L,
+    outputs: &Outputs,
+    alloc: Global,
+) -> Result<Option<Group>, NoMemory>
+    ensures looks_same { L.is_looking lists.new ≡ L.is_looking lists.old }
+    ensures fetches { IfOk result (λ given. Fetches L.stands outputs.now.flags.items lists.old None lists.new given) }
+{
+    while let Some(group) = lists.next(alloc)? {
+        if outputs.takes(&group) {
+            return Ok(Some(group));
         }
     }
+    Ok(None)
+}
 
-    // Asks to write this pair, or where there is none to take the record.
-    #[inline(always)]
-    fn ask_for(&mut self, pair: Option<Pair>) -> Want
-        requires { self.old.place ≡ Place.Writing }
-        ensures flags { self.new.outputs.flags.items ≡ self.old.outputs.flags.items }
-        ensures connected { self.new.outputs.connected ≡ self.old.outputs.connected }
-        ensures left { self.new.left ≡ self.old.left }
-        ensures asks { MatchOption pair ((self.new.place ≡ Place.Taking) × (result ≡ Want.Take 0)) (λ p. (self.new.place ≡ Place.Writing) × (result ≡ Want.Write p.output p.out)) }
-    {
-        match pair {
-            Some(pair) => Want::Write(pair.output, pair.out),
-            None => {
-                self.place = Place::Taking;
-                Want::Take(0)
-            }
+// The same, the one in hand first, which leaves it.
+#[inline(always)]
+fn fetch<L: Lists>(
+    lists: &mut L,
+    hand: &mut Option<Group>,
+    outputs: &Outputs,
+    alloc: Global,
+) -> Result<Option<Group>, NoMemory>
+    ensures looks_same { L.is_looking lists.new ≡ L.is_looking lists.old }
+    ensures hand { IfOk result (λ _. hand.new ≡ None) }
+    ensures fetches { IfOk result (λ given. Fetches L.stands outputs.now.flags.items lists.old hand.old lists.new given) }
+{
+    match hand.take() {
+        Some(group) => if outputs.takes(&group) {
+            Ok(Some(group))
+        } else {
+            next_group(lists, outputs, alloc)
+        },
+        None => next_group(lists, outputs, alloc),
+    }
+}
+
+// One more record like this one.
+fn another(out: &Out, alloc: Global) -> Result<Out, NoMemory>
+    ensures { IfOk result (λ other. other ≡ plain out.now) }
+{
+    match out {
+        Out::Same(_) => Ok(Out::Same(0)),
+        Out::Fresh(rec) => {
+            let copy = Rec::from_slice(alloc, rec.bytes())?;
+            Ok(Out::Fresh(copy))
         }
     }
+}
 
-    #[inline(always)]
-    fn ask_pair(&mut self) -> Want
-        requires { self.old.place ≡ Place.Writing }
-        ensures flags { self.new.outputs.flags.items ≡ self.old.outputs.flags.items }
-        ensures connected { self.new.outputs.connected ≡ self.old.outputs.connected }
-        ensures asks { AsksPair self.old.outputs.flags.items self.old.left self.new.place self.new.left result }
-    {
-        if self.left.is_empty() {
-            return self.ask_for(None);
+// The record itself.
+#[inline(always)]
+fn plain(out: Out) -> Out
+    ensures { result ≡ plain out }
+{
+    match out {
+        Out::Same(_) => Out::Same(0),
+        Out::Fresh(rec) => Out::Fresh(rec),
+    }
+}
+
+// One time less, if any is left.
+#[inline(always)]
+fn less(times: Times) -> Option<Times>
+    ensures { result ≡ less times }
+{
+    match times {
+        Times::Only(n) => if n == 1 {
+            None
+        } else {
+            Some(Times::Only(n.saturating_sub(1)))
+        },
+        Times::All => Some(Times::All),
+    }
+}
+
+// Asks to write one of the group. The others stay in hand.
+#[inline(always)]
+fn write(hand: &mut Option<Group>, group: Group, alloc: Global) -> Result<Want, NoMemory>
+    requires { hand.old ≡ None }
+    ensures hand { IfOk result (λ _. hand.new ≡ less_one group) }
+    ensures asks { IfOk result (λ asked. asked ≡ Write group.output (plain group.out)) }
+{
+    match less(group.times) {
+        None => Ok(Want::Write(group.output, plain(group.out))),
+        Some(times) => {
+            let other = another(&group.out, alloc)?;
+            let output = group.output;
+            *hand = Some(Group {
+                output,
+                out: group.out,
+                times,
+            });
+            Ok(Want::Write(output, other))
         }
-        let pair = next_pair(&mut self.left, &self.outputs);
-        self.ask_for(pair)
+    }
+}
+
+// What it asks for where it writes.
+#[inline(always)]
+fn ask_writing<L: Lists>(
+    lists: &mut L,
+    walk: &mut Walk,
+    follow: Follow,
+    alloc: Global,
+) -> Result<Want, NoMemory>
+    requires { walk.old.place ≡ Writing follow }
+    ensures looks_same { L.is_looking lists.new ≡ L.is_looking lists.old }
+    ensures others { walk.new ≡ record walk.old { place = walk.new.place; hand = walk.new.hand } }
+    ensures asks { IfOk result (λ asked. Asks L.stands walk.old.outputs.flags.items lists.old walk.old.hand (Writing follow) lists.new walk.new.hand walk.new.place asked) }
+{
+    match fetch(lists, &mut walk.hand, &walk.outputs, alloc)? {
+        Some(group) => write(&mut walk.hand, group, alloc),
+        None => {
+            walk.place = place_behind(lists, follow);
+            Ok(want_at(walk.place))
+        }
+    }
+}
+
+// What it asks for where it stands.
+#[inline(always)]
+pub(crate) fn ask<L: Lists>(lists: &mut L, walk: &mut Walk, alloc: Global) -> Result<Want, NoMemory>
+    ensures looks_same { L.is_looking lists.new ≡ L.is_looking lists.old }
+    ensures others { walk.new ≡ record walk.old { place = walk.new.place; hand = walk.new.hand } }
+    ensures asks { IfOk result (λ asked. Asks L.stands walk.old.outputs.flags.items lists.old walk.old.hand walk.old.place lists.new walk.new.hand walk.new.place asked) }
+{
+    match walk.place {
+        Place::Writing(follow) => ask_writing(lists, walk, follow, alloc),
+        place => Ok(want_at(place)),
     }
 }

@@ -1,0 +1,31 @@
+-- What the calls of a stage of lists do, where the value stands for a stream of the stage table, the records so far, and what is left to write of the list that it gives now.
+use Rattle.std.specs.Prelude.{◌≡◌, ◌<◌, ℕ, Bool, true, List, [], ◌∷◌, ◌++◌, length}
+use Rattle.std.specs.declared.option.Option.{Option}
+use Rattle.std.specs.declared.option.Option.TheVariants.{Some, None}
+use Rattle.pipe_model.specs.Row.{Act}
+use Rattle.pipe_model.specs.Shape.{Records, Stream, writes, acts_of, last_pairs, at_hand_of}
+use Rattle.stage_steps.specs.declared.group.Group.{Group}
+use Rattle.stage_steps.specs.Group.{group_acts}
+
+-- it gives the pairs at the start
+abbrev pub Begins : {L : Type 0} → (L → Stream → Records → List Act → Type 0) → L → L → Type 0
+Begins stands x y = (t : Stream) → stands x t [] [] → stands y t [] (writes t.before)
+
+-- it gives the pairs of one more record, whose bytes come with it where it looks
+abbrev pub Sees : {L : Type 0} → (L → Stream → Records → List Act → Type 0) → Bool → L → L → List ℕ → Type 0
+Sees stands looks x y bytes = (t : Stream) (recs : Records) (rec : List ℕ) →
+    stands x t recs [] → length recs < 50000000 → (looks ≡ true → bytes ≡ rec) → stands y t (recs ++ rec ∷ []) (acts_of t.outs (recs ++ rec ∷ []))
+
+-- it gives the pairs at the end of input
+abbrev pub Finishes : {L : Type 0} → (L → Stream → Records → List Act → Type 0) → L → L → Type 0
+Finishes stands x y = (t : Stream) (recs : Records) → stands x t recs [] → stands y t recs (writes (last_pairs t.last recs))
+
+-- the first group of what is left, or none where nothing is left
+abbrev pub GivesNext : {L : Type 0} → (L → Stream → Records → List Act → Type 0) → L → L → Option Group → Type 0
+GivesNext stands x y None = (t : Stream) (recs : Records) (acts : List Act) → stands x t recs acts → (acts ≡ []) × stands y t recs []
+GivesNext stands x y (Some g) = (t : Stream) (recs : Records) (acts : List Act) → stands x t recs acts →
+    (rest : List Act) × (acts ≡ group_acts (at_hand_of recs) g ++ rest) × stands y t recs rest
+
+-- what it tells is what the stream says after the records so far
+abbrev pub Tells : {L A : Type 0} → (L → Stream → Records → List Act → Type 0) → L → A → (Stream → Records → A) → Type 0
+Tells stands x a f = (t : Stream) (recs : Records) (acts : List Act) → stands x t recs acts → a ≡ f t recs

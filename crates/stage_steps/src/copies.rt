@@ -1,0 +1,69 @@
+use crate::group::Group;
+use crate::lists::Lists;
+use crate::waiting::take_waiting;
+use pipe_model::NoMemory;
+use std::alloc::Global;
+
+/// Each record goes on output 0.
+#[derive(Drop)]
+pub struct Copies {
+    pub(crate) is_looking: bool,
+    /// The output on which the record at hand is still to be written.
+    pub(crate) waiting: Option<u16>,
+}
+
+impl Copies {
+    ghost use Rattle.std.specs.Prelude.{◌≡◌, None};
+
+    /// Before the first record. CONSOLE looks at records, and stages that only pass them on don't.
+    pub fn new(is_looking: bool) -> Copies
+        ensures { result ≡ record { is_looking = is_looking; waiting = None } }
+    {
+        Copies {
+            is_looking,
+            waiting: None,
+        }
+    }
+}
+
+impl Lists for Copies {
+    ghost use Rattle.stage_steps.specs.FirstLists.{CopiesStand};
+    ghost use Rattle.stage_steps.specs.Waiting.{how_many};
+
+    ghost stands = { λ x t recs acts. CopiesStand x.waiting t recs acts };
+
+    ghost is_looking = { λ x. x.is_looking };
+
+    ghost left = { λ x. how_many x.waiting };
+
+    fn begin(&mut self) {}
+
+    fn see(&mut self, _alloc: Global, _bytes: &[u8]) -> Result<(), NoMemory> {
+        self.waiting = Some(0);
+        Ok(())
+    }
+
+    fn end(&mut self, _alloc: Global) -> Result<(), NoMemory> {
+        Ok(())
+    }
+
+    fn next(&mut self, _alloc: Global) -> Result<Option<Group>, NoMemory> {
+        Ok(take_waiting(&mut self.waiting))
+    }
+
+    fn halts(&self) -> bool {
+        false
+    }
+
+    fn stops(&self) -> bool {
+        false
+    }
+
+    fn code(&self) -> i32 {
+        0
+    }
+
+    fn looks(&self) -> bool {
+        self.is_looking
+    }
+}

@@ -1,0 +1,83 @@
+use crate::{Group, Lists};
+use pipe_model::{NoMemory, Out, Rec, Times};
+use std::alloc::Global;
+
+// Lists for trying the driver: the record `b` twice before, each record so often, and the record `z` on output 1 at the end.
+// They stand for no stream, so nothing is owed of them.
+#[derive(Drop)]
+pub(crate) struct Script {
+    pub(crate) each: Times,
+    /// It halts at the sight of this record, counted from 1.
+    pub(crate) halts_at: u32,
+    /// It stops after so many records.
+    pub(crate) stops_after: u32,
+    pub(crate) seen: u32,
+    before: Option<Group>,
+    due: Option<Group>,
+}
+
+// Before the first record, where it neither halts nor stops.
+pub(crate) fn a_script(alloc: Global, each: Times) -> Result<Script, NoMemory> {
+    Ok(Script {
+        each,
+        halts_at: 99,
+        stops_after: 99,
+        seen: 0,
+        before: Some(Group {
+            output: 0,
+            out: Out::Fresh(Rec::from_slice(alloc, b"b")?),
+            times: Times::Only(2),
+        }),
+        due: None,
+    })
+}
+
+impl Lists for Script {
+    ghost use Rattle.std.specs.Prelude.{false};
+    ghost use Rattle.stage_steps.specs.Waiting.{how_many};
+
+    ghost stands = { λ x t recs acts. ⊥ };
+
+    ghost is_looking = { λ _. false };
+
+    ghost left = { λ x. how_many x.due };
+
+    fn begin(&mut self) {
+        self.due = self.before.take();
+    }
+
+    fn see(&mut self, _alloc: Global, _bytes: &[u8]) -> Result<(), NoMemory> {
+        self.seen = self.seen.saturating_add(1);
+        self.due = Some(Group {
+            output: 0,
+            out: Out::Same(0),
+            times: self.each,
+        });
+        Ok(())
+    }
+
+    fn end(&mut self, alloc: Global) -> Result<(), NoMemory> {
+        self.due = Some(Group::fresh(1, Rec::from_slice(alloc, b"z")?));
+        Ok(())
+    }
+
+    fn next(&mut self, _alloc: Global) -> Result<Option<Group>, NoMemory> {
+        Ok(self.due.take())
+    }
+
+    fn halts(&self) -> bool {
+        self.seen == self.halts_at
+    }
+
+    fn stops(&self) -> bool {
+        self.seen == self.stops_after
+    }
+
+    fn code(&self) -> i32 {
+        8
+    }
+
+    fn looks(&self) -> bool {
+        false
+    }
+}

@@ -1,0 +1,89 @@
+ghost use Rattle.std.specs.Prelude.{[], ◌≡◌, MatchOption};
+ghost use Rattle.pipe_model.specs.Records.{lines};
+ghost use Rattle.stage_steps.specs.Lines.{IsFirstLine};
+
+use crate::group::Group;
+use crate::lists::Lists;
+use crate::slices::behind;
+use pipe_model::{Lines, NoMemory, Rec};
+use std::alloc::Global;
+
+/// The lines of a text, before any record: each is cut when it is asked for.
+#[derive(Drop)]
+pub struct TextLines {
+    pub(crate) bytes: Rec,
+    /// Where the lines begin that are left.
+    pub(crate) at: usize,
+}
+
+impl TextLines {
+    ghost use Rattle.std.specs.Prelude.{◌≡◌, length, IfOk};
+
+    /// All lines of this text.
+    pub fn new(alloc: Global, text: &[u8]) -> Result<TextLines, NoMemory>
+        ensures { IfOk result (λ it. it ≡ record { bytes = text.now; at = length text.now }) }
+    {
+        Ok(TextLines {
+            bytes: Rec::from_slice(alloc, text)?,
+            at: text.len(),
+        })
+    }
+}
+
+// The first line of a text.
+fn first_line(text: &[u8]) -> Option<&[u8]>
+    ensures { MatchOption result (lines text.now ≡ []) (λ line. IsFirstLine line.now text.now) }
+{
+    Lines::new(text).next()
+}
+
+impl Lists for TextLines {
+    ghost use Rattle.std.specs.Prelude.{◌-◌, false, length};
+    ghost use Rattle.stage_steps.specs.FirstLists.{LinesStand};
+
+    ghost stands = { λ x t recs acts. LinesStand x.bytes x.at t acts };
+
+    ghost is_looking = { λ _. false };
+
+    ghost left = { λ x. length x.bytes - x.at };
+
+    fn begin(&mut self) {
+        self.at = 0;
+    }
+
+    fn see(&mut self, _alloc: Global, _bytes: &[u8]) -> Result<(), NoMemory> {
+        Ok(())
+    }
+
+    fn end(&mut self, _alloc: Global) -> Result<(), NoMemory> {
+        Ok(())
+    }
+
+    fn next(&mut self, alloc: Global) -> Result<Option<Group>, NoMemory> {
+        match first_line(behind(self.bytes.bytes(), self.at)) {
+            Some(line) => {
+                let size = line.len();
+                let rec = Rec::from_slice(alloc, line)?;
+                self.at += size + 1;
+                Ok(Some(Group::fresh(0, rec)))
+            }
+            None => Ok(None),
+        }
+    }
+
+    fn halts(&self) -> bool {
+        false
+    }
+
+    fn stops(&self) -> bool {
+        true
+    }
+
+    fn code(&self) -> i32 {
+        0
+    }
+
+    fn looks(&self) -> bool {
+        false
+    }
+}
