@@ -94,7 +94,7 @@ fn last_fault(parts: &[Part]) -> FaultKind
         Some(Part::Range) => FaultKind::NotANumber,
         Some(Part::String) => FaultKind::UnknownWord,
         Some(Part::Number { .. }) => FaultKind::NotANumber,
-        Some(Part::Byte) => FaultKind::UnknownWord,
+        Some(_) => FaultKind::UnknownWord,
     }
 }
 
@@ -110,6 +110,7 @@ fn part_at(alloc: Global, part: Part, text: &[u8]) -> Result<Option<Taken>, Refu
         Part::String => string_at(alloc, text),
         Part::Number { least, most } => number_at(text, least, most),
         Part::Byte => byte_at(alloc, text),
+        _ => Ok(None),
     }
 }
 

@@ -89,7 +89,7 @@ fn locate(alloc: Global, text: &[u8]) -> Result<Kind, Refusal>
                 text: Some(string),
             })
         }
-        Value::Number(_) | Value::Byte(_) => unreachable!(),
+        _ => unreachable!(),
     }
 }
 
