@@ -1,6 +1,5 @@
 pub mod Blanks
 pub mod ByteParts
-pub mod Choices
 pub mod Delimiters
 pub mod Examples
 pub mod FirstWords
@@ -15,14 +14,8 @@ pub mod OneRanges
 pub mod OneSpellings
 pub mod OneStrings
 pub mod Outcomes
-pub mod PartExamples
 pub mod Passed
 pub mod RangeFronts
-pub mod ReadValues
-pub mod RowApart
-pub mod RowExamples
-pub mod RowSteps
 pub mod Spellings
+pub mod StringPairs
 pub mod StringParts
-pub mod WordExamples
-pub mod WordFronts
