@@ -3,6 +3,7 @@ pub mod ByteParts
 pub mod Delimiters
 pub mod Examples
 pub mod FirstWords
+pub mod KeywordParts
 pub mod Letters
 pub mod Misfits
 pub mod NumberParts
@@ -14,6 +15,7 @@ pub mod OneRanges
 pub mod OneSpellings
 pub mod OneStrings
 pub mod Outcomes
+pub mod PairFronts
 pub mod Passed
 pub mod RangeFronts
 pub mod Spellings

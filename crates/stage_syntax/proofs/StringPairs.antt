@@ -24,7 +24,7 @@ no_string_of_nothing string rest (inr is) = let front = hexadecimal_front [] str
 
 module _ (text : List ℕ) where
   -- the first of two strings that share a delimiter
-  pub first_delimited : (first second rest : List ℕ) (are : AreDelimited text first second rest) → IsDelimited text first (second ++ (are.delimiter ∷ rest))
+  abbrev pub first_delimited : (first second rest : List ℕ) (are : AreDelimited text first second rest) → IsDelimited text first (second ++ (are.delimiter ∷ rest))
   first_delimited first second rest are = record { delimiter = are.delimiter; chosen = are.chosen; whole = are.first_whole; spells = are.spells }
 
   one_delimited_pair : (first second rest other next after : List ℕ) → AreDelimited text first second rest → AreDelimited text other next after → (first ≡ other) × (second ≡ next) × (rest ≡ after)

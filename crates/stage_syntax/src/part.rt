@@ -45,7 +45,7 @@ pub enum Part {
     /// A string of length 1.
     Byte,
     /// A number that isn't less than `least` nor greater than `most`.
-    Number { least: u64, most: u64 },
+    Number { least: u32, most: u32 },
     /// A number that isn't greater than 2,147,483,647, or `*`.
     Times,
     Word(Word),
@@ -60,7 +60,7 @@ pub enum Value {
     String(Rec),
     Strings(Rec, Rec),
     Byte(u8),
-    Number(u64),
+    Number(u32),
     Times(Times),
     Word(Word),
 }
