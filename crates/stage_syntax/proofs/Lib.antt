@@ -1,5 +1,6 @@
 pub mod Blanks
 pub mod ByteParts
+pub mod Choices
 pub mod Delimiters
 pub mod Examples
 pub mod FirstWords
@@ -21,3 +22,4 @@ pub mod RangeFronts
 pub mod Spellings
 pub mod StringPairs
 pub mod StringParts
+pub mod TakenParts

@@ -67,9 +67,13 @@ IsPartMisfit Asked.Name text fault = IsNameMisfit text fault
 abbrev pub IsNot : Part → List ℕ → Type 0
 IsNot part text = (value : Value) (rest : List ℕ) → ¬ IsPart part text value rest
 
--- and doesn't begin as it does
+-- the text doesn't begin as the part does
 abbrev pub BeginsNot : Part → List ℕ → Type 0
 BeginsNot part text = (fault : TextFault) → ¬ IsPartMisfit part text fault
+
+-- neither
+abbrev pub IsNoPart : Part → List ℕ → Type 0
+IsNoPart part text = IsNot part text × BeginsNot part text
 
 -- Several parts, of which one may come
 
