@@ -79,12 +79,15 @@ module _ (text : List ℕ) where
 -- after blanks a part was read
 pub next_read : (parts : List Part) (text front : List ℕ) (value : Value) (len : ℕ) → IsUnblanked text front → 0 < length front → IsFirstPart parts front value (drop len front)
     → (next : IsNext parts text value (drop (length text - length front + len) text)) × (length front ≡ length next.front)
-next_read parts text front value len unblanked some read = (record {
-  front = front;
-  unblanked = unblanked;
-  some = some;
-  part = rw (blanks_passed text front len unblanked) read;
-}, refl)
+next_read parts text front value len unblanked some read = (
+  record {
+    front = front;
+    unblanked = unblanked;
+    some = some;
+    part = rw (blanks_passed text front len unblanked) read;
+  },
+  refl,
+)
 
 -- the last part gives the fault
 pub last_gives : (parts : List Part) (part : Part) → 0 < length parts → ((other : Part) → part ≡ get_or parts (length parts - 1) other) → fault_of part ≡ fault_of_last parts

@@ -1,5 +1,9 @@
+ghost use Rattle.std.specs.Prelude.{◌≡◌, IfOk};
+ghost use Rattle.pipe_model.specs.Straight as Ranges;
+
 use crate::fault::FaultKind;
-use pipe_model::{Range, Rec, Times};
+use pipe_model::{NoMemory, Range, Rec, Span, Times};
+use std::alloc::Global;
 
 /// A keyword, read in any case.
 #[derive(Clone, Copy, Debug, PartialEq, Eq)]
@@ -70,4 +74,22 @@ pub enum Value {
 pub struct TextFault {
     pub left: usize,
     pub kind: FaultKind,
+}
+
+/// The string once more.
+pub fn copy(alloc: Global, string: &Rec) -> Result<Rec, NoMemory>
+    ensures { IfOk result (λ copy. copy ≡ string.now) }
+{
+    Rec::from_slice(alloc, string.bytes())
+}
+
+/// All columns, where no range is given.
+pub fn all_columns() -> Range
+    ensures { result ≡ Ranges.all_columns }
+{
+    Range {
+        span: Span::Columns,
+        first: 1,
+        last: None,
+    }
 }
