@@ -15,6 +15,7 @@ pub mod OneParts
 pub mod OneRanges
 pub mod OneSpellings
 pub mod OneStrings
+pub mod OrderLists
 pub mod Outcomes
 pub mod PairFronts
 pub mod Passed

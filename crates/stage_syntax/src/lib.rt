@@ -14,6 +14,7 @@ mod laws;
 mod names;
 mod next;
 mod number_words;
+mod order_forms;
 mod part;
 mod range_words;
 mod ranges;
