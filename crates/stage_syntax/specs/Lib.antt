@@ -21,5 +21,6 @@ pub mod Refusals
 pub mod Rows
 pub mod SelectionForms
 pub mod SpanNames
+pub mod StageForms
 pub mod Strings
 pub mod Words

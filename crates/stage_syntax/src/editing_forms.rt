@@ -1,4 +1,5 @@
 ghost use Rattle.std.specs.Prelude.{◌≡◌, List, ℕ, IfOk};
+ghost use Rattle.pipe_model.specs.declared.kind.Kind.TheVariants as Kinds;
 ghost use Rattle.stage_syntax.specs.EditingForms as Editing;
 ghost use Rattle.stage_syntax.specs.Forms as Shared;
 
@@ -257,5 +258,16 @@ pub fn before_times(values: &[Value]) -> &'static [Part]
     match values {
         [] => &[Part::Times],
         _ => &[],
+    }
+}
+
+/// DUPLICATE with these arguments.
+pub fn of_duplicate(values: &[Value]) -> Option<Kind>
+    ensures { result ≡ Shared.of_times Kinds.Duplicate values.now }
+{
+    match values {
+        [] => Some(Kind::Duplicate(Times::Only(1))),
+        [Value::Times(times)] => Some(Kind::Duplicate(*times)),
+        _ => None,
     }
 }

@@ -2,6 +2,7 @@ ghost use Rattle.std.specs.Prelude.{◌≡◌, List, ℕ, IfOk, if◌then◌else
 ghost use Rattle.std.specs.Option.{option_map};
 ghost use Rattle.std.specs.declared.option.Option.{Option};
 ghost use Rattle.pipe_model.specs.declared.kind.Kind.{Kind};
+ghost use Rattle.pipe_model.specs.declared.kind.Kind.TheVariants as Kinds;
 ghost use Rattle.pipe_model.specs.declared.kind.Times.{Times};
 ghost use Rattle.pipe_model.specs.declared.range.Range.{Range};
 ghost use Rattle.stage_syntax.specs.SelectionForms as Selection;
@@ -9,7 +10,7 @@ ghost use Rattle.stage_syntax.specs.Forms.{of_text};
 ghost use Rattle.stage_syntax.specs.Rows.{text_in};
 
 use crate::part::{Part, Value, Word, all_columns, copy};
-use pipe_model::{NoMemory, Range, Rec, Times};
+use pipe_model::{Kind, NoMemory, Range, Rec, Times};
 use std::alloc::Global;
 
 /// What may come after these arguments of LOCATE or NLOCATE.
@@ -23,15 +24,15 @@ pub fn before_locate(values: &[Value]) -> &'static [Part]
     }
 }
 
-/// Where LOCATE or NLOCATE looks, and the string that it looks for, if any.
+// Where LOCATE or NLOCATE looks, and the string that it looks for, if any.
 #[derive(Drop)]
-pub struct Sought {
-    pub range: Range,
-    pub text: Option<Rec>,
+struct Sought {
+    range: Range,
+    text: Option<Rec>,
 }
 
-/// What these arguments of LOCATE or NLOCATE give.
-pub fn of_locate(alloc: Global, values: &[Value]) -> Result<Option<Sought>, NoMemory>
+// What these arguments of LOCATE or NLOCATE give.
+fn of_locate(alloc: Global, values: &[Value]) -> Result<Option<Sought>, NoMemory>
     ensures { IfOk result (λ found. (kind : Range → Option (List ℕ) → Kind) → Selection.of_locate kind values.now ≡ option_map (λ sought. kind sought.range sought.text) found) }
 {
     match values {
@@ -51,6 +52,32 @@ pub fn of_locate(alloc: Global, values: &[Value]) -> Result<Option<Sought>, NoMe
     }
 }
 
+/// LOCATE with these arguments.
+pub fn locate(alloc: Global, values: &[Value]) -> Result<Option<Kind>, NoMemory>
+    ensures { IfOk result (λ kind. kind ≡ Selection.of_locate Kinds.Locate values.now) }
+{
+    let Some(sought) = of_locate(alloc, values)? else {
+        return Ok(None);
+    };
+    Ok(Some(Kind::Locate {
+        range: sought.range,
+        text: sought.text,
+    }))
+}
+
+/// NLOCATE with these arguments.
+pub fn nlocate(alloc: Global, values: &[Value]) -> Result<Option<Kind>, NoMemory>
+    ensures { IfOk result (λ kind. kind ≡ Selection.of_locate Kinds.Nlocate values.now) }
+{
+    let Some(sought) = of_locate(alloc, values)? else {
+        return Ok(None);
+    };
+    Ok(Some(Kind::Nlocate {
+        range: sought.range,
+        text: sought.text,
+    }))
+}
+
 /// What may come after these arguments of TAKE or DROP.
 pub fn before_end(values: &[Value]) -> &'static [Part]
     ensures { result.now ≡ Selection.before_end values.now }
@@ -62,15 +89,15 @@ pub fn before_end(values: &[Value]) -> &'static [Part]
     }
 }
 
-/// At which end TAKE or DROP counts, and how far.
+// At which end TAKE or DROP counts, and how far.
 #[derive(Clone, Copy)]
-pub struct End {
-    pub last: bool,
-    pub times: Times,
+struct End {
+    last: bool,
+    times: Times,
 }
 
-/// What these arguments of TAKE or DROP give.
-pub fn of_end(values: &[Value]) -> Option<End>
+// What these arguments of TAKE or DROP give.
+fn of_end(values: &[Value]) -> Option<End>
     ensures { (first : Times → Kind) (last : Times → Kind) → Selection.of_end first last values.now ≡ option_map (λ end. if end.last then last end.times else first end.times) result }
 {
     match values {
@@ -94,6 +121,28 @@ pub fn of_end(values: &[Value]) -> Option<End>
     }
 }
 
+/// TAKE with these arguments.
+pub fn take(values: &[Value]) -> Option<Kind>
+    ensures { result ≡ Selection.of_end Kinds.TakeFirst Kinds.TakeLast values.now }
+{
+    match of_end(values) {
+        Some(End { last: false, times }) => Some(Kind::TakeFirst(times)),
+        Some(End { last: true, times }) => Some(Kind::TakeLast(times)),
+        None => None,
+    }
+}
+
+/// DROP with these arguments.
+pub fn drop_some(values: &[Value]) -> Option<Kind>
+    ensures { result ≡ Selection.of_end Kinds.DropFirst Kinds.DropLast values.now }
+{
+    match of_end(values) {
+        Some(End { last: false, times }) => Some(Kind::DropFirst(times)),
+        Some(End { last: true, times }) => Some(Kind::DropLast(times)),
+        None => None,
+    }
+}
+
 /// What may come after these arguments of BETWEEN or INSIDE.
 pub fn before_two(values: &[Value]) -> &'static [Part]
     ensures { result.now ≡ Selection.before_two values.now }
@@ -105,8 +154,8 @@ pub fn before_two(values: &[Value]) -> &'static [Part]
     }
 }
 
-/// The two strings that these arguments give.
-pub fn of_two(alloc: Global, values: &[Value]) -> Result<Option<(Rec, Rec)>, NoMemory>
+// The two strings that these arguments give.
+fn of_two(alloc: Global, values: &[Value]) -> Result<Option<(Rec, Rec)>, NoMemory>
     ensures { IfOk result (λ found. (kind : List ℕ → List ℕ → Kind) → Selection.of_two kind values.now ≡ option_map (λ two. kind two.0 two.1) found) }
 {
     match values {
@@ -118,8 +167,28 @@ pub fn of_two(alloc: Global, values: &[Value]) -> Result<Option<(Rec, Rec)>, NoM
     }
 }
 
-/// The TEXT that FIND or NFIND has, which isn't empty.
-pub fn of_some_text(alloc: Global, text: &[u8]) -> Result<Option<Rec>, NoMemory>
+/// BETWEEN with these arguments.
+pub fn between(alloc: Global, values: &[Value]) -> Result<Option<Kind>, NoMemory>
+    ensures { IfOk result (λ kind. kind ≡ Selection.of_two Kinds.Between values.now) }
+{
+    let Some((first, second)) = of_two(alloc, values)? else {
+        return Ok(None);
+    };
+    Ok(Some(Kind::Between { first, second }))
+}
+
+/// INSIDE with these arguments.
+pub fn inside(alloc: Global, values: &[Value]) -> Result<Option<Kind>, NoMemory>
+    ensures { IfOk result (λ kind. kind ≡ Selection.of_two Kinds.Inside values.now) }
+{
+    let Some((first, second)) = of_two(alloc, values)? else {
+        return Ok(None);
+    };
+    Ok(Some(Kind::Inside { first, second }))
+}
+
+// The TEXT that FIND or NFIND has, which isn't empty.
+fn of_some_text(alloc: Global, text: &[u8]) -> Result<Option<Rec>, NoMemory>
     ensures { IfOk result (λ found. (kind : List ℕ → Kind) → Selection.of_some_text kind (text_in text.now) ≡ option_map kind found) }
 {
     match text {
@@ -128,12 +197,52 @@ pub fn of_some_text(alloc: Global, text: &[u8]) -> Result<Option<Rec>, NoMemory>
     }
 }
 
-/// The TEXT that TOLABEL or FRLABEL has, which may be empty.
-pub fn of_any_text(alloc: Global, text: &[u8]) -> Result<Option<Rec>, NoMemory>
+/// FIND with this text.
+pub fn find(alloc: Global, text: &[u8]) -> Result<Option<Kind>, NoMemory>
+    ensures { IfOk result (λ kind. kind ≡ Selection.of_some_text Kinds.Find (text_in text.now)) }
+{
+    let Some(text) = of_some_text(alloc, text)? else {
+        return Ok(None);
+    };
+    Ok(Some(Kind::Find { text }))
+}
+
+/// NFIND with this text.
+pub fn nfind(alloc: Global, text: &[u8]) -> Result<Option<Kind>, NoMemory>
+    ensures { IfOk result (λ kind. kind ≡ Selection.of_some_text Kinds.Nfind (text_in text.now)) }
+{
+    let Some(text) = of_some_text(alloc, text)? else {
+        return Ok(None);
+    };
+    Ok(Some(Kind::Nfind { text }))
+}
+
+// The TEXT that TOLABEL or FRLABEL has, which may be empty.
+fn of_any_text(alloc: Global, text: &[u8]) -> Result<Option<Rec>, NoMemory>
     ensures { IfOk result (λ found. (kind : List ℕ → Kind) → of_text kind (text_in text.now) ≡ option_map kind found) }
 {
     match text {
         [] => Ok(None),
         [_, text @ ..] => Ok(Some(Rec::from_slice(alloc, text)?)),
     }
+}
+
+/// TOLABEL with this text.
+pub fn to_label(alloc: Global, text: &[u8]) -> Result<Option<Kind>, NoMemory>
+    ensures { IfOk result (λ kind. kind ≡ of_text Kinds.ToLabel (text_in text.now)) }
+{
+    let Some(text) = of_any_text(alloc, text)? else {
+        return Ok(None);
+    };
+    Ok(Some(Kind::ToLabel { text }))
+}
+
+/// FRLABEL with this text.
+pub fn fr_label(alloc: Global, text: &[u8]) -> Result<Option<Kind>, NoMemory>
+    ensures { IfOk result (λ kind. kind ≡ of_text Kinds.FrLabel (text_in text.now)) }
+{
+    let Some(text) = of_any_text(alloc, text)? else {
+        return Ok(None);
+    };
+    Ok(Some(Kind::FrLabel { text }))
 }
