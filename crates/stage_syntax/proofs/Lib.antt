@@ -1,6 +1,7 @@
 pub mod Blanks
 pub mod ByteParts
 pub mod Choices
+pub mod Consumed
 pub mod Delimiters
 pub mod Examples
 pub mod FirstWords
@@ -20,6 +21,7 @@ pub mod Outcomes
 pub mod PairFronts
 pub mod Passed
 pub mod RangeFronts
+pub mod RowSteps
 pub mod Spellings
 pub mod StringPairs
 pub mod StringParts
