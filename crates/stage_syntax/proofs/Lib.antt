@@ -23,6 +23,7 @@ pub mod Passed
 pub mod RangeFronts
 pub mod RowSteps
 pub mod Spellings
+pub mod StageNames
 pub mod StringPairs
 pub mod StringParts
 pub mod TakenParts

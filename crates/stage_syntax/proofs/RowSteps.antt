@@ -50,7 +50,7 @@ module _ (row : Row) (whole : List ℕ) (values : List Value) (lefts text : List
         let lefts_are : lefts ++ left ∷ [] ≡ lefts ++ length next.0.front ∷ [] = ap (λ left. lefts ++ left ∷ []) next.1 in
         record {
           makes = λ kind makes. to.makes kind (GoesOn values lefts text value (drop len text) kind next.0 right
-            (subst (λ lefts. Makes row (values ++ value ∷ []) lefts (drop len text) kind) lefts_are (subst (λ rest. Makes row (values ++ value ∷ []) (lefts ++ left ∷ []) rest kind) (tail_of text len) makes)));
+              (subst (λ lefts. Makes row (values ++ value ∷ []) lefts (drop len text) kind) lefts_are (subst (λ rest. Makes row (values ++ value ∷ []) (lefts ++ left ∷ []) rest kind) (tail_of text len) makes)));
           fails = λ fault fails. to.fails fault (FailsOn values lefts text value (drop len text) fault next.0 right
-            (subst (λ lefts. Fails row (values ++ value ∷ []) lefts (drop len text) fault) lefts_are (subst (λ rest. Fails row (values ++ value ∷ []) (lefts ++ left ∷ []) rest fault) (tail_of text len) fails)));
+              (subst (λ lefts. Fails row (values ++ value ∷ []) lefts (drop len text) fault) lefts_are (subst (λ rest. Fails row (values ++ value ∷ []) (lefts ++ left ∷ []) rest fault) (tail_of text len) fails)));
         }

@@ -1,5 +1,7 @@
 -- The arguments of stages by their forms in code.
 use Rattle.std.specs.Prelude.{ℕ, Bool, true, false, List}
+use Rattle.std.specs.Borrow.{Bor}
+use Rattle.std.specs.Str.{str_to_ascii_lowercase}
 use Rattle.std.specs.declared.option.Option.{Option}
 use Rattle.std.specs.declared.option.Option.TheVariants.{None}
 use Rattle.pipe_model.specs.declared.kind.Kind.{Kind}
@@ -13,7 +15,7 @@ use Rattle.stage_syntax.specs.DeviceForms.{console, file_in, file_out, literal}
 use Rattle.stage_syntax.specs.SelectionForms.{locate, nlocate, find, nfind, takes, drops, between, inside, to_label, fr_label}
 use Rattle.stage_syntax.specs.EditingForms.{change, strip, chop, pad, split, join, xlate, reversed, duplicate}
 use Rattle.stage_syntax.specs.OrderForms.{unique, sort, count, fblock, block, deblock}
-use Rattle.stage_syntax.specs.Names.{before_overlay, of_overlay}
+use Rattle.stage_syntax.specs.Names.{Named, before_overlay, of_overlay}
 
 -- the arguments of this form; `first` says that the stage stands first in its pipeline
 abbrev pub arguments_by : Form → Bool → Arguments
@@ -78,3 +80,7 @@ make_in (OfParts row) text = None
 abbrev pub row_in : Arguments → Row
 row_in (OfText make) = row none_next (λ values. None)
 row_in (OfParts row) = row
+
+-- a stage as the list in code has it, by its name in any case
+abbrev pub named_as : Bool → Bor (List ℕ) × Bool × Form → Named
+named_as first stage = record { name = str_to_ascii_lowercase stage.0.now; runs = stage.1; arguments = arguments_by stage.2 first }

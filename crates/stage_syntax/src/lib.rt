@@ -24,6 +24,7 @@ mod rows;
 mod selection_forms;
 mod span_words;
 mod spelled;
+mod stages;
 mod stream_forms;
 mod string_pairs;
 mod strings;

@@ -1,8 +1,7 @@
-ghost use Rattle.std.specs.Prelude.{◌≡◌, Bool, [], ◌∷◌, ◌++◌, OnOk, IfOk, IfErr, None, Some, option_map};
+ghost use Rattle.std.specs.Prelude.{◌≡◌, Bool, [], ◌∷◌, ◌++◌, OnOk, IfOk, IfErr, None, Some};
 ghost use Rattle.stage_syntax.specs.declared.fault.FaultKind.TheVariants.{Missing};
 ghost use Rattle.stage_syntax.specs.declared.refusal.Refusal.TheVariants as Refused;
 ghost use Rattle.stage_syntax.specs.Kinds.{IsKind, IsNoKind, refusal_placed};
-ghost use Rattle.stage_syntax.specs.Names.{arguments_of};
 ghost use Rattle.stage_syntax.specs.Refusals.{Refuses};
 ghost use Rattle.stage_syntax.specs.Rows.{Fails, HasFault, Makes, Reads, text_in};
 ghost use Rattle.stage_syntax.specs.StageForms.{arguments_by, make_in, row_in};
@@ -13,6 +12,7 @@ use crate::form::{Form, has_text, kind_by, parts_after, text_kind, wrong_of};
 use crate::next::{Argument, next_part};
 use crate::part::{TextFault, Value};
 use crate::refusal::Refusal;
+use crate::stages::form_named;
 use pipe_model::{Kind, NoMemory};
 use std::alloc::Global;
 
@@ -25,19 +25,6 @@ pub fn kind_of(alloc: Global, name: &[u8], arg: &Arg, first: bool) -> Result<Kin
         return Err(KindFault::Unknown);
     };
     arguments_as(alloc, form, first, arg.bytes()).map_err(|refusal| placed(arg, refusal))
-}
-
-// The form of the arguments of the stage of this name, if it can be typed.
-fn form_named(name: &[u8]) -> Option<Form>
-    ensures { (first : Bool) → arguments_of name.now first ≡ option_map (λ form. arguments_by form first) result }
-{
-    if name.eq_ignore_ascii_case(b"console") {
-        Some(Form::Console)
-    } else if name.eq_ignore_ascii_case(b"locate") {
-        Some(Form::Locate)
-    } else {
-        None
-    }
 }
 
 // Why nothing was read of an argument's text, with the fault at its place in the specification.
