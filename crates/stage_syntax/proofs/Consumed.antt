@@ -78,7 +78,7 @@ module _ (text : List ℕ) (some : 0 < length text) (other : get_or text 0 0 ≢
   part_takes (Asked.Word key) value rest is = word_takes text some other is.1.word rest is.1.first
   part_takes Asked.Name value rest is = word_takes text some other is.0 rest is.2.first
 
-  first_takes : (parts : List Part) (value : Value) (rest : List ℕ) → IsFirstPart parts text value rest → length rest < length text
+  pub first_takes : (parts : List Part) (value : Value) (rest : List ℕ) → IsFirstPart parts text value rest → length rest < length text
   first_takes [] value rest is = absurd is
   first_takes (part ∷ parts) value rest (inl is) = part_takes part value rest is
   first_takes (part ∷ parts) value rest (inr is) = first_takes parts value rest is.1

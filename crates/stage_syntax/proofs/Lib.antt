@@ -21,6 +21,7 @@ pub mod Outcomes
 pub mod PairFronts
 pub mod Passed
 pub mod RangeFronts
+pub mod ReadValues
 pub mod RowSteps
 pub mod Spellings
 pub mod StageNames

@@ -1,5 +1,5 @@
 ghost use Rattle.std.specs.Prelude.{◌≡◌, Bool, map, option_map};
-ghost use Rattle.stage_syntax.specs.Names.{arguments_of, named_in};
+ghost use Rattle.stage_syntax.specs.Names.{arguments_of, named_in, stages};
 ghost use Rattle.stage_syntax.specs.StageForms.{arguments_by, named_as};
 
 use crate::form::Form;
@@ -59,7 +59,14 @@ pub const STAGES: [(&[u8], bool, Form); 47] = [
 pub fn form_named(name: &[u8]) -> Option<Form>
     ensures { (first : Bool) → arguments_of name.now first ≡ option_map (λ form. arguments_by form first) result }
 {
-    named_among(&STAGES, name)
+    named_among(listed(), name)
+}
+
+// All stages of the list.
+fn listed() -> &'static [(&'static [u8], bool, Form)]
+    ensures { (first : Bool) → map (named_as first) result.now ≡ stages first }
+{
+    &STAGES
 }
 
 // The form of the first stage of a list that has the name, in any case, and can be typed.

@@ -1,0 +1,181 @@
+-- What is read of an argument is as the table wants it: a range is proper, a string isn't empty, a number is within its limits.
+use Rattle.std.proofs.Common.{◌≡◌, ◌⊎◌, inl, inr, ℕ, ◌+◌, ◌≤◌, ◌<◌, true, List, [], ◌∷◌, ◌++◌, length, refl, sym, ◌∙◌, ap, subst, arith, append-nil, append_assoc, Option, Some, le-leb, false, ne_eqb, length-append}
+use Rattle.std.specs.Prelude.{⊤}
+use Rattle.std.specs.List.{Contains}
+use Rattle.std.proofs.lemmas.List.Elements.{Contains-append_right}
+use Rattle.hex.proofs.HexLemmas.{decode_of-ok}
+use Rattle.std.specs.Int.{is_in_range}
+use Rattle.pipe_model.specs.declared.kind.Kind.{Kind}
+use Rattle.pipe_model.specs.declared.range.Range.{Range}
+use Rattle.pipe_model.specs.declared.range.Span.{Span}
+use Rattle.pipe_model.specs.Proper.{greatest, is_count, is_filled, is_last, is_name, is_range, is_size}
+use Rattle.pipe_model.specs.Members.{has}
+use Rattle.pipe_model.specs.declared.kind.Times.{Times}
+use Rattle.pipe_model.specs.declared.kind.Times.TheVariants.{Only, All}
+use Rattle.pipe_model.specs.declared.range.Span.TheVariants.{Columns}
+use Rattle.stage_syntax.specs.declared.part.Part.{Part}
+use Rattle.stage_syntax.specs.declared.part.Part.TheVariants as Asked
+use Rattle.stage_syntax.specs.declared.part.Value.{Value}
+use Rattle.stage_syntax.specs.declared.part.Value.TheVariants as Read
+use Rattle.stage_syntax.specs.declared.ranges.Ending.{Ending}
+use Rattle.stage_syntax.specs.declared.ranges.Ending.TheVariants.{Alone, To, Open, Long}
+use Rattle.stage_syntax.specs.declared.ranges.Spelling.{Spelling}
+use Rattle.stage_syntax.specs.Bounds.{Fits, IsLast, IsRangeOf}
+use Rattle.stage_syntax.specs.PlainRanges.{IsPlainRange}
+use Rattle.stage_syntax.proofs.Consumed.{first_takes}
+use Rattle.stage_syntax.specs.NamesOfFiles.{IsName}
+use Rattle.stage_syntax.specs.Parts.{AreTimes, IsFirstPart, IsNext, IsPart}
+use Rattle.stage_syntax.specs.RangeWords.{IsRange}
+use Rattle.stage_syntax.specs.Rows.{Makes, Row}
+use Rattle.stage_syntax.specs.Rows.Makes.{Ended, GoesOn}
+use Rattle.stage_syntax.specs.Strings.{IsString}
+
+-- Ranges
+
+in_range : (low high number : ℕ) → low ≤ number → number ≤ high → is_in_range low high number ≡ true
+in_range low high number above below = rw (le-leb low number above, le-leb number high below) refl
+
+size_of : (number : ℕ) → Fits number → is_size number ≡ true
+size_of number fits = in_range 1 greatest number fits.0 fits.1
+
+last_of : (first : ℕ) (ending : Ending) (last : Option ℕ) → Fits first → IsLast first ending last → is_last first last ≡ true
+last_of first Alone last fits is = ap (is_last first) is ∙ in_range first (first + 1048575) first (omega arith) (omega arith)
+last_of first (To number) last fits is = ap (is_last first) is.2 ∙ in_range first (first + 1048575) number is.1 (omega (arith, fits.0, is.0.1))
+last_of first Open last fits is = ap (is_last first) is
+last_of first (Long len) last fits is = ap (is_last first) is.1 ∙ in_range first (first + 1048575) _ (omega (arith, is.0.0)) (omega (arith, is.0.0, is.0.1))
+
+range_of_spelling : (span : Span) (spelling : Spelling) (range : Range) → IsRangeOf span spelling range → is_range range ≡ true
+range_of_spelling span spelling range is =
+    let size = ap is_size is.begins ∙ size_of spelling.first is.fits in
+    let last = ap (λ (first : ℕ). is_last first range.last) is.begins ∙ last_of spelling.first spelling.ending range.last is.fits is.ends in
+    rw (size, last) refl
+
+plain_is_proper : (span : Span) (word : List ℕ) (range : Range) → IsPlainRange span word range → is_range range ≡ true
+plain_is_proper span word range is = range_of_spelling span is.spelling range is.range_is
+
+pub range_is_proper : (text : List ℕ) (range : Range) (rest : List ℕ) → IsRange text range rest → is_range range ≡ true
+range_is_proper text range rest (inl bare) = plain_is_proper _ bare.word range bare.range_is
+range_is_proper text range rest (inr (inl joined)) = plain_is_proper joined.span joined.numbers range joined.range_is
+range_is_proper text range rest (inr (inr apart)) = plain_is_proper apart.span apart.word range apart.range_is
+
+-- Names
+
+no_blank : (name : List ℕ) → ¬ Contains name 32 → has name 32 ≡ false
+no_blank [] none = refl
+no_blank (byte ∷ name) none =
+    let other : ¬ (byte ≡ 32) = λ same. none (0, omega arith, same) in
+    rw (ne_eqb byte 32 other) (no_blank name (λ found. none (Contains-append_right (byte ∷ []) name 32 found)))
+
+name_is_proper : (text name rest : List ℕ) → length rest < length text → IsName text name rest → is_name name ≡ true
+name_is_proper text name rest less is =
+    let some : 1 ≤ length name = omega (arith, less, ap length is.first.spells, length-append name rest) in
+    rw (in_range 1 255 (length name) some is.few, no_blank name is.first.whole) refl
+
+-- Strings
+
+filled : (string : List ℕ) → 0 < length string → is_filled string ≡ true
+filled [] some = absurd (omega (arith, some))
+filled (byte ∷ string) some = refl
+
+pub string_is_filled : (text string rest : List ℕ) → IsString text string rest → is_filled string ≡ true
+string_is_filled text string rest (inl delimited) = filled string delimited.1
+string_is_filled text string rest (inr word) =
+    let digits = word.worth.digits in
+    filled string (omega (arith, word.worth.filled, (decode_of-ok digits string word.worth.worth).2))
+
+-- Arguments
+
+-- a value that the part may have
+abbrev pub IsValueOf : Part → Value → Type 0
+IsValueOf Asked.Range value = (range : Range) × (value ≡ Read.Range range) × (is_range range ≡ true)
+IsValueOf Asked.Columns value = (range : Range) × (value ≡ Read.Range range) × (is_range range ≡ true) × (range.span ≡ Columns)
+IsValueOf Asked.String value = (string : List ℕ) × (value ≡ Read.String string) × (is_filled string ≡ true)
+IsValueOf Asked.AnyString value = (string : List ℕ) × (value ≡ Read.String string)
+IsValueOf Asked.Strings value = (first : List ℕ) × (second : List ℕ) × (value ≡ Read.Strings first second)
+IsValueOf Asked.Byte value = (byte : ℕ) × (value ≡ Read.Byte byte)
+IsValueOf (Asked.Number least most) value = (number : ℕ) × (value ≡ Read.Number number) × (least ≤ number) × (number ≤ most)
+IsValueOf Asked.Times value = (times : Times) × (value ≡ Read.Times times) × (is_count times ≡ true)
+IsValueOf (Asked.Word key) value = value ≡ Read.Word key
+IsValueOf Asked.Name value = (name : List ℕ) × (value ≡ Read.String name) × (is_name name ≡ true)
+
+count_is_proper : (text : List ℕ) (times : Times) (rest : List ℕ) → AreTimes text times rest → is_count times ≡ true
+count_is_proper text (Only n) rest is = le-leb n 2147483647 is.few
+count_is_proper text All rest is = refl
+
+value_of : (part : Part) (text : List ℕ) (value : Value) (rest : List ℕ) → length rest < length text → IsPart part text value rest → IsValueOf part value
+value_of Asked.Range text value rest less is = (is.0, is.1, range_is_proper text is.0 rest is.2)
+value_of Asked.Columns text value rest less is = (is.0, is.1, plain_is_proper Columns is.2.word is.0 is.2.range_is, is.2.range_is.range_is.of_span)
+value_of Asked.String text value rest less is = (is.0, is.1, string_is_filled text is.0 rest is.2)
+value_of Asked.AnyString text value rest less is = (is.0, is.1)
+value_of Asked.Strings text value rest less is = (is.0, is.1, is.2)
+value_of Asked.Byte text value rest less is = (is.0, is.1)
+value_of (Asked.Number least most) text value rest less is = (is.0, is.1, is.2.enough, is.2.few)
+value_of Asked.Times text value rest less is = (is.0, is.1, count_is_proper text is.0 rest is.2)
+value_of (Asked.Word key) text value rest less is = is.0
+value_of Asked.Name text value rest less is = (is.0, is.1, name_is_proper text is.0 rest less is.2)
+
+-- a value that one of the parts may have
+abbrev pub IsOfOne : List Part → Value → Type 0
+IsOfOne [] value = ⊥
+IsOfOne (part ∷ parts) value = IsValueOf part value ⊎ IsOfOne parts value
+
+range_of_part : (part : Part) (range : Range) → IsValueOf part (Read.Range range) → is_range range ≡ true
+range_of_part Asked.Range range is = let value = is.1 in let same : is.0 ≡ range = cc in subst (λ (range : Range). is_range range ≡ true) same is.2
+range_of_part Asked.Columns range is = let value = is.1 in let same : is.0 ≡ range = cc in subst (λ (range : Range). is_range range ≡ true) same is.2
+range_of_part Asked.String range is = let value = is.1 in cc
+range_of_part Asked.AnyString range is = let value = is.1 in cc
+range_of_part Asked.Strings range is = let value = is.2 in cc
+range_of_part Asked.Byte range is = let value = is.1 in cc
+range_of_part (Asked.Number least most) range is = let value = is.1 in cc
+range_of_part Asked.Times range is = let value = is.1 in cc
+range_of_part (Asked.Word key) range is = cc
+range_of_part Asked.Name range is = let value = is.1 in cc
+
+-- a range is proper whatever else may stand there
+pub range_of_one : (parts : List Part) (range : Range) → IsOfOne parts (Read.Range range) → is_range range ≡ true
+range_of_one [] range is = absurd is
+range_of_one (part ∷ parts) range (inl is) = range_of_part part range is
+range_of_one (part ∷ parts) range (inr is) = range_of_one parts range is
+
+-- a string isn't empty where no other may stand
+pub string_of_string : (string : List ℕ) → IsOfOne (Asked.String ∷ []) (Read.String string) → is_filled string ≡ true
+string_of_string string (inl is) = let value = is.1 in let same : is.0 ≡ string = cc in subst (λ (string : List ℕ). is_filled string ≡ true) same is.2
+string_of_string string (inr is) = absurd is
+
+-- nor where a range may stand
+pub string_or_range : (string : List ℕ) → IsOfOne (Asked.Range ∷ (Asked.String ∷ [])) (Read.String string) → is_filled string ≡ true
+string_or_range string (inl is) = let value = is.1 in cc
+string_or_range string (inr is) = string_of_string string is
+
+-- values that a row's arguments after some others may have
+abbrev pub AreOfRow : Row → List Value → List Value → Type 0
+AreOfRow row before [] = ⊤
+AreOfRow row before (value ∷ values) = IsOfOne (row.next before) value × AreOfRow row (before ++ value ∷ []) values
+
+first_of_one : (parts : List Part) (text : List ℕ) (value : Value) (rest : List ℕ) → length rest < length text → IsFirstPart parts text value rest → IsOfOne parts value
+first_of_one [] text value rest less is = is
+first_of_one (part ∷ parts) text value rest less (inl is) = inl (value_of part text value rest less is)
+first_of_one (part ∷ parts) text value rest less (inr is) = inr (first_of_one parts text value rest less is.1)
+
+next_of_one : (parts : List Part) (text : List ℕ) (value : Value) (rest : List ℕ) → IsNext parts text value rest → IsOfOne parts value
+next_of_one parts text value rest next = first_of_one parts next.front value rest (first_takes next.front next.some next.unblanked.other parts value rest next.part) next.part
+
+-- the arguments that a kind is made of, after those before
+record AreMadeOf (row : Row) (before : List Value) (kind : Kind) : Type 0 where
+  values : List Value
+  made : row.kind (before ++ values) ≡ Some kind
+  are : AreOfRow row before values
+
+made_of : {row : Row} {before : List Value} {lefts text : List ℕ} {kind : Kind} → Makes row before lefts text kind → AreMadeOf row before kind
+made_of {row} (Ended values lefts text kind ended is) = record { values = []; made = ap row.kind (append-nil values) ∙ is; are = tt }
+made_of {row} (GoesOn values lefts text value rest kind next right makes) =
+    let more = made_of makes in
+    record {
+      values = value ∷ more.values;
+      made = ap row.kind (sym (append_assoc values (value ∷ []) more.values)) ∙ more.made;
+      are = (next_of_one (row.next values) text value rest next, more.are);
+    }
+
+-- a row makes its kinds of values that its arguments may have
+pub made_of_row : (row : Row) (text : List ℕ) (kind : Kind) → Makes row [] [] text kind → (values : List Value) × (row.kind values ≡ Some kind) × AreOfRow row [] values
+made_of_row row text kind makes = let made = made_of makes in (made.values, made.made, made.are)
