@@ -2,6 +2,7 @@ pub mod Blanks
 pub mod ByteParts
 pub mod Choices
 pub mod Consumed
+pub mod DelimitedParts
 pub mod Delimiters
 pub mod Examples
 pub mod FirstWords
@@ -28,3 +29,5 @@ pub mod StageNames
 pub mod StringPairs
 pub mod StringParts
 pub mod TakenParts
+pub mod TypedKinds
+pub mod WordFronts
