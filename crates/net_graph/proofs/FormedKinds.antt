@@ -1,8 +1,7 @@
 -- What a kind of stage that has been read may have: one strand, an output, and an input where it isn't first.
 use Rattle.std.proofs.Common.{◌≡◌, ◌⊎◌, inl, inr, ℕ, zero, suc, ◌<◌, Bool, true, false, List, [], ◌∷◌, refl, subst, arith, Option, Some, None, slice_get, map}
-use Rattle.std.specs.Prelude.{codes, if◌then◌else◌, Ok}
+use Rattle.std.specs.Prelude.{Ok}
 use Rattle.std.specs.Option.{IfSome}
-use Rattle.std.specs.Str.{bytes_eq, str_to_ascii_lowercase}
 use Rattle.pipe_model.specs.declared.kind.Kind.{Kind}
 use Rattle.pipe_model.specs.declared.kind.Kind.TheVariants.{Locate}
 use Rattle.pipe_model.specs.declared.range.Range.{Range}
@@ -15,8 +14,9 @@ use Rattle.stage_syntax.specs.Arg.{ArgText}
 use Rattle.stage_syntax.specs.declared.part.Value.{Value}
 use Rattle.stage_syntax.specs.declared.part.Value.TheVariants as Read
 use Rattle.stage_syntax.specs.Kinds.{IsKind}
-use Rattle.stage_syntax.specs.Rows.{Row, Makes, console_kind, console_row, locate_kind, locate_row}
-use Rattle.stage_syntax.proofs.ReadValues.{AreOfRow, made_of_row, range_of_one, string_of_one}
+use Rattle.stage_syntax.specs.SelectionForms.{of_locate}
+use Rattle.stage_syntax.proofs.ReadValues.{AreOfRow, range_of_one, string_of_string, string_or_range}
+use Rattle.stage_syntax.proofs.TypedKinds.{console_kind, locate_row, typed_kind}
 use Rattle.net_graph.specs.Stands.{Stand}
 use Rattle.net_graph.specs.Nets.{AreOutcomes, inputs_of, outputs_of}
 
@@ -37,31 +37,19 @@ found_is_proper range (Some string) proper filled = rw (proper, filled) refl
 plain_found : (first : Bool) (range : Range) (text : Option (List ℕ)) → is_range range ≡ true → IfSome text (λ string. is_filled string ≡ true) → IsPlain first (Locate range text)
 plain_found first range text proper filled = record { whole = refl; output = omega arith; input = λ is. omega arith; proper = found_is_proper range text proper filled }
 
-plain_locate : (first : Bool) (values : List Value) → AreOfRow locate_row [] values → IfSome (locate_kind values) (IsPlain first)
+plain_locate : (first : Bool) (values : List Value) → AreOfRow locate_row [] values → IfSome (of_locate Locate values) (IsPlain first)
 plain_locate first [] are = tt
 plain_locate first (Read.Range range ∷ []) are = plain_found first range None (range_of_one (locate_row.next []) range are.0) tt
-plain_locate first (Read.String string ∷ []) are = plain_found first all_columns (Some string) refl (string_of_one (locate_row.next []) string are.0)
+plain_locate first (Read.String string ∷ []) are = plain_found first all_columns (Some string) refl (string_or_range string are.0)
 plain_locate first (Read.Range range ∷ (Read.String string ∷ [])) are =
-    plain_found first range (Some string) (range_of_one (locate_row.next []) range are.0) (string_of_one (locate_row.next (Read.Range range ∷ [])) string are.1.0)
+    plain_found first range (Some string) (range_of_one (locate_row.next []) range are.0) (string_of_string string are.1.0)
 plain_locate first _ are = tt
 
--- a name has one of two rows
-two_rows : (a b : Bool) (console locate row : Row) → (if a then Some console else if b then Some locate else None) ≡ Some row → (row ≡ console) ⊎ (row ≡ locate)
-two_rows true b console locate row is = inl cc
-two_rows false true console locate row is = inr cc
-two_rows false false console locate row is = cc
-
 pub plain_kind : (name : List ℕ) (arg : ArgText) (first : Bool) (kind : Kind) → IsKind name arg first kind → IsPlain first kind
-plain_kind name arg first kind is = go (two_rows (bytes_eq (str_to_ascii_lowercase name) (codes "console")) (bytes_eq (str_to_ascii_lowercase name) (codes "locate")) (console_row first) locate_row is.row is.named)
-  where
-    of_row : (row : Row) → is.row ≡ row → (values : List Value) × (row.kind values ≡ Some kind) × AreOfRow row [] values
-    of_row row same = made_of_row row arg.bytes kind (subst (λ (row : Row). Makes row [] arg.bytes kind) same is.makes)
-
-    go : (is.row ≡ console_row first) ⊎ (is.row ≡ locate_row) → IsPlain first kind
-    go (inl console) = subst (λ (made : Option Kind). IfSome made (IsPlain first)) (of_row (console_row first) console).1 (plain_console first)
-    go (inr locate) =
-        let all = of_row locate_row locate in
-        subst (λ (made : Option Kind). IfSome made (IsPlain first)) all.1 (plain_locate first all.0 all.2)
+plain_kind name arg first kind is = by (typed_kind name arg first kind is) where
+  by : (console_kind first ≡ kind) ⊎ ((values : List Value) × (of_locate Locate values ≡ Some kind) × AreOfRow locate_row [] values) → IsPlain first kind
+  by (inl console) = subst (IsPlain first) console (plain_console first)
+  by (inr (values, made, are)) = subst (λ (made : Option Kind). IfSome made (IsPlain first)) made (plain_locate first values are)
 
 -- The stage at a number is of the kind at that number
 pub kind_here : (stages : List Stand) (kinds : List Kind) (k : ℕ) (stand : Stand) → AreOutcomes stages (map (λ (kind : Kind). Ok kind) kinds) → slice_get stages k ≡ Some stand

@@ -1,10 +1,13 @@
 -- The kinds of the stages of a straight line.
 use Rattle.std.proofs.Common.{ℕ, Bool, false, List, [], ◌∷◌, map, refl, Some, Ok}
+use Rattle.std.specs.Prelude.{if◌then◌else◌}
 use Rattle.pipe_model.specs.declared.kind.Kind.{Kind}
-use Rattle.pipe_model.specs.declared.kind.Kind.TheVariants.{ConsoleOut, Locate}
+use Rattle.pipe_model.specs.declared.kind.Kind.TheVariants.{ConsoleIn, ConsoleOut, Locate}
 use Rattle.pipe_model.specs.Straight.{all_columns}
 use Rattle.stage_syntax.specs.Kinds.{IsKind}
-use Rattle.stage_syntax.specs.Rows.{Ended, GoesOn, console_kind, console_row, locate_row}
+use Rattle.stage_syntax.specs.DeviceForms.{console}
+use Rattle.stage_syntax.specs.Rows.Makes.{Ended, GoesOn}
+use Rattle.stage_syntax.specs.SelectionForms.{locate}
 use Rattle.stage_syntax.specs.declared.part.Value.TheVariants as Read
 use Rattle.spec_scanner.proofs.StraightStages.{AreLater, IsConsoleStage, IsLocateStage}
 use Rattle.spec_scanner.proofs.StraightWords.{Spelled}
@@ -18,19 +21,19 @@ kinds_later [] = ConsoleOut ∷ []
 kinds_later (string ∷ strings) = Locate all_columns (Some string) ∷ kinds_later strings
 
 -- a CONSOLE's kind
-pub console_is : (stage : Spelled) (first : Bool) → IsConsoleStage stage → IsKind stage.name stage.arg first (console_kind first)
-console_is stage first console = record {
-  row = console_row first;
-  named = rw console.names refl;
-  makes = Ended [] stage.arg.bytes (console_kind first) console.ended refl;
+pub console_is : (stage : Spelled) (first : Bool) → IsConsoleStage stage → IsKind stage.name stage.arg first (if first then ConsoleIn [] else ConsoleOut)
+console_is stage first is = record {
+  arguments = console first;
+  named = rw is.names refl;
+  reads = Ended [] [] stage.arg.bytes _ is.ended refl;
 }
 
 -- a LOCATE's kind
 pub locate_is : (stage : Spelled) (string : List ℕ) (first : Bool) → IsLocateStage stage string → IsKind stage.name stage.arg first (Locate all_columns (Some string))
-locate_is stage string first locate = record {
-  row = locate_row;
-  named = rw locate.names refl;
-  makes = GoesOn [] stage.arg.bytes (Read.String string) locate.left _ locate.next (Ended (Read.String string ∷ []) locate.left _ locate.ended refl);
+locate_is stage string first is = record {
+  arguments = locate;
+  named = rw is.names refl;
+  reads = GoesOn [] [] stage.arg.bytes (Read.String string) is.left _ is.next refl (Ended (Read.String string ∷ []) _ is.left _ is.ended refl);
 }
 
 -- the stages after the first are of these kinds

@@ -1,9 +1,9 @@
 -- The strands of a made net are of kinds that are built.
-use Rattle.std.proofs.Common.{◌≡◌, ℕ, zero, suc, Bool, true, false, cond, List, [], ◌∷◌, refl, ap, subst, Option, Some, None, slice_get, map}
-use Rattle.std.specs.Prelude.{Ok, codes}
+use Rattle.std.proofs.Common.{◌≡◌, ◌⊎◌, inl, inr, ℕ, zero, suc, Bool, true, false, List, [], ◌∷◌, refl, ap, subst, Option, Some, None, slice_get, map}
+use Rattle.std.specs.Prelude.{Ok}
 use Rattle.std.specs.Option.{IfSome}
-use Rattle.std.specs.Str.{bytes_eq, str_to_ascii_lowercase}
 use Rattle.pipe_model.specs.declared.kind.Kind.{Kind}
+use Rattle.pipe_model.specs.declared.kind.Kind.TheVariants.{Locate}
 use Rattle.pipe_model.specs.declared.net.Link.{Link}
 use Rattle.pipe_model.specs.declared.net.Net.{Net}
 use Rattle.pipe_model.specs.declared.net.Strand.{Strand}
@@ -12,8 +12,9 @@ use Rattle.stage_syntax.specs.Arg.{ArgText}
 use Rattle.stage_syntax.specs.declared.part.Value.{Value}
 use Rattle.stage_syntax.specs.declared.part.Value.TheVariants as Read
 use Rattle.stage_syntax.specs.Kinds.{IsKind}
-use Rattle.stage_syntax.specs.Rows.{Row, console_row, console_kind, locate_row, locate_kind}
-use Rattle.stage_syntax.proofs.ReadValues.{made_of_row}
+use Rattle.stage_syntax.specs.SelectionForms.{of_locate}
+use Rattle.stage_syntax.proofs.ReadValues.{AreOfRow}
+use Rattle.stage_syntax.proofs.TypedKinds.{console_kind, locate_row, typed_kind}
 use Rattle.spec_scanner.specs.declared.piece.Piece.{Piece}
 use Rattle.net_graph.specs.Faults.{IsGraph}
 use Rattle.net_graph.specs.Nets.{AreOutcomes, strand_of, strands_from, links_of}
@@ -24,28 +25,18 @@ console_built : (first : Bool) → IsBuilt (console_kind first)
 console_built true = record { stage = tt; whole = refl; ordered = refl; fileless = refl }
 console_built false = record { stage = tt; whole = refl; ordered = refl; fileless = refl }
 
-locate_built : (values : List Value) → IfSome (locate_kind values) IsBuilt
+locate_built : (values : List Value) → IfSome (of_locate Locate values) IsBuilt
 locate_built [] = tt
 locate_built (Read.Range range ∷ []) = record { stage = tt; whole = refl; ordered = refl; fileless = refl }
 locate_built (Read.String string ∷ []) = record { stage = tt; whole = refl; ordered = refl; fileless = refl }
 locate_built (Read.Range range ∷ (Read.String string ∷ [])) = record { stage = tt; whole = refl; ordered = refl; fileless = refl }
 locate_built _ = tt
 
--- each row makes such kinds
-row_built : (a b first : Bool) (row : Row) → cond a (Some (console_row first)) (cond b (Some locate_row) None) ≡ Some row → (values : List Value) → IfSome (row.kind values) IsBuilt
-row_built true b first row is values =
-    let e : console_row first ≡ row = (let z : Some (console_row first) ≡ Some row = is in cc) in
-    subst (λ (r : Row). IfSome (r.kind values) IsBuilt) e (console_built first)
-row_built false true first row is values =
-    let e : locate_row ≡ row = (let z : Some locate_row ≡ Some row = is in cc) in
-    subst (λ (r : Row). IfSome (r.kind values) IsBuilt) e (locate_built values)
-row_built false false first row is values = cc
-
 kind_built : (name : List ℕ) (arg : ArgText) (first : Bool) (kind : Kind) → IsKind name arg first kind → IsBuilt kind
-kind_built name arg first kind is =
-    let made = made_of_row is.row arg.bytes kind is.makes in
-    subst (λ (o : Option Kind). IfSome o IsBuilt) made.1
-    (row_built (bytes_eq (str_to_ascii_lowercase name) (codes "console")) (bytes_eq (str_to_ascii_lowercase name) (codes "locate")) first is.row is.named made.0)
+kind_built name arg first kind is = by (typed_kind name arg first kind is) where
+  by : (console_kind first ≡ kind) ⊎ ((values : List Value) × (of_locate Locate values ≡ Some kind) × AreOfRow locate_row [] values) → IsBuilt kind
+  by (inl console) = subst IsBuilt console (console_built first)
+  by (inr (values, made, are)) = subst (λ (o : Option Kind). IfSome o IsBuilt) made (locate_built values)
 
 -- so are the kinds of strands
 strands_built : (stands : List Stand) (links : List Link) (stage : ℕ) (stages : List Stand) (kinds : List Kind) → AreOutcomes stages (map (λ kind. Ok kind) kinds) →

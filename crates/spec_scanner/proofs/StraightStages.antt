@@ -1,9 +1,9 @@
 -- The stages of a straight line: what is read of a CONSOLE and of a LOCATE.
-use Rattle.std.proofs.Common.{◌≡◌, ℕ, zero, suc, ◌+◌, ◌<◌, List, [], ◌∷◌, ◌++◌, length, codes, refl, sym, ap, ◌∙◌, arith, subst, append-nil, get_or, inl, Contains}
+use Rattle.std.proofs.Common.{◌≡◌, ℕ, zero, suc, ◌+◌, ◌<◌, List, [], ◌∷◌, ◌++◌, length, codes, refl, sym, ap, ◌∙◌, arith, subst, append-nil, get_or, Contains}
 use Rattle.std.specs.Str.{str_to_ascii_lowercase}
 use Rattle.stage_syntax.specs.Parts.{IsAtEnd, IsNext}
-use Rattle.stage_syntax.specs.Rows.{after_locate}
-use Rattle.stage_syntax.specs.declared.part.Part.TheVariants as Asked
+use Rattle.stage_syntax.specs.SelectionForms.{before_locate}
+use Rattle.stage_syntax.proofs.DelimitedParts.{delimited_comes}
 use Rattle.stage_syntax.specs.declared.part.Value.TheVariants as Read
 use Rattle.spec_scanner.specs.Blanks.{blanks}
 use Rattle.spec_scanner.specs.Labels.{found, read_stage}
@@ -23,7 +23,7 @@ pub record IsConsoleStage (stage : Spelled) : Type 0 where
 pub record IsLocateStage (stage : Spelled) (string : List ℕ) : Type 0 where
   pub names : str_to_ascii_lowercase stage.name ≡ codes "locate"
   pub left : List ℕ
-  pub next : IsNext (after_locate []) stage.arg.bytes (Read.String string) left
+  pub next : IsNext (before_locate []) stage.arg.bytes (Read.String string) left
   pub ended : IsAtEnd left
 
 -- the stages after the first: LOCATEs of these strings, and a CONSOLE
@@ -84,14 +84,12 @@ stops_there (suc count) bytes some = refl
 
 -- a string between slashes comes next, and nothing after it
 string_next : (between : ℕ) (string : List ℕ) → 0 < length string → ¬ Contains string 47
-    → IsNext (after_locate []) (blanks between ++ delimited string) (Read.String string) []
+    → IsNext (before_locate []) (blanks between ++ delimited string) (Read.String string) []
 string_next between string filled whole = record {
   front = delimited string;
   unblanked = record { blanks = between; spells = refl; other = λ same. omega arith };
   some = omega arith;
-  part = Asked.String;
-  among = (1, omega arith, refl);
-  part_is = inl (record { delimiter = 47; chosen = refl; whole = whole; spells = refl }, filled);
+  part = delimited_comes (delimited string) string [] filled (record { delimiter = 47; chosen = refl; whole = whole; spells = refl });
 }
 
 module _ (at closed : ℕ) (part string : List ℕ) (locate : IsLocate part string) where
@@ -114,7 +112,7 @@ module _ (at closed : ℕ) (part string : List ℕ) (locate : IsLocate part stri
         record {
           names = ap str_to_ascii_lowercase (name_is place letter letters operand blankless colonless starless stops) ∙ names;
           left = [];
-          next = subst (λ bytes. IsNext (after_locate []) bytes (Read.String string) []) (sym (argument_is place letter letters operand blankless colonless starless stops))
+          next = subst (λ bytes. IsNext (before_locate []) bytes (Read.String string) []) (sym (argument_is place letter letters operand blankless colonless starless stops))
               (string_next locate.between string locate.filled locate.whole);
           ended = nothing_left;
         },

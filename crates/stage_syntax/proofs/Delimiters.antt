@@ -15,14 +15,14 @@ pub delimiter_from : (byte : ℕ) → byte ≢ 32 → is_ascii_alphanumeric byte
 delimiter_from byte other sign = rw (ne_eqb byte 32 other, sign) refl
 
 -- a byte that is nowhere doesn't stand after others
-nowhere_after : (after string rest : List ℕ) (byte : ℕ) → IsFirstByte (is_byte byte) after None → after ≢ string ++ byte ∷ rest
+pub nowhere_after : (after string rest : List ℕ) (byte : ℕ) → IsFirstByte (is_byte byte) after None → after ≢ string ++ byte ∷ rest
 nowhere_after after string rest byte nowhere is =
     let long : length string < length after = omega (arith, ap length is, length-append string (byte ∷ rest)) in
     let stands : get_or after (length string) 0 ≡ byte = ap (λ bytes. get_or bytes (length string) 0) is ∙ get_or_at string byte rest 0 (length string) refl in
     nowhere (length string) (omega arith) long (eq-eqb (get_or after (length string) 0) byte stands)
 
 -- a byte doesn't stand before its first place
-not_before : (after : List ℕ) (byte at : ℕ) → IsFirstByte (is_byte byte) after (Some at) → ¬ Contains (take at after) byte
+pub not_before : (after : List ℕ) (byte at : ℕ) → IsFirstByte (is_byte byte) after (Some at) → ¬ Contains (take at after) byte
 not_before after byte at first = λ found.
     let high = first.0.high in
     let below : found.0 < at = omega (arith, found.1, length-take at after) in

@@ -1,41 +1,56 @@
--- A number within limits as a part: it is read in one way, or has one fault.
-use Rattle.std.proofs.Common.{◌≡◌, ℕ, ◌≤◌, List, refl, sym, ap, ◌∙◌, subst}
+-- Numbers within limits, counts, names and keywords are read in one way, or have one fault.
+use Rattle.std.proofs.Common.{◌≡◌, ℕ, ◌≤◌, List, [], ◌∷◌, length, refl, sym, ap, ◌∙◌, subst, arith}
+use Rattle.pipe_model.specs.declared.kind.Times.{Times}
+use Rattle.pipe_model.specs.declared.kind.Times.TheVariants.{Only, All}
 use Rattle.stage_syntax.proofs.FirstWords.{same_rest, same_word}
 use Rattle.stage_syntax.proofs.OneSpellings.{one_value}
-use Rattle.stage_syntax.specs.NumberWords.{IsNoNumber, IsNumberIn, IsNumberMisfit}
-use Rattle.stage_syntax.specs.Parts.{IsNoPart, IsPart}
-use Rattle.stage_syntax.specs.declared.part.Part.TheVariants as Asked
+use Rattle.stage_syntax.specs.Keywords.{IsKeyword}
+use Rattle.stage_syntax.specs.NamesOfFiles.{IsName, IsNameMisfit}
+use Rattle.stage_syntax.specs.NumberWords.{IsNumberIn, IsNumberMisfit}
+use Rattle.stage_syntax.specs.Numbers.{IsNumber}
+use Rattle.stage_syntax.specs.Parts.{AreTimes, most_times}
 use Rattle.stage_syntax.specs.declared.part.TextFault.{TextFault}
-use Rattle.stage_syntax.specs.declared.part.Value.{Value}
-use Rattle.stage_syntax.specs.declared.part.Value.TheVariants as Read
+use Rattle.stage_syntax.specs.declared.part.Word.{Word}
 
-module _ (text : List ℕ) (least most : ℕ) where
-  -- a number's value is a number
-  pub number_value : (value : Value) (rest : List ℕ) → IsPart (Asked.Number least most) text value rest → (number : ℕ) × (value ≡ Read.Number number) × IsNumberIn text least most number rest
-  number_value (Read.Range range) rest is = absurd is
-  number_value (Read.String string) rest is = absurd is
-  number_value (Read.Number number) rest is = (number, refl, is)
-  number_value (Read.Byte byte) rest is = absurd is
+module _ (text : List ℕ) where
+  module _ (least most : ℕ) where
+    pub one_number : (a b : ℕ) (rest more : List ℕ) → IsNumberIn text least most a rest → IsNumberIn text least most b more → (a ≡ b) × (rest ≡ more)
+    one_number a b rest more is too =
+        let words = same_word text is.word rest too.word more is.first too.first in
+        (one_value is.word too.word a b words is.counts too.counts, same_rest text is.word rest too.word more is.first too.first)
 
-  -- a text that doesn't begin with a number is left to other parts
-  pub no_number_part : IsNoNumber text → IsNoPart (Asked.Number least most) text
-  no_number_part none = record {
-    none = λ value rest is. let read = number_value value rest is in none read.2.word rest read.0 read.2.first read.2.counts;
-    no_misfit = λ fault misfit. none misfit.word misfit.rest misfit.value misfit.first misfit.counts;
-  }
+    -- a number within the limits isn't outside them
+    pub number_faultless : (value : ℕ) (rest : List ℕ) (fault : TextFault) → IsNumberIn text least most value rest → ¬ IsNumberMisfit text least most fault
+    number_faultless value rest fault is misfit =
+        let words = same_word text is.word rest misfit.word misfit.rest is.first misfit.first in
+        let numbers = one_value is.word misfit.word value misfit.value words is.counts misfit.counts in
+        misfit.outside (subst (λ number. (least ≤ number) × (number ≤ most)) numbers (is.enough, is.few))
 
-  pub one_number : (value other : Value) (rest more : List ℕ) → IsPart (Asked.Number least most) text value rest → IsPart (Asked.Number least most) text other more → (value ≡ other) × (rest ≡ more)
-  one_number value other rest more is too =
-      let first = number_value value rest is in
-      let second = number_value other more too in
-      let words = same_word text first.2.word rest second.2.word more first.2.first second.2.first in
-      let numbers = one_value first.2.word second.2.word first.0 second.0 words first.2.counts second.2.counts in
-      (first.1 ∙ ap Read.Number numbers ∙ sym second.1, same_rest text first.2.word rest second.2.word more first.2.first second.2.first)
+  -- `*` is no number
+  star_is_none : (value : ℕ) → ¬ IsNumber (42 ∷ []) value
+  star_is_none value counts = let digits = counts.digits in cc
 
-  -- a number within the limits isn't outside them
-  pub no_number_misfit : (value : Value) (rest : List ℕ) (fault : TextFault) → IsPart (Asked.Number least most) text value rest → ¬ IsNumberMisfit text least most fault
-  no_number_misfit value rest fault is misfit =
-      let read = number_value value rest is in
-      let words = same_word text read.2.word rest misfit.word misfit.rest read.2.first misfit.first in
-      let numbers = one_value read.2.word misfit.word read.0 misfit.value words read.2.counts misfit.counts in
-      misfit.outside (subst (λ number. (least ≤ number) × (number ≤ most)) numbers (read.2.enough, read.2.few))
+  star_or_number : (value : ℕ) (rest more : List ℕ) → AreTimes text (Only value) rest → ¬ AreTimes text All more
+  star_or_number value rest more is all = star_is_none value (subst (λ word. IsNumber word value) (same_word text is.word rest (42 ∷ []) more is.first all) is.counts)
+
+  pub one_times : (a b : Times) (rest more : List ℕ) → AreTimes text a rest → AreTimes text b more → (a ≡ b) × (rest ≡ more)
+  one_times (Only a) (Only b) rest more is too = let same = one_number 0 most_times a b rest more is too in (ap Only same.0, same.1)
+  one_times (Only a) All rest more is too = absurd (star_or_number a rest more is too)
+  one_times All (Only b) rest more is too = absurd (star_or_number b more rest too is)
+  one_times All All rest more is too = (refl, same_rest text (42 ∷ []) rest (42 ∷ []) more is too)
+
+  pub times_faultless : (times : Times) (rest : List ℕ) (fault : TextFault) → AreTimes text times rest → ¬ IsNumberMisfit text 0 most_times fault
+  times_faultless (Only value) rest fault is misfit = number_faultless 0 most_times value rest fault is misfit
+  times_faultless All rest fault is misfit = star_is_none misfit.value (subst (λ word. IsNumber word misfit.value) (same_word text misfit.word misfit.rest (42 ∷ []) rest misfit.first is) misfit.counts)
+
+  pub one_name : (a b rest more : List ℕ) → IsName text a rest → IsName text b more → (a ≡ b) × (rest ≡ more)
+  one_name a b rest more is too = (same_word text a rest b more is.first too.first, same_rest text a rest b more is.first too.first)
+
+  pub name_faultless : (name rest : List ℕ) (fault : TextFault) → IsName text name rest → ¬ IsNameMisfit text fault
+  name_faultless name rest fault is misfit =
+      let few = is.few in
+      let many = misfit.many in
+      omega (arith, ap length (same_word text name rest misfit.name misfit.rest is.first misfit.first))
+
+  pub one_keyword : (key : Word) (rest more : List ℕ) → IsKeyword text key rest → IsKeyword text key more → rest ≡ more
+  one_keyword key rest more is too = same_rest text is.word rest too.word more is.first too.first

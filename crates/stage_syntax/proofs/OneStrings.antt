@@ -11,7 +11,7 @@ use Rattle.stage_syntax.specs.declared.fault.FaultKind.{FaultKind}
 use Rattle.stage_syntax.specs.declared.fault.FaultKind.TheVariants.{Unclosed, EmptyString, BadHex}
 
 -- what stands before the first of a byte is determined, and what stands after it
-one_until : (byte : ℕ) (string other rest after : List ℕ) → ¬ Contains string byte → ¬ Contains other byte → string ++ byte ∷ rest ≡ other ++ byte ∷ after → (string ≡ other) × (rest ≡ after)
+pub one_until : (byte : ℕ) (string other rest after : List ℕ) → ¬ Contains string byte → ¬ Contains other byte → string ++ byte ∷ rest ≡ other ++ byte ∷ after → (string ≡ other) × (rest ≡ after)
 one_until byte [] [] rest after whole whole_other same =
     let tails : rest ≡ after = cc in
     (refl, tails)
@@ -30,7 +30,7 @@ one_until byte (a ∷ string) (b ∷ other) rest after whole whole_other same =
 
 module _ (text : List ℕ) where
   -- a text is one delimited string and the rest
-  one_delimited : (string other rest after : List ℕ) → IsDelimited text string rest → IsDelimited text other after → (string ≡ other) × (rest ≡ after)
+  pub one_delimited : (string other rest after : List ℕ) → IsDelimited text string rest → IsDelimited text other after → (string ≡ other) × (rest ≡ after)
   one_delimited string other rest after first second =
       let both = sym first.spells ∙ second.spells in
       let byte : first.delimiter ≡ second.delimiter = cc in
@@ -38,7 +38,7 @@ module _ (text : List ℕ) where
       one_until first.delimiter string other rest after first.whole (subst (λ b. ¬ Contains other b) (sym byte) second.whole) tails
 
   -- a text has one hexadecimal word
-  one_hexadecimal : (string other rest after : List ℕ) → IsHexadecimalWord text string rest → IsHexadecimalWord text other after → (string ≡ other) × (rest ≡ after)
+  pub one_hexadecimal : (string other rest after : List ℕ) → IsHexadecimalWord text string rest → IsHexadecimalWord text other after → (string ≡ other) × (rest ≡ after)
   one_hexadecimal string other rest after first second =
       let words : first.word ≡ second.word = same_word text first.word rest second.word after first.first second.first in
       let spelled = sym first.worth.spells ∙ words ∙ second.worth.spells in
@@ -48,7 +48,7 @@ module _ (text : List ℕ) where
       (strings, same_rest text first.word rest second.word after first.first second.first)
 
   -- a delimited string is no hexadecimal word
-  not_hexadecimal : (string other rest after : List ℕ) → IsDelimited text string rest → ¬ IsHexadecimalWord text other after
+  pub not_hexadecimal : (string other rest after : List ℕ) → IsDelimited text string rest → ¬ IsHexadecimalWord text other after
   not_hexadecimal string other rest after delimited hexadecimal =
       no_front text delimited.delimiter 120 (delimited_front text string rest delimited) delimited.chosen (hexadecimal_front text other after hexadecimal) refl
 
@@ -62,7 +62,7 @@ module _ (text : List ℕ) where
   not_unclosed_and_empty : IsNoString text Unclosed → ¬ IsNoString text EmptyString
   not_unclosed_and_empty unclosed empty = not_unclosed text [] empty.0 empty.1 unclosed
 
-  not_unclosed_and_hex : IsNoString text Unclosed → ¬ IsNoString text BadHex
+  pub not_unclosed_and_hex : IsNoString text Unclosed → ¬ IsNoString text BadHex
   not_unclosed_and_hex unclosed bad = no_front text unclosed.delimiter 120 (ap (λ bytes. get_or bytes 0 0) unclosed.spells) unclosed.chosen bad.begins refl
 
   not_empty_and_hex : IsNoString text EmptyString → ¬ IsNoString text BadHex

@@ -15,7 +15,7 @@ use Rattle.stage_syntax.specs.declared.fault.FaultKind.TheVariants.{Missing}
 use Rattle.stage_syntax.specs.declared.ranges.Spelling.{Spelling}
 
 -- nothing was left of a list
-emptied : (bytes : List ℕ) → length bytes ≡ 0 → bytes ≡ []
+pub emptied : (bytes : List ℕ) → length bytes ≡ 0 → bytes ≡ []
 emptied [] none = refl
 emptied (byte ∷ bytes) none = absurd (omega arith)
 

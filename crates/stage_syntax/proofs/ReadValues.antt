@@ -1,12 +1,18 @@
 -- What is read of an argument is as the table wants it: a range is proper, a string isn't empty, a number is within its limits.
-use Rattle.std.proofs.Common.{◌≡◌, ◌⊎◌, inl, inr, ℕ, zero, suc, ◌+◌, ◌≤◌, ◌<◌, true, List, [], ◌∷◌, ◌++◌, length, get_or, refl, sym, ◌∙◌, ap, subst, arith, append-nil, append_assoc, Option, Some, le-leb}
+use Rattle.std.proofs.Common.{◌≡◌, ◌⊎◌, inl, inr, ℕ, ◌+◌, ◌≤◌, ◌<◌, true, List, [], ◌∷◌, ◌++◌, length, refl, sym, ◌∙◌, ap, subst, arith, append-nil, append_assoc, Option, Some, le-leb, false, ne_eqb, length-append}
 use Rattle.std.specs.Prelude.{⊤}
+use Rattle.std.specs.List.{Contains}
+use Rattle.std.proofs.lemmas.List.Elements.{Contains-append_right}
 use Rattle.hex.proofs.HexLemmas.{decode_of-ok}
 use Rattle.std.specs.Int.{is_in_range}
 use Rattle.pipe_model.specs.declared.kind.Kind.{Kind}
 use Rattle.pipe_model.specs.declared.range.Range.{Range}
 use Rattle.pipe_model.specs.declared.range.Span.{Span}
-use Rattle.pipe_model.specs.Proper.{greatest, is_filled, is_last, is_range, is_size}
+use Rattle.pipe_model.specs.Proper.{greatest, is_count, is_filled, is_last, is_name, is_range, is_size}
+use Rattle.pipe_model.specs.Members.{has}
+use Rattle.pipe_model.specs.declared.kind.Times.{Times}
+use Rattle.pipe_model.specs.declared.kind.Times.TheVariants.{Only, All}
+use Rattle.pipe_model.specs.declared.range.Span.TheVariants.{Columns}
 use Rattle.stage_syntax.specs.declared.part.Part.{Part}
 use Rattle.stage_syntax.specs.declared.part.Part.TheVariants as Asked
 use Rattle.stage_syntax.specs.declared.part.Value.{Value}
@@ -16,9 +22,12 @@ use Rattle.stage_syntax.specs.declared.ranges.Ending.TheVariants.{Alone, To, Ope
 use Rattle.stage_syntax.specs.declared.ranges.Spelling.{Spelling}
 use Rattle.stage_syntax.specs.Bounds.{Fits, IsLast, IsRangeOf}
 use Rattle.stage_syntax.specs.PlainRanges.{IsPlainRange}
-use Rattle.stage_syntax.specs.Parts.{IsNext, IsPart}
+use Rattle.stage_syntax.proofs.Consumed.{first_takes}
+use Rattle.stage_syntax.specs.NamesOfFiles.{IsName}
+use Rattle.stage_syntax.specs.Parts.{AreTimes, IsFirstPart, IsNext, IsPart}
 use Rattle.stage_syntax.specs.RangeWords.{IsRange}
-use Rattle.stage_syntax.specs.Rows.{Ended, GoesOn, Makes, Row}
+use Rattle.stage_syntax.specs.Rows.{Makes, Row}
+use Rattle.stage_syntax.specs.Rows.Makes.{Ended, GoesOn}
 use Rattle.stage_syntax.specs.Strings.{IsString}
 
 -- Ranges
@@ -49,6 +58,19 @@ range_is_proper text range rest (inl bare) = plain_is_proper _ bare.word range b
 range_is_proper text range rest (inr (inl joined)) = plain_is_proper joined.span joined.numbers range joined.range_is
 range_is_proper text range rest (inr (inr apart)) = plain_is_proper apart.span apart.word range apart.range_is
 
+-- Names
+
+no_blank : (name : List ℕ) → ¬ Contains name 32 → has name 32 ≡ false
+no_blank [] none = refl
+no_blank (byte ∷ name) none =
+    let other : ¬ (byte ≡ 32) = λ same. none (0, omega arith, same) in
+    rw (ne_eqb byte 32 other) (no_blank name (λ found. none (Contains-append_right (byte ∷ []) name 32 found)))
+
+name_is_proper : (text name rest : List ℕ) → length rest < length text → IsName text name rest → is_name name ≡ true
+name_is_proper text name rest less is =
+    let some : 1 ≤ length name = omega (arith, less, ap length is.first.spells, length-append name rest) in
+    rw (in_range 1 255 (length name) some is.few, no_blank name is.first.whole) refl
+
 -- Strings
 
 filled : (string : List ℕ) → 0 < length string → is_filled string ≡ true
@@ -65,40 +87,32 @@ string_is_filled text string rest (inr word) =
 
 -- a value that the part may have
 abbrev pub IsValueOf : Part → Value → Type 0
-IsValueOf Asked.Range (Read.Range range) = is_range range ≡ true
-IsValueOf Asked.Range (Read.String string) = ⊥
-IsValueOf Asked.Range (Read.Number value) = ⊥
-IsValueOf Asked.Range (Read.Byte byte) = ⊥
-IsValueOf Asked.String (Read.Range range) = ⊥
-IsValueOf Asked.String (Read.String string) = is_filled string ≡ true
-IsValueOf Asked.String (Read.Number value) = ⊥
-IsValueOf Asked.String (Read.Byte byte) = ⊥
-IsValueOf (Asked.Number least most) (Read.Range range) = ⊥
-IsValueOf (Asked.Number least most) (Read.String string) = ⊥
-IsValueOf (Asked.Number least most) (Read.Number value) = (least ≤ value) × (value ≤ most)
-IsValueOf (Asked.Number least most) (Read.Byte byte) = ⊥
-IsValueOf Asked.Byte (Read.Range range) = ⊥
-IsValueOf Asked.Byte (Read.String string) = ⊥
-IsValueOf Asked.Byte (Read.Number value) = ⊥
-IsValueOf Asked.Byte (Read.Byte byte) = ⊤
+IsValueOf Asked.Range value = (range : Range) × (value ≡ Read.Range range) × (is_range range ≡ true)
+IsValueOf Asked.Columns value = (range : Range) × (value ≡ Read.Range range) × (is_range range ≡ true) × (range.span ≡ Columns)
+IsValueOf Asked.String value = (string : List ℕ) × (value ≡ Read.String string) × (is_filled string ≡ true)
+IsValueOf Asked.AnyString value = (string : List ℕ) × (value ≡ Read.String string)
+IsValueOf Asked.Strings value = (first : List ℕ) × (second : List ℕ) × (value ≡ Read.Strings first second)
+IsValueOf Asked.Byte value = (byte : ℕ) × (value ≡ Read.Byte byte)
+IsValueOf (Asked.Number least most) value = (number : ℕ) × (value ≡ Read.Number number) × (least ≤ number) × (number ≤ most)
+IsValueOf Asked.Times value = (times : Times) × (value ≡ Read.Times times) × (is_count times ≡ true)
+IsValueOf (Asked.Word key) value = value ≡ Read.Word key
+IsValueOf Asked.Name value = (name : List ℕ) × (value ≡ Read.String name) × (is_name name ≡ true)
 
-value_of : (part : Part) (text : List ℕ) (value : Value) (rest : List ℕ) → IsPart part text value rest → IsValueOf part value
-value_of Asked.Range text (Read.Range range) rest is = range_is_proper text range rest is
-value_of Asked.Range text (Read.String string) rest is = is
-value_of Asked.Range text (Read.Number value) rest is = is
-value_of Asked.Range text (Read.Byte byte) rest is = is
-value_of Asked.String text (Read.Range range) rest is = is
-value_of Asked.String text (Read.String string) rest is = string_is_filled text string rest is
-value_of Asked.String text (Read.Number value) rest is = is
-value_of Asked.String text (Read.Byte byte) rest is = is
-value_of (Asked.Number least most) text (Read.Range range) rest is = is
-value_of (Asked.Number least most) text (Read.String string) rest is = is
-value_of (Asked.Number least most) text (Read.Number value) rest is = (is.enough, is.few)
-value_of (Asked.Number least most) text (Read.Byte byte) rest is = is
-value_of Asked.Byte text (Read.Range range) rest is = is
-value_of Asked.Byte text (Read.String string) rest is = is
-value_of Asked.Byte text (Read.Number value) rest is = is
-value_of Asked.Byte text (Read.Byte byte) rest is = tt
+count_is_proper : (text : List ℕ) (times : Times) (rest : List ℕ) → AreTimes text times rest → is_count times ≡ true
+count_is_proper text (Only n) rest is = le-leb n 2147483647 is.few
+count_is_proper text All rest is = refl
+
+value_of : (part : Part) (text : List ℕ) (value : Value) (rest : List ℕ) → length rest < length text → IsPart part text value rest → IsValueOf part value
+value_of Asked.Range text value rest less is = (is.0, is.1, range_is_proper text is.0 rest is.2)
+value_of Asked.Columns text value rest less is = (is.0, is.1, plain_is_proper Columns is.2.word is.0 is.2.range_is, is.2.range_is.range_is.of_span)
+value_of Asked.String text value rest less is = (is.0, is.1, string_is_filled text is.0 rest is.2)
+value_of Asked.AnyString text value rest less is = (is.0, is.1)
+value_of Asked.Strings text value rest less is = (is.0, is.1, is.2)
+value_of Asked.Byte text value rest less is = (is.0, is.1)
+value_of (Asked.Number least most) text value rest less is = (is.0, is.1, is.2.enough, is.2.few)
+value_of Asked.Times text value rest less is = (is.0, is.1, count_is_proper text is.0 rest is.2)
+value_of (Asked.Word key) text value rest less is = is.0
+value_of Asked.Name text value rest less is = (is.0, is.1, name_is_proper text is.0 rest less is.2)
 
 -- a value that one of the parts may have
 abbrev pub IsOfOne : List Part → Value → Type 0
@@ -106,40 +120,45 @@ IsOfOne [] value = ⊥
 IsOfOne (part ∷ parts) value = IsValueOf part value ⊎ IsOfOne parts value
 
 range_of_part : (part : Part) (range : Range) → IsValueOf part (Read.Range range) → is_range range ≡ true
-range_of_part Asked.Range range is = is
-range_of_part Asked.String range is = absurd is
-range_of_part (Asked.Number least most) range is = absurd is
-range_of_part Asked.Byte range is = absurd is
+range_of_part Asked.Range range is = let value = is.1 in let same : is.0 ≡ range = cc in subst (λ (range : Range). is_range range ≡ true) same is.2
+range_of_part Asked.Columns range is = let value = is.1 in let same : is.0 ≡ range = cc in subst (λ (range : Range). is_range range ≡ true) same is.2
+range_of_part Asked.String range is = let value = is.1 in cc
+range_of_part Asked.AnyString range is = let value = is.1 in cc
+range_of_part Asked.Strings range is = let value = is.2 in cc
+range_of_part Asked.Byte range is = let value = is.1 in cc
+range_of_part (Asked.Number least most) range is = let value = is.1 in cc
+range_of_part Asked.Times range is = let value = is.1 in cc
+range_of_part (Asked.Word key) range is = cc
+range_of_part Asked.Name range is = let value = is.1 in cc
 
-string_of_part : (part : Part) (string : List ℕ) → IsValueOf part (Read.String string) → is_filled string ≡ true
-string_of_part Asked.Range string is = absurd is
-string_of_part Asked.String string is = is
-string_of_part (Asked.Number least most) string is = absurd is
-string_of_part Asked.Byte string is = absurd is
-
--- a range and a string are proper whatever else may stand there
+-- a range is proper whatever else may stand there
 pub range_of_one : (parts : List Part) (range : Range) → IsOfOne parts (Read.Range range) → is_range range ≡ true
 range_of_one [] range is = absurd is
 range_of_one (part ∷ parts) range (inl is) = range_of_part part range is
 range_of_one (part ∷ parts) range (inr is) = range_of_one parts range is
 
-pub string_of_one : (parts : List Part) (string : List ℕ) → IsOfOne parts (Read.String string) → is_filled string ≡ true
-string_of_one [] string is = absurd is
-string_of_one (part ∷ parts) string (inl is) = string_of_part part string is
-string_of_one (part ∷ parts) string (inr is) = string_of_one parts string is
+-- a string isn't empty where no other may stand
+pub string_of_string : (string : List ℕ) → IsOfOne (Asked.String ∷ []) (Read.String string) → is_filled string ≡ true
+string_of_string string (inl is) = let value = is.1 in let same : is.0 ≡ string = cc in subst (λ (string : List ℕ). is_filled string ≡ true) same is.2
+string_of_string string (inr is) = absurd is
+
+-- nor where a range may stand
+pub string_or_range : (string : List ℕ) → IsOfOne (Asked.Range ∷ (Asked.String ∷ [])) (Read.String string) → is_filled string ≡ true
+string_or_range string (inl is) = let value = is.1 in cc
+string_or_range string (inr is) = string_of_string string is
 
 -- values that a row's arguments after some others may have
 abbrev pub AreOfRow : Row → List Value → List Value → Type 0
 AreOfRow row before [] = ⊤
 AreOfRow row before (value ∷ values) = IsOfOne (row.next before) value × AreOfRow row (before ++ value ∷ []) values
 
-of_one : (parts : List Part) (part : Part) (value : Value) (k : ℕ) → k < length parts → get_or parts k part ≡ part → IsValueOf part value → IsOfOne parts value
-of_one [] part value k within is of = absurd (omega (arith, within))
-of_one (p ∷ parts) part value zero within is of = inl (subst (λ (x : Part). IsValueOf x value) (sym is) of)
-of_one (p ∷ parts) part value (suc k) within is of = inr (of_one parts part value k (omega (arith, within)) is of)
+first_of_one : (parts : List Part) (text : List ℕ) (value : Value) (rest : List ℕ) → length rest < length text → IsFirstPart parts text value rest → IsOfOne parts value
+first_of_one [] text value rest less is = is
+first_of_one (part ∷ parts) text value rest less (inl is) = inl (value_of part text value rest less is)
+first_of_one (part ∷ parts) text value rest less (inr is) = inr (first_of_one parts text value rest less is.1)
 
 next_of_one : (parts : List Part) (text : List ℕ) (value : Value) (rest : List ℕ) → IsNext parts text value rest → IsOfOne parts value
-next_of_one parts text value rest next = of_one parts next.part value next.among.0 next.among.1 next.among.2 (value_of next.part next.front value rest next.part_is)
+next_of_one parts text value rest next = first_of_one parts next.front value rest (first_takes next.front next.some next.unblanked.other parts value rest next.part) next.part
 
 -- the arguments that a kind is made of, after those before
 record AreMadeOf (row : Row) (before : List Value) (kind : Kind) : Type 0 where
@@ -147,9 +166,9 @@ record AreMadeOf (row : Row) (before : List Value) (kind : Kind) : Type 0 where
   made : row.kind (before ++ values) ≡ Some kind
   are : AreOfRow row before values
 
-made_of : {row : Row} {before : List Value} {text : List ℕ} {kind : Kind} → Makes row before text kind → AreMadeOf row before kind
-made_of {row} (Ended values text kind ended is) = record { values = []; made = ap row.kind (append-nil values) ∙ is; are = tt }
-made_of {row} (GoesOn values text value rest kind next makes) =
+made_of : {row : Row} {before : List Value} {lefts text : List ℕ} {kind : Kind} → Makes row before lefts text kind → AreMadeOf row before kind
+made_of {row} (Ended values lefts text kind ended is) = record { values = []; made = ap row.kind (append-nil values) ∙ is; are = tt }
+made_of {row} (GoesOn values lefts text value rest kind next right makes) =
     let more = made_of makes in
     record {
       values = value ∷ more.values;
@@ -158,5 +177,5 @@ made_of {row} (GoesOn values text value rest kind next makes) =
     }
 
 -- a row makes its kinds of values that its arguments may have
-pub made_of_row : (row : Row) (text : List ℕ) (kind : Kind) → Makes row [] text kind → (values : List Value) × (row.kind values ≡ Some kind) × AreOfRow row [] values
+pub made_of_row : (row : Row) (text : List ℕ) (kind : Kind) → Makes row [] [] text kind → (values : List Value) × (row.kind values ≡ Some kind) × AreOfRow row [] values
 made_of_row row text kind makes = let made = made_of makes in (made.values, made.made, made.are)

@@ -1,51 +1,56 @@
 -- How the arguments of a row are read one after another.
-use Rattle.std.proofs.Common.{◌≡◌, ℕ, ◌-◌, List, [], ◌∷◌, ◌++◌, length, take, drop, sym, subst, Result, Some}
-use Rattle.std.specs.Result.{IfOk, IfErr}
-use Rattle.std.proofs.lemmas.Result.{IfOk-weaker, MatchResult-weaker}
+use Rattle.std.proofs.Common.{◌≡◌, ℕ, ◌-◌, List, [], ◌∷◌, ◌++◌, length, take, drop, refl, sym, ap, ◌∙◌, subst, None, Some}
 use Rattle.pipe_model.proofs.Cuts.{tail_of}
 use Rattle.pipe_model.specs.declared.kind.Kind.{Kind}
 use Rattle.stage_syntax.specs.Parts.{IsAtEnd, IsNext, IsNoNext}
 use Rattle.stage_syntax.specs.Refusals.{Refuses}
-use Rattle.stage_syntax.specs.Rows.{Ended, Fails, FailsOn, GoesOn, Makes, Row, Stops}
+use Rattle.stage_syntax.specs.Rows.{Fails, Makes, Row}
+use Rattle.stage_syntax.specs.Rows.Fails.{FailsOn, Lacks, Stops, Wrong}
+use Rattle.stage_syntax.specs.Rows.Makes.{Ended, GoesOn}
+use Rattle.stage_syntax.specs.declared.fault.FaultKind.TheVariants.{Missing}
 use Rattle.stage_syntax.specs.declared.part.TextFault.{TextFault}
 use Rattle.stage_syntax.specs.declared.part.Value.{Value}
 use Rattle.stage_syntax.specs.declared.refusal.Refusal.{Refusal}
 use Rattle.stage_syntax.specs.declared.refusal.Refusal.TheVariants.{Fault, NoMemory}
 
+-- what the rest makes or lacks after these arguments, the whole text does
+pub record IsReadTo (row : Row) (whole : List ℕ) (values : List Value) (lefts text : List ℕ) : Type 0 where
+  pub makes : (kind : Kind) → Makes row values lefts text kind → Makes row [] [] whole kind
+  pub fails : (fault : TextFault) → Fails row values lefts text fault → Fails row [] [] whole fault
+
+pub nothing_read : (row : Row) (whole : List ℕ) → IsReadTo row whole [] [] whole
+nothing_read row whole = record { makes = λ kind makes. makes; fails = λ fault fails. fails }
+
 -- the text after so many bytes, as a slice
 abbrev pub left_after : List ℕ → ℕ → List ℕ
 left_after text len = take (length text - len) (drop len text)
 
--- what refuses the arguments after one refuses the row
-refused_later : (row : Row) (values : List Value) (text : List ℕ) (value : Value) (rest : List ℕ) (refusal : Refusal) → IsNext (row.next values) text value rest
-    → Refuses (Fails row (values ++ value ∷ []) rest) refusal → Refuses (Fails row values text) refusal
-refused_later row values text value rest (Fault fault) next refused = FailsOn values text value rest fault next refused
-refused_later row values text value rest NoMemory next refused = tt
+module _ (row : Row) (whole : List ℕ) (values : List Value) (lefts text : List ℕ) (to : IsReadTo row whole values lefts text) where
+  -- at the end
+  pub made_at_end : (kind : Kind) → IsAtEnd text → Some kind ≡ row.kind values → Makes row [] [] whole kind
+  made_at_end kind ended is = to.makes kind (Ended values lefts text kind ended (sym is))
 
-module _ (row : Row) (values : List Value) (text : List ℕ) where
-  -- what refuses the next argument refuses the row
-  pub stopped : (refusal : Refusal) → Refuses (IsNoNext (row.next values) text) refusal → Refuses (Fails row values text) refusal
-  stopped (Fault fault) refused = Stops values text fault refused
-  stopped NoMemory refused = tt
+  pub lacks_at_end : IsAtEnd text → None ≡ row.kind values → Fails row [] [] whole (record { left = 0; kind = Missing })
+  lacks_at_end ended is = to.fails _ (Lacks values lefts text ended (sym is))
 
-  module _ (value : Value) (len : ℕ) (next : IsNext (row.next values) text value (drop len text)) where
-    -- the next argument, as it stands before a slice
-    before_rest : IsNext (row.next values) text value (left_after text len)
-    before_rest = subst (IsNext (row.next values) text value) (sym (tail_of text len)) next
+  -- where what comes is none of the arguments that may
+  pub stops_there : (refusal : Refusal) → Refuses (IsNoNext (row.next values) text) refusal → Refuses (Fails row [] [] whole) refusal
+  stops_there (Fault fault) refused = to.fails fault (Stops values lefts text fault refused)
+  stops_there NoMemory refused = tt
 
-    -- an argument, and those after it
-    pub made_later : (result : Result Kind Refusal) → IfOk result (Makes row (values ++ value ∷ []) (left_after text len)) → IfOk result (Makes row values text)
-    made_later result made = IfOk-weaker result (Makes row (values ++ value ∷ []) (left_after text len)) (Makes row values text) (λ kind more. GoesOn values text value (left_after text len) kind before_rest more) made
+  module _ (value : Value) (left len : ℕ) (next : (next : IsNext (row.next values) text value (drop len text)) × (left ≡ length next.front)) where
+    -- an argument that is wrong
+    pub wrong_there : (fault : TextFault) → Some fault ≡ row.wrong (values ++ value ∷ []) (lefts ++ left ∷ []) → Fails row [] [] whole fault
+    wrong_there fault is = to.fails fault (Wrong values lefts text value (drop len text) fault next.0 (ap (λ left. row.wrong (values ++ value ∷ []) (lefts ++ left ∷ [])) (sym next.1) ∙ sym is))
 
-    -- an argument, and a fault after it
-    pub failed_later : (result : Result Kind Refusal) → IfErr result (Refuses (Fails row (values ++ value ∷ []) (left_after text len))) → IfErr result (Refuses (Fails row values text))
-    failed_later result failed = MatchResult-weaker result failed (λ kind any. any) (λ refusal refused. refused_later row values text value (left_after text len) refusal before_rest refused)
-
-    -- the last argument
-    pub made_last : (kind : Kind) → IsAtEnd (left_after text len) → row.kind (values ++ value ∷ []) ≡ Some kind → Makes row values text kind
-    made_last kind ended made = GoesOn values text value (left_after text len) kind before_rest (Ended (values ++ value ∷ []) (left_after text len) kind ended made)
-
-    -- an argument after the last
-    pub failed_last : (fault : TextFault) → row.next (values ++ value ∷ []) ≡ [] → IsNoNext [] (left_after text len) fault → Fails row values text fault
-    failed_last fault last extra = FailsOn values text value (left_after text len) fault before_rest
-        (Stops (values ++ value ∷ []) (left_after text len) fault (subst (λ parts. IsNoNext parts (left_after text len) fault) (sym last) extra))
+    -- and one that isn't
+    pub one_more : None ≡ row.wrong (values ++ value ∷ []) (lefts ++ left ∷ []) → IsReadTo row whole (values ++ value ∷ []) (lefts ++ left ∷ []) (left_after text len)
+    one_more is =
+        let right = ap (λ left. row.wrong (values ++ value ∷ []) (lefts ++ left ∷ [])) (sym next.1) ∙ sym is in
+        let lefts_are : lefts ++ left ∷ [] ≡ lefts ++ length next.0.front ∷ [] = ap (λ left. lefts ++ left ∷ []) next.1 in
+        record {
+          makes = λ kind makes. to.makes kind (GoesOn values lefts text value (drop len text) kind next.0 right
+              (subst (λ lefts. Makes row (values ++ value ∷ []) lefts (drop len text) kind) lefts_are (subst (λ rest. Makes row (values ++ value ∷ []) (lefts ++ left ∷ []) rest kind) (tail_of text len) makes)));
+          fails = λ fault fails. to.fails fault (FailsOn values lefts text value (drop len text) fault next.0 right
+              (subst (λ lefts. Fails row (values ++ value ∷ []) lefts (drop len text) fault) lefts_are (subst (λ rest. Fails row (values ++ value ∷ []) (lefts ++ left ∷ []) rest fault) (tail_of text len) fails)));
+        }

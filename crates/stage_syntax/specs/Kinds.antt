@@ -9,7 +9,8 @@ use Rattle.stage_syntax.specs.declared.fault.KindFault.TheVariants.{Unknown, Arg
 use Rattle.stage_syntax.specs.declared.part.TextFault.{TextFault}
 use Rattle.stage_syntax.specs.declared.refusal.Refusal.{Refusal}
 use Rattle.stage_syntax.specs.declared.refusal.Refusal.TheVariants as Refused
-use Rattle.stage_syntax.specs.Rows.{Row, Makes, Fails, row_of}
+use Rattle.stage_syntax.specs.Names.{arguments_of}
+use Rattle.stage_syntax.specs.Rows.{Arguments, Reads, HasFault}
 
 -- the place of a byte of an argument, or of its end, that has so many bytes after it, itself included
 abbrev pub place_before : ArgText → ℕ → ℕ
@@ -26,20 +27,20 @@ refusal_placed arg Refused.NoMemory = NoMemory
 
 -- the name and the argument are this kind of stage
 pub record IsKind (name : List ℕ) (arg : ArgText) (first : Bool) (kind : Kind) : Type 0 where
-  pub row : Row
-  pub named : row_of name first ≡ Some row
-  pub makes : Makes row [] arg.bytes kind
+  pub arguments : Arguments
+  pub named : arguments_of name first ≡ Some arguments
+  pub reads : Reads arguments arg.bytes kind
 
 -- some stage has the name, and its arguments have this leftmost fault
 pub record IsArgFault (name : List ℕ) (arg : ArgText) (first : Bool) (fault : ArgFault) : Type 0 where
-  pub row : Row
-  pub named : row_of name first ≡ Some row
+  pub arguments : Arguments
+  pub named : arguments_of name first ≡ Some arguments
   pub inside : TextFault
-  pub fails : Fails row [] arg.bytes inside
+  pub fails : HasFault arguments arg.bytes inside
   pub fault_is : fault ≡ placed arg inside
 
 -- the name and the argument aren't a stage, for this reason; want of memory may come in any case
 abbrev pub IsNoKind : List ℕ → ArgText → Bool → KindFault → Type 0
-IsNoKind name arg first Unknown = row_of name first ≡ None
+IsNoKind name arg first Unknown = arguments_of name first ≡ None
 IsNoKind name arg first (Argument fault) = IsArgFault name arg first fault
 IsNoKind name arg first NoMemory = ⊤

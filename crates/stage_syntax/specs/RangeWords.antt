@@ -125,3 +125,7 @@ IsRangeMisfit text fault = IsBareRangeFault text fault ⊎ (IsJoinedRangeFault t
 pub record IsNoRange (text : List ℕ) : Type 0 where
   pub none : (range : Range) (rest : List ℕ) → ¬ IsRange text range rest
   pub no_misfit : (fault : TextFault) → ¬ IsRangeMisfit text fault
+
+-- the first word of the text spells no range
+abbrev pub IsUnspelled : List ℕ → Type 0
+IsUnspelled text = (word rest : List ℕ) (spelling : Spelling) → IsFirstWord text word rest → ¬ IsSpelling word spelling

@@ -1,64 +1,53 @@
--- The rows of the stage table: for each name what may come next among its arguments, and what they make.
-use Rattle.std.specs.Prelude.{◌≡◌, ℕ, Bool, if◌then◌else◌, List, [], ◌∷◌, ◌++◌, codes}
-use Rattle.std.specs.Str.{bytes_eq, str_to_ascii_lowercase}
+-- The arguments of a stage as data, and how they are read one after another.
+use Rattle.std.specs.Prelude.{◌≡◌, ℕ, List, [], ◌∷◌, ◌++◌, length}
 use Rattle.std.specs.declared.option.Option.{Option}
 use Rattle.std.specs.declared.option.Option.TheVariants.{Some, None}
 use Rattle.pipe_model.specs.declared.kind.Kind.{Kind}
-use Rattle.pipe_model.specs.declared.kind.Kind.TheVariants.{ConsoleIn, ConsoleOut, Locate}
-use Rattle.pipe_model.specs.Straight.{all_columns}
 use Rattle.stage_syntax.specs.declared.fault.FaultKind.TheVariants.{Missing}
 use Rattle.stage_syntax.specs.declared.part.Part.{Part}
-use Rattle.stage_syntax.specs.declared.part.Part.TheVariants as Asked
 use Rattle.stage_syntax.specs.declared.part.Value.{Value}
-use Rattle.stage_syntax.specs.declared.part.Value.TheVariants as Read
 use Rattle.stage_syntax.specs.declared.part.TextFault.{TextFault}
 use Rattle.stage_syntax.specs.Parts.{IsAtEnd, IsNext, IsNoNext}
 
--- the arguments of a stage
+-- arguments that are read one after another
 pub record Row : Type 0 where
-  -- what may come after these arguments, in the order in which the stage names it
+  -- what may come after these, in the order in which the stage names it
   pub next : List Value → List Part
-  -- what these arguments make, where none is missing
+  -- a fault of one of these, each of which begins where so many bytes are left of the text
+  pub wrong : List Value → List ℕ → Option TextFault
+  -- what these make, where none is missing
   pub kind : List Value → Option Kind
 
--- CONSOLE: nothing; it is first in its pipeline and has no bytes yet, or it isn't first
-abbrev pub console_kind : Bool → Kind
-console_kind first = if first then ConsoleIn [] else ConsoleOut
+pub data Arguments : Type 0 where
+  -- TEXT, which is all that follows exactly one blank, or None where nothing follows the name; and what it makes, where it isn't missing
+  OfText : (Option (List ℕ) → Option Kind) → Arguments
+  OfParts : Row → Arguments
 
-abbrev pub console_row : Bool → Row
-console_row first = record { next = λ values. []; kind = λ values. Some (console_kind first) }
+abbrev pub text_in : List ℕ → Option (List ℕ)
+text_in [] = None
+text_in (blank ∷ text) = Some text
 
--- LOCATE [range] [string], of which one is required
-abbrev pub after_locate : List Value → List Part
-after_locate [] = Asked.Range ∷ Asked.String ∷ []
-after_locate (Read.Range range ∷ []) = Asked.String ∷ []
-after_locate _ = []
+-- the text has the arguments that come after these, and they make the kind
+pub data Makes (row : Row) : List Value → List ℕ → List ℕ → Kind → Type 0 where
+  Ended : (values : List Value) (lefts text : List ℕ) (kind : Kind) → IsAtEnd text → row.kind values ≡ Some kind → Makes row values lefts text kind
+  GoesOn : (values : List Value) (lefts text : List ℕ) (value : Value) (rest : List ℕ) (kind : Kind) → (next : IsNext (row.next values) text value rest) →
+      row.wrong (values ++ value ∷ []) (lefts ++ length next.front ∷ []) ≡ None → Makes row (values ++ value ∷ []) (lefts ++ length next.front ∷ []) rest kind → Makes row values lefts text kind
 
-abbrev pub locate_kind : List Value → Option Kind
-locate_kind (Read.Range range ∷ []) = Some (Locate range None)
-locate_kind (Read.String string ∷ []) = Some (Locate all_columns (Some string))
-locate_kind (Read.Range range ∷ (Read.String string ∷ [])) = Some (Locate range (Some string))
-locate_kind _ = None
+-- the text doesn't have the arguments that come after these, and this is the leftmost fault
+pub data Fails (row : Row) : List Value → List ℕ → List ℕ → TextFault → Type 0 where
+  Lacks : (values : List Value) (lefts text : List ℕ) → IsAtEnd text → row.kind values ≡ None → Fails row values lefts text (record { left = 0; kind = Missing })
+  Stops : (values : List Value) (lefts text : List ℕ) (fault : TextFault) → IsNoNext (row.next values) text fault → Fails row values lefts text fault
+  Wrong : (values : List Value) (lefts text : List ℕ) (value : Value) (rest : List ℕ) (fault : TextFault) → (next : IsNext (row.next values) text value rest) →
+      row.wrong (values ++ value ∷ []) (lefts ++ length next.front ∷ []) ≡ Some fault → Fails row values lefts text fault
+  FailsOn : (values : List Value) (lefts text : List ℕ) (value : Value) (rest : List ℕ) (fault : TextFault) → (next : IsNext (row.next values) text value rest) →
+      row.wrong (values ++ value ∷ []) (lefts ++ length next.front ∷ []) ≡ None → Fails row (values ++ value ∷ []) (lefts ++ length next.front ∷ []) rest fault → Fails row values lefts text fault
 
-abbrev pub locate_row : Row
-locate_row = record { next = after_locate; kind = locate_kind }
+-- the text of a stage's arguments makes the kind
+abbrev pub Reads : Arguments → List ℕ → Kind → Type 0
+Reads (OfText make) text kind = make (text_in text) ≡ Some kind
+Reads (OfParts row) text kind = Makes row [] [] text kind
 
--- the row of a name, in any case; `first` says that the stage stands first in its pipeline
-abbrev pub row_of : List ℕ → Bool → Option Row
-row_of name first =
-    if bytes_eq (str_to_ascii_lowercase name) (codes "console") then Some (console_row first)
-    else if bytes_eq (str_to_ascii_lowercase name) (codes "locate") then Some locate_row
-    else None
-
--- the text has the row's arguments that come after these, and they make the kind
-pub data Makes (row : Row) : List Value → List ℕ → Kind → Type 0 where
-  Ended : (values : List Value) (text : List ℕ) (kind : Kind) → IsAtEnd text → row.kind values ≡ Some kind → Makes row values text kind
-  GoesOn : (values : List Value) (text : List ℕ) (value : Value) (rest : List ℕ) (kind : Kind) →
-      IsNext (row.next values) text value rest → Makes row (values ++ value ∷ []) rest kind → Makes row values text kind
-
--- the text doesn't have the row's arguments that come after these, and this is its leftmost fault
-pub data Fails (row : Row) : List Value → List ℕ → TextFault → Type 0 where
-  Lacks : (values : List Value) (text : List ℕ) → IsAtEnd text → row.kind values ≡ None → Fails row values text (record { left = 0; kind = Missing })
-  Stops : (values : List Value) (text : List ℕ) (fault : TextFault) → IsNoNext (row.next values) text fault → Fails row values text fault
-  FailsOn : (values : List Value) (text : List ℕ) (value : Value) (rest : List ℕ) (fault : TextFault) →
-      IsNext (row.next values) text value rest → Fails row (values ++ value ∷ []) rest fault → Fails row values text fault
+-- or has this leftmost fault
+abbrev pub HasFault : Arguments → List ℕ → TextFault → Type 0
+HasFault (OfText make) text fault = (make (text_in text) ≡ None) × (fault ≡ record { left = 0; kind = Missing })
+HasFault (OfParts row) text fault = Fails row [] [] text fault

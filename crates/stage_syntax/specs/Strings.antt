@@ -49,6 +49,10 @@ pub record IsBadHex (text : List ℕ) : Type 0 where
   pub begins : get_or text 0 0 ≡ 120
   pub none : (string rest : List ℕ) → ¬ IsHexadecimalWord text string rest
 
+-- which is a fault at its front
+abbrev pub IsBadHexAt : List ℕ → TextFault → Type 0
+IsBadHexAt text fault = IsBadHex text × (fault ≡ record { left = length text; kind = BadHex })
+
 -- the text begins with a letter other than `x`, or with a digit
 pub record IsOtherWord (text : List ℕ) : Type 0 where
   pub begins : is_ascii_alphanumeric (get_or text 0 0) ≡ true

@@ -1,15 +1,60 @@
+ghost use Rattle.std.specs.Prelude.{◌≡◌, IfOk};
+ghost use Rattle.pipe_model.specs.Straight as Ranges;
+
 use crate::fault::FaultKind;
-use pipe_model::{Range, Rec};
+use pipe_model::{NoMemory, Range, Rec, Span, Times};
+use std::alloc::Global;
+
+/// A keyword, read in any case.
+#[derive(Clone, Copy, Debug, PartialEq, Eq)]
+pub enum Word {
+    First,
+    Last,
+    Both,
+    Leading,
+    Trailing,
+    Left,
+    Right,
+    Upper,
+    Lower,
+    Count,
+    Singles,
+    Multiple,
+    /// `a`
+    Ascending,
+    /// `d`
+    Descending,
+    Lines,
+    Words,
+    Bytes,
+    Fixed,
+    Linend,
+    String,
+    Sf,
+}
 
 /// What may come next among the arguments of a stage.
 #[derive(Clone, Copy, Debug, PartialEq, Eq)]
 pub enum Part {
+    /// A range, before whose numbers a word may say what they count.
     Range,
+    /// A range of columns.
+    Columns,
+    /// A string that isn't empty.
     String,
-    /// A number that isn't less than `least` nor greater than `most`.
-    Number { least: u64, most: u64 },
+    /// A string, which may be empty.
+    AnyString,
+    /// Two strings, either of which may be empty: between three of one delimiter, or a hexadecimal one and another after it.
+    Strings,
     /// A string of length 1.
     Byte,
+    /// A number that isn't less than `least` nor greater than `most`.
+    Number { least: u32, most: u32 },
+    /// A number that isn't greater than 2,147,483,647, or `*`.
+    Times,
+    Word(Word),
+    /// A word of at most 255 bytes.
+    Name,
 }
 
 /// An argument that was read.
@@ -17,8 +62,11 @@ pub enum Part {
 pub enum Value {
     Range(Range),
     String(Rec),
-    Number(u64),
+    Strings(Rec, Rec),
     Byte(u8),
+    Number(u32),
+    Times(Times),
+    Word(Word),
 }
 
 /// A fault in a text, where so many bytes are left of it.
@@ -26,4 +74,22 @@ pub enum Value {
 pub struct TextFault {
     pub left: usize,
     pub kind: FaultKind,
+}
+
+/// The string once more.
+pub fn copy(alloc: Global, string: &Rec) -> Result<Rec, NoMemory>
+    ensures { IfOk result (λ copy. copy ≡ string.now) }
+{
+    Rec::from_slice(alloc, string.bytes())
+}
+
+/// All columns, where no range is given.
+pub fn all_columns() -> Range
+    ensures { result ≡ Ranges.all_columns }
+{
+    Range {
+        span: Span::Columns,
+        first: 1,
+        last: None,
+    }
 }

@@ -2,7 +2,7 @@ ghost use Rattle.std.specs.Prelude.{◌≡◌, ◌≤◌, ℕ, List, length, dro
 ghost use Rattle.stage_syntax.specs.declared.ranges.Spelling.{Spelling};
 ghost use Rattle.stage_syntax.specs.PlainRanges.{IsPlainRange};
 ghost use Rattle.stage_syntax.specs.Ranges.{IsSpelling};
-ghost use Rattle.stage_syntax.specs.RangeWords.{IsNamed, IsNoRange, IsRange, IsRangeMisfit, IsWordFault};
+ghost use Rattle.stage_syntax.specs.RangeWords.{IsBareRange, IsBareRangeFault, IsNamed, IsNoRange, IsRange, IsRangeMisfit, IsUnspelled, IsWordFault};
 
 use crate::digits::first_others;
 use crate::fault::FaultKind;
@@ -44,6 +44,22 @@ pub fn range(text: &[u8]) -> Result<Option<SpelledRange>, TextFault>
         }));
     }
     match range_in(span, numbers, text.len() - name.len())? {
+        Some(range) => Ok(Some(SpelledRange {
+            range,
+            len: word.len(),
+        })),
+        None => Ok(None),
+    }
+}
+
+/// The range of columns that is the first word of a text, or None where that word spells no range.
+pub fn columns(text: &[u8]) -> Result<Option<SpelledRange>, TextFault>
+    ensures within { IfOk result (λ found. IfSome found (λ spelled. spelled.len ≤ length text.now)) }
+    ensures read { IfOk result (λ found. MatchOption found (IsUnspelled text.now) (λ spelled. IsBareRange text.now spelled.range (drop spelled.len text.now))) }
+    ensures refused { IfErr result (IsBareRangeFault text.now) }
+{
+    let (word, _rest) = first_word(text);
+    match range_in(Span::Columns, word, text.len())? {
         Some(range) => Ok(Some(SpelledRange {
             range,
             len: word.len(),

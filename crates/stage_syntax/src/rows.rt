@@ -1,16 +1,19 @@
-ghost use Rattle.std.specs.Prelude.{◌≡◌, [], ◌∷◌, IfOk, IfErr};
-ghost use Rattle.stage_syntax.specs.declared.part.Value.TheVariants as Read;
+ghost use Rattle.std.specs.Prelude.{◌≡◌, Bool, [], ◌∷◌, ◌++◌, OnOk, IfOk, IfErr, None, Some};
+ghost use Rattle.stage_syntax.specs.declared.fault.FaultKind.TheVariants.{Missing};
+ghost use Rattle.stage_syntax.specs.declared.refusal.Refusal.TheVariants as Refused;
 ghost use Rattle.stage_syntax.specs.Kinds.{IsKind, IsNoKind, refusal_placed};
 ghost use Rattle.stage_syntax.specs.Refusals.{Refuses};
-ghost use Rattle.stage_syntax.specs.Rows.{Fails, Makes, console_kind, console_row, locate_row};
+ghost use Rattle.stage_syntax.specs.Rows.{Fails, HasFault, Makes, Reads, text_in};
+ghost use Rattle.stage_syntax.specs.StageForms.{arguments_by, make_in, row_in};
 
 use crate::arg::Arg;
 use crate::fault::{ArgFault, FaultKind, KindFault};
-use crate::next::{Taken, close, next_part, next_string};
-use crate::part::{Part, TextFault, Value};
+use crate::form::{Form, has_text, kind_by, parts_after, text_kind, wrong_of};
+use crate::next::{Argument, next_part};
+use crate::part::{TextFault, Value};
 use crate::refusal::Refusal;
-use crate::text::Spelled;
-use pipe_model::{Kind, Range, Rec, Span};
+use crate::stages::form_named;
+use pipe_model::{Kind, NoMemory};
 use std::alloc::Global;
 
 /// The kind of the stage of this name with this argument; `first` says that it stands first in its pipeline.
@@ -18,14 +21,10 @@ pub fn kind_of(alloc: Global, name: &[u8], arg: &Arg, first: bool) -> Result<Kin
     ensures read { IfOk result (IsKind name.now arg.now first) }
     ensures refused { IfErr result (IsNoKind name.now arg.now first) }
 {
-    let text = arg.bytes();
-    if name.eq_ignore_ascii_case(b"console") {
-        console(alloc, text, first).map_err(|refusal| placed(arg, refusal))
-    } else if name.eq_ignore_ascii_case(b"locate") {
-        locate(alloc, text).map_err(|refusal| placed(arg, refusal))
-    } else {
-        Err(KindFault::Unknown)
-    }
+    let Some(form) = form_named(name) else {
+        return Err(KindFault::Unknown);
+    };
+    arguments_as(alloc, form, first, arg.bytes()).map_err(|refusal| placed(arg, refusal))
 }
 
 // Why nothing was read of an argument's text, with the fault at its place in the specification.
@@ -41,69 +40,75 @@ fn placed(arg: &Arg, refusal: Refusal) -> KindFault
     }
 }
 
-// CONSOLE, which has no arguments.
-fn console(alloc: Global, text: &[u8], first: bool) -> Result<Kind, Refusal>
-    ensures read { IfOk result (Makes (console_row first) [] text.now) }
-    ensures refused { IfErr result (Refuses (Fails (console_row first) [] text.now)) }
+/// The kind that arguments of this form make.
+pub fn arguments_as(alloc: Global, form: Form, first: bool, text: &[u8]) -> Result<Kind, Refusal>
+    ensures read { IfOk result (Reads (arguments_by form first) text.now) }
+    ensures refused { IfErr result (Refuses (HasFault (arguments_by form first) text.now)) }
 {
-    close(text)?;
-    Ok(console_of(alloc, first))
-}
-
-// CONSOLE, first in its pipeline or not, before it has any bytes.
-fn console_of(alloc: Global, first: bool) -> Kind
-    ensures { result ≡ console_kind first }
-{
-    if first {
-        Kind::ConsoleIn {
-            bytes: Rec::from_vec(Vec::new(alloc)),
-        }
+    if has_text(form) {
+        read_text(alloc, form, text)
     } else {
-        Kind::ConsoleOut
+        read_parts(alloc, form, first, text)
     }
 }
 
-// LOCATE [range] [string], of which one is required.
-fn locate(alloc: Global, text: &[u8]) -> Result<Kind, Refusal>
-    ensures read { IfOk result (Makes locate_row [] text.now) }
-    ensures refused { IfErr result (Refuses (Fails locate_row [] text.now)) }
+// The kind that TEXT makes.
+fn read_text(alloc: Global, form: Form, text: &[u8]) -> Result<Kind, Refusal>
+    ensures read { IfOk result (λ kind. (first : Bool) → make_in (arguments_by form first) (text_in text.now) ≡ Some kind) }
+    ensures refused { IfErr result (Refuses (λ fault. (first : Bool) → (make_in (arguments_by form first) (text_in text.now) ≡ None) × (fault ≡ record { left = 0; kind = Missing }))) }
 {
-    let parts = [Part::Range, Part::String];
-    let Some(Taken { value, len }) = next_part(alloc, &parts, text)? else {
-        return Err(Refusal::Fault(TextFault {
-            left: 0,
-            kind: FaultKind::Missing,
-        }));
-    };
-    let rest = &text[len..];
-    match value {
-        Value::Range(range) => locate_in(alloc, range, rest),
-        Value::String(string) => {
-            close(rest)?;
-            Ok(Kind::Locate {
-                range: Range {
-                    span: Span::Columns,
-                    first: 1,
-                    last: None,
-                },
-                text: Some(string),
-            })
-        }
-        Value::Number(_) | Value::Byte(_) => unreachable!(),
+    match text_kind(alloc, form, text)? {
+        Some(kind) => Ok(kind),
+        None => Err(missing()),
     }
 }
 
-// LOCATE after its range.
-fn locate_in(alloc: Global, range: Range, text: &[u8]) -> Result<Kind, Refusal>
-    ensures read { IfOk result (Makes locate_row (Read.Range range ∷ []) text.now) }
-    ensures refused { IfErr result (Refuses (Fails locate_row (Read.Range range ∷ []) text.now)) }
+// A required argument isn't there.
+fn missing() -> Refusal
+    ensures { result ≡ Refused.Fault (record { left = 0; kind = Missing }) }
 {
-    let Some(Spelled { string, len }) = next_string(alloc, text)? else {
-        return Ok(Kind::Locate { range, text: None });
-    };
-    close(&text[len..])?;
-    Ok(Kind::Locate {
-        range,
-        text: Some(string),
+    Refusal::Fault(TextFault {
+        left: 0,
+        kind: FaultKind::Missing,
     })
+}
+
+// The kind that arguments make which are read one after another.
+fn read_parts(alloc: Global, form: Form, first: bool, text: &[u8]) -> Result<Kind, Refusal>
+    ensures read { IfOk result (Makes (row_in (arguments_by form first)) [] [] text.now) }
+    ensures refused { IfErr result (Refuses (Fails (row_in (arguments_by form first)) [] [] text.now)) }
+{
+    let mut values: Vec<Value> = Vec::new(alloc);
+    let mut lefts: Vec<usize> = Vec::new(alloc);
+    let mut rest = text;
+    while let Some(Argument { value, left, len }) = next_part(
+        alloc,
+        parts_after(form, &values),
+        rest,
+    )? {
+        keep(&mut values, &mut lefts, value, left)?;
+        if let Some(fault) = wrong_of(form, &values, &lefts) {
+            return Err(Refusal::Fault(fault));
+        }
+        rest = &rest[len..];
+    }
+    match kind_by(alloc, form, first, &values)? {
+        Some(kind) => Ok(kind),
+        None => Err(missing()),
+    }
+}
+
+// Adds an argument that begins where so many bytes are left.
+fn keep(
+    values: &mut Vec<Value>,
+    lefts: &mut Vec<usize>,
+    value: Value,
+    left: usize,
+) -> Result<(), NoMemory>
+    ensures value { OnOk result (values.new.items ≡ values.old.items ++ value ∷ []) }
+    ensures left { OnOk result (lefts.new.items ≡ lefts.old.items ++ left ∷ []) }
+{
+    values.push(value)?;
+    lefts.push(left)?;
+    Ok(())
 }

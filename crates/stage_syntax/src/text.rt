@@ -1,8 +1,8 @@
-ghost use Rattle.std.specs.Prelude.{◌≡◌, ℕ, List, ◌≢◌, ◌≤◌, length, drop, true, get_or, IfOk, IfErr};
+ghost use Rattle.std.specs.Prelude.{◌≡◌, ℕ, List, ◌≢◌, ◌≤◌, length, drop, true, get_or, IfOk, IfErr, IfSome, MatchOption};
 ghost use Rattle.stage_syntax.specs.declared.fault.FaultKind.{FaultKind};
 ghost use Rattle.std.specs.Char.{is_ascii_alphanumeric};
 ghost use Rattle.stage_syntax.specs.Refusals.{Refuses};
-ghost use Rattle.stage_syntax.specs.Strings.{IsNoString, IsString, IsStringFault, is_delimiter};
+ghost use Rattle.stage_syntax.specs.Strings.{IsBadHexAt, IsHexadecimalWord, IsNoString, IsOtherWord, IsString, IsStringFault, is_delimiter};
 
 use crate::fault::FaultKind;
 use crate::refusal::Refusal;
@@ -37,6 +37,24 @@ fn between_delimiters(alloc: Global, text: &[u8]) -> Result<Spelled, Refusal>
     })
 }
 
+/// The string that a first word of `x` and hexadecimal digits stands for, or None where the word doesn't begin with `x`.
+pub fn hexadecimal_word(alloc: Global, text: &[u8]) -> Result<Option<Spelled>, Refusal>
+    requires begins { is_ascii_alphanumeric (get_or text.now 0 0) ≡ true }
+    ensures within { IfOk result (λ found. IfSome found (λ spelled. spelled.len ≤ length text.now)) }
+    ensures read { IfOk result (λ found. MatchOption found (IsOtherWord text.now) (λ spelled. IsHexadecimalWord text.now spelled.string (drop spelled.len text.now))) }
+    ensures refused { IfErr result (Refuses (IsBadHexAt text.now)) }
+{
+    let (word, _rest) = first_word(text);
+    match hexadecimal(alloc, word)? {
+        Some(string) => Ok(Some(Spelled {
+            string,
+            len: word.len(),
+        })),
+        None if text[0] == b'x' => Err(Refusal::at(text, FaultKind::BadHex)),
+        None => Ok(None),
+    }
+}
+
 // The string that the first word of a text stands for.
 fn of_first_word(alloc: Global, text: &[u8]) -> Result<Spelled, Refusal>
     requires begins { is_ascii_alphanumeric (get_or text.now 0 0) ≡ true }
@@ -44,13 +62,8 @@ fn of_first_word(alloc: Global, text: &[u8]) -> Result<Spelled, Refusal>
     ensures read { IfOk result (λ spelled. IsString text.now spelled.string (drop spelled.len text.now)) }
     ensures refused { IfErr result (Refuses (IsStringFault text.now)) }
 {
-    let (word, _rest) = first_word(text);
-    match hexadecimal(alloc, word)? {
-        Some(string) => Ok(Spelled {
-            string,
-            len: word.len(),
-        }),
-        None if text[0] == b'x' => Err(Refusal::at(text, FaultKind::BadHex)),
+    match hexadecimal_word(alloc, text)? {
+        Some(spelled) => Ok(spelled),
         None => Err(Refusal::at(text, FaultKind::UnknownWord)),
     }
 }

@@ -1,0 +1,35 @@
+-- Keywords, which are read in any case.
+use Rattle.std.specs.Prelude.{◌≡◌, ℕ, List, codes}
+use Rattle.std.specs.Str.{str_to_ascii_lowercase}
+use Rattle.stage_syntax.specs.Words.{IsFirstWord}
+use Rattle.stage_syntax.specs.declared.part.Word.{Word}
+use Rattle.stage_syntax.specs.declared.part.Word.TheVariants as Keys
+
+abbrev pub spelling_of : Word → List ℕ
+spelling_of Keys.First = codes "first"
+spelling_of Keys.Last = codes "last"
+spelling_of Keys.Both = codes "both"
+spelling_of Keys.Leading = codes "leading"
+spelling_of Keys.Trailing = codes "trailing"
+spelling_of Keys.Left = codes "left"
+spelling_of Keys.Right = codes "right"
+spelling_of Keys.Upper = codes "upper"
+spelling_of Keys.Lower = codes "lower"
+spelling_of Keys.Count = codes "count"
+spelling_of Keys.Singles = codes "singles"
+spelling_of Keys.Multiple = codes "multiple"
+spelling_of Keys.Ascending = codes "a"
+spelling_of Keys.Descending = codes "d"
+spelling_of Keys.Lines = codes "lines"
+spelling_of Keys.Words = codes "words"
+spelling_of Keys.Bytes = codes "bytes"
+spelling_of Keys.Fixed = codes "fixed"
+spelling_of Keys.Linend = codes "linend"
+spelling_of Keys.String = codes "string"
+spelling_of Keys.Sf = codes "sf"
+
+-- the first word of the text is the keyword, in any case
+pub record IsKeyword (text : List ℕ) (key : Word) (rest : List ℕ) : Type 0 where
+  pub word : List ℕ
+  pub first : IsFirstWord text word rest
+  pub spells : str_to_ascii_lowercase word ≡ spelling_of key

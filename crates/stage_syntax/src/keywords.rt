@@ -1,0 +1,49 @@
+ghost use Rattle.std.specs.Prelude.{◌≡◌, ◌≤◌, ℕ, List, length, drop, IfSome, MatchOption};
+ghost use Rattle.stage_syntax.specs.Keywords.{IsKeyword, spelling_of};
+
+use crate::part::Word;
+use crate::words::first_word;
+
+impl Word {
+    /// The keyword in lower case.
+    pub fn spelling(self) -> &'static [u8]
+        ensures { result.now ≡ spelling_of self }
+    {
+        match self {
+            Word::First => b"first",
+            Word::Last => b"last",
+            Word::Both => b"both",
+            Word::Leading => b"leading",
+            Word::Trailing => b"trailing",
+            Word::Left => b"left",
+            Word::Right => b"right",
+            Word::Upper => b"upper",
+            Word::Lower => b"lower",
+            Word::Count => b"count",
+            Word::Singles => b"singles",
+            Word::Multiple => b"multiple",
+            Word::Ascending => b"a",
+            Word::Descending => b"d",
+            Word::Lines => b"lines",
+            Word::Words => b"words",
+            Word::Bytes => b"bytes",
+            Word::Fixed => b"fixed",
+            Word::Linend => b"linend",
+            Word::String => b"string",
+            Word::Sf => b"sf",
+        }
+    }
+}
+
+/// How many bytes spell the keyword, in any case, as the first word of a text, or None where another word stands there.
+pub fn keyword(text: &[u8], key: Word) -> Option<usize>
+    ensures within { IfSome result (λ len. len ≤ length text.now) }
+    ensures read { MatchOption result ((rest : List ℕ) → ¬ IsKeyword text.now key rest) (λ len. IsKeyword text.now key (drop len text.now)) }
+{
+    let (word, _rest) = first_word(text);
+    if word.eq_ignore_ascii_case(key.spelling()) {
+        Some(word.len())
+    } else {
+        None
+    }
+}

@@ -1,0 +1,82 @@
+ghost use Rattle.std.specs.Prelude.{◌≡◌, Bool, map, option_map};
+ghost use Rattle.stage_syntax.specs.Names.{arguments_of, named_in, stages};
+ghost use Rattle.stage_syntax.specs.StageForms.{arguments_by, named_as};
+
+use crate::form::Form;
+
+/// The names of stages, whether each can be typed, and the form of its arguments.
+pub const STAGES: [(&[u8], bool, Form); 47] = [
+    (b"console", true, Form::Console),
+    (b"<", false, Form::FileIn),
+    (b">", false, Form::FileOut),
+    (b"literal", false, Form::Literal),
+    (b"hole", false, Form::Hole),
+    (b"locate", true, Form::Locate),
+    (b"nlocate", false, Form::Nlocate),
+    (b"find", false, Form::Find),
+    (b"nfind", false, Form::Nfind),
+    (b"take", false, Form::Take),
+    (b"drop", false, Form::Drop),
+    (b"between", false, Form::Between),
+    (b"inside", false, Form::Inside),
+    (b"tolabel", false, Form::ToLabel),
+    (b"frlabel", false, Form::FrLabel),
+    (b"change", false, Form::Change),
+    (b"strip", false, Form::Strip),
+    (b"chop", false, Form::Chop),
+    (b"pad", false, Form::Pad),
+    (b"split", false, Form::Split),
+    (b"join", false, Form::Join),
+    (b"xlate", false, Form::Xlate),
+    (b"reverse", false, Form::Reverse),
+    (b"duplicate", false, Form::Duplicate),
+    (b"unique", false, Form::Unique),
+    (b"sort", false, Form::Sort),
+    (b"count", false, Form::Count),
+    (b"lookup", false, Form::Lookup),
+    (b"collate", false, Form::Collate),
+    (b"merge", false, Form::Merge),
+    (b"fanout", false, Form::FanOut),
+    (b"fanin", false, Form::FanIn),
+    (b"faninany", false, Form::FanInAny),
+    (b"deal", false, Form::Deal),
+    (b"gather", false, Form::Gather),
+    (b"overlay", false, Form::Overlay),
+    (b"synchronise", false, Form::Synchronise),
+    (b"synchronize", false, Form::Synchronise),
+    (b"juxtapose", false, Form::Juxtapose),
+    (b"gate", false, Form::Gate),
+    (b"dam", false, Form::Dam),
+    (b"elastic", false, Form::Elastic),
+    (b"buffer", false, Form::Buffer),
+    (b"copy", false, Form::Copy),
+    (b"fblock", false, Form::Fblock),
+    (b"block", false, Form::Block),
+    (b"deblock", false, Form::Deblock),
+];
+
+/// The form of the arguments of the stage of this name, in any case, if it can be typed.
+pub fn form_named(name: &[u8]) -> Option<Form>
+    ensures { (first : Bool) → arguments_of name.now first ≡ option_map (λ form. arguments_by form first) result }
+{
+    named_among(listed(), name)
+}
+
+// All stages of the list.
+fn listed() -> &'static [(&'static [u8], bool, Form)]
+    ensures { (first : Bool) → map (named_as first) result.now ≡ stages first }
+{
+    &STAGES
+}
+
+// The form of the first stage of a list that has the name, in any case, and can be typed.
+fn named_among(stages: &[(&[u8], bool, Form)], name: &[u8]) -> Option<Form>
+    ensures { (first : Bool) → named_in (map (named_as first) stages.now) name.now ≡ option_map (λ form. arguments_by form first) result }
+{
+    for (spelled, runs, form) in stages {
+        if *runs && name.eq_ignore_ascii_case(spelled) {
+            return Some(*form);
+        }
+    }
+    None
+}
