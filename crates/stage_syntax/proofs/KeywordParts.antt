@@ -1,5 +1,5 @@
 -- Keywords as parts.
-use Rattle.std.proofs.Common.{◌≡◌, ℕ, List, refl, sym, ap, ◌∙◌}
+use Rattle.std.proofs.Common.{◌≡◌, ℕ, List, refl, ap, ◌∙◌}
 use Rattle.std.specs.Str.{str_to_ascii_lowercase}
 use Rattle.stage_syntax.proofs.FirstWords.{same_word}
 use Rattle.stage_syntax.specs.Keywords.{IsKeyword, spelling_of}
@@ -32,6 +32,6 @@ lower_spelling Keys.String = refl
 lower_spelling Keys.Sf = refl
 
 -- a first word that is another one isn't the keyword
-pub other_word : (text word rest more : List ℕ) (key : Word) → IsFirstWord text word rest → ¬ (str_to_ascii_lowercase word ≡ str_to_ascii_lowercase (spelling_of key)) → ¬ IsKeyword text key more
+pub other_word : (text word rest more : List ℕ) (key : Word) → IsFirstWord text word rest → ¬ (str_to_ascii_lowercase word ≡ spelling_of key) → ¬ IsKeyword text key more
 other_word text word rest more key first other is =
-    other (ap str_to_ascii_lowercase (same_word text word rest is.word more first is.first) ∙ is.spells ∙ sym (lower_spelling key))
+    other (ap str_to_ascii_lowercase (same_word text word rest is.word more first is.first) ∙ is.spells)

@@ -1,4 +1,5 @@
-ghost use Rattle.std.specs.Prelude.{◌≡◌, ◌≤◌, ℕ, List, length, drop, IfSome, MatchOption};
+ghost use Rattle.std.specs.Prelude.{◌≡◌, ◌≤◌, ℕ, List, length, drop, IfSome, MatchOption, IsTrue, ◌↔◌};
+ghost use Rattle.std.specs.Str.{str_to_ascii_lowercase};
 ghost use Rattle.stage_syntax.specs.Keywords.{IsKeyword, spelling_of};
 
 use crate::part::Word;
@@ -41,9 +42,17 @@ pub fn keyword(text: &[u8], key: Word) -> Option<usize>
     ensures read { MatchOption result ((rest : List ℕ) → ¬ IsKeyword text.now key rest) (λ len. IsKeyword text.now key (drop len text.now)) }
 {
     let (word, _rest) = first_word(text);
-    if word.eq_ignore_ascii_case(key.spelling()) {
+    if is_spelled(word, key) {
         Some(word.len())
     } else {
         None
     }
+}
+
+// Whether the word is the keyword, in any case.
+#[tactic(auto, using(crate::proofs::KeywordParts::lower_spelling))]
+fn is_spelled(word: &[u8], key: Word) -> bool
+    ensures { IsTrue result ↔ (str_to_ascii_lowercase word.now ≡ spelling_of key) }
+{
+    word.eq_ignore_ascii_case(key.spelling())
 }

@@ -29,6 +29,8 @@ mod stream_forms;
 mod string_pairs;
 mod strings;
 mod taken;
+#[cfg(test)]
+mod tests;
 mod text;
 mod words;
 

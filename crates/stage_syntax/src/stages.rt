@@ -1,4 +1,5 @@
-ghost use Rattle.std.specs.Prelude.{◌≡◌, Bool, map, option_map};
+ghost use Rattle.std.specs.Prelude.{◌≡◌, Bool, map, option_map, IsTrue, ◌↔◌};
+ghost use Rattle.std.specs.Str.{str_to_ascii_lowercase};
 ghost use Rattle.stage_syntax.specs.Names.{arguments_of, named_in, stages};
 ghost use Rattle.stage_syntax.specs.StageForms.{arguments_by, named_as};
 
@@ -74,9 +75,16 @@ fn named_among(stages: &[(&[u8], bool, Form)], name: &[u8]) -> Option<Form>
     ensures { (first : Bool) → named_in (map (named_as first) stages.now) name.now ≡ option_map (λ form. arguments_by form first) result }
 {
     for (spelled, runs, form) in stages {
-        if *runs && name.eq_ignore_ascii_case(spelled) {
+        if *runs && is_same(name, spelled) {
             return Some(*form);
         }
     }
     None
+}
+
+// Whether two names are one, in any case.
+fn is_same(name: &[u8], spelled: &[u8]) -> bool
+    ensures { IsTrue result ↔ (str_to_ascii_lowercase name.now ≡ str_to_ascii_lowercase spelled.now) }
+{
+    name.eq_ignore_ascii_case(spelled)
 }

@@ -1,0 +1,436 @@
+use crate::stages::STAGES;
+use crate::*;
+use pipe_model::{Cutting, Image, Keep, Kind, Mapping, Range, Rec, Span, Times, Total};
+use std::alloc::Global;
+use std::test::Fail;
+
+// A name, an argument, where the stage stands in its pipeline, and the kind, or a fault's number and place. The first byte
+// of the argument is at place 10, each further byte two places on, and the stage's text ends before place 1000.
+const CASES: &str = "\
+console||first|consolein\n\
+console||later|consoleout\n\
+Console|  |first|consolein\n\
+CONSOLE| x|later|2 at 12\n\
+console| /|first|2 at 12\n\
+locat| /a/|later|unknown\n\
+locates| /a/|later|unknown\n\
+locate| 5 /a/|later|locate columns 5-5 /a/\n\
+LOCATE| /a/|first|locate columns 1-* /a/\n\
+Locate| 5|later|locate columns 5-5\n\
+locate| w5-3|later|9 at 18\n\
+locate| word|later|1 at 1000\n\
+locate| Word  |later|1 at 1000\n\
+locate| word /a/|later|3 at 22\n\
+locate| wordx|later|7 at 12\n\
+locate||later|1 at 1000\n\
+locate|   |later|1 at 1000\n\
+locate| /a/ /b/|later|2 at 20\n\
+locate| /a/  5|later|2 at 22\n\
+locate| xyz|later|8 at 12\n\
+locate| 1 2|later|7 at 16\n\
+locate| 1 x|later|8 at 16\n\
+locate| /a|later|5 at 12\n\
+locate| //|later|6 at 12\n\
+locate| 0|later|4 at 12\n\
+locate| 1-0|later|4 at 16\n\
+locate| 5-3|later|9 at 16\n\
+locate| 1.0|later|4 at 16\n\
+locate| 2.3 /x/|later|locate columns 2-4 /x/\n\
+locate| 1-* x4A4b|later|locate columns 1-* /JK/\n\
+locate| F2 /a/|later|locate fields 2-2 /a/\n\
+locate| fields 1-2|later|locate fields 1-2\n\
+locate| words2.3|later|locate words 2-4\n\
+locate| w 0|later|4 at 16\n\
+locate| w  7-6|later|9 at 22\n\
+locate| 1048576|later|locate columns 1048576-1048576\n\
+locate| 1048577|later|4 at 12\n\
+locate| 1.1048577|later|4 at 16\n\
+locate| /a/b|later|2 at 18\n\
+locate| *a*|later|locate columns 1-* /a/\n\
+locate| x4|later|8 at 12\n\
+locate| X41|later|7 at 12\n\
+locate| 00000000001|later|7 at 12\n\
+locate| w5x|later|7 at 12\n\
+locate| 5/a/|later|7 at 12\n\
+locate| 5- /a/|later|7 at 12\n\
+locate| 4294967296-5|later|4 at 12\n\
+locate| , a b,|later|locate columns 1-* / a b/\n\
+locate| 3 /x/y|later|2 at 22";
+
+#[test]
+fn names_and_arguments_have_their_kinds(rt: HostRuntime) -> Result<(), Fail> {
+    let alloc = rt.alloc();
+    for case in CASES.split('\n') {
+        let mut cells = case.split('|');
+        let name = cells.next().unwrap_or("");
+        let text = cells.next().unwrap_or("");
+        let first = cells.next() == Some("first");
+        let expected = cells.next().unwrap_or("");
+        let arg = spaced(alloc, text.as_bytes())?;
+        let kind = kind_of(alloc, name.as_bytes(), &arg, first);
+        assert_eq!(rt; shown(alloc, &kind)?.as_str(), expected, "{case}");
+    }
+    Ok(())
+}
+
+// What may come next, a text, and what was read with how many bytes spell it, or a fault's number and how many bytes are left
+// at it. A number is 1 to 10.
+const NEXT_CASES: &str = "\
+number|5|number 5 of 1\n\
+number|  10 /a/|number 10 of 4\n\
+number|11|4 before 2\n\
+number| 0 1|4 before 3\n\
+number|00000000001|3 before 11\n\
+number|x|3 before 1\n\
+number|5x|3 before 2\n\
+number|  |end\n\
+byte|/a/|byte 97 of 3\n\
+byte|/ab/|4 before 4\n\
+byte|//|6 before 2\n\
+byte|x41|byte 65 of 3\n\
+byte|x4142|4 before 5\n\
+byte|/a|5 before 2\n\
+byte|5|7 before 1\n\
+either|7|number 7 of 1\n\
+either| ,b,c|byte 98 of 4\n\
+either|11|4 before 2\n\
+either|q|7 before 1\n\
+either|x4|8 before 2";
+
+#[test]
+fn numbers_and_bytes_are_read(rt: HostRuntime) -> Result<(), Fail> {
+    let alloc = rt.alloc();
+    let number = Part::Number { least: 1, most: 10 };
+    for case in NEXT_CASES.split('\n') {
+        let mut cells = case.split('|');
+        let asked = cells.next().unwrap_or("");
+        let text = cells.next().unwrap_or("").as_bytes();
+        let expected = cells.next().unwrap_or("");
+        let next = match asked {
+            "number" => next_part(alloc, &[number], text),
+            "byte" => next_part(alloc, &[Part::Byte], text),
+            _ => next_part(alloc, &[number, Part::Byte], text),
+        };
+        assert_eq!(rt; next_shown(alloc, &next)?.as_str(), expected, "{case}");
+    }
+    Ok(())
+}
+
+// What comes next, as a case shows it.
+fn next_shown(alloc: Global, next: &Result<Option<Argument>, Refusal>) -> Result<String, Fail> {
+    Ok(match next {
+        Ok(None) => format!(in alloc; "end")?,
+        Ok(Some(taken)) => {
+            let len = taken.len;
+            match &taken.value {
+                Value::Number(value) => format!(in alloc; "number {value} of {len}")?,
+                Value::Byte(byte) => format!(in alloc; "byte {byte} of {len}")?,
+                _ => format!(in alloc; "another value")?,
+            }
+        }
+        Err(Refusal::Fault(fault)) => {
+            let number = fault.kind.number();
+            let left = fault.left;
+            format!(in alloc; "{number} before {left}")?
+        }
+        Err(Refusal::NoMemory) => format!(in alloc; "no memory")?,
+    })
+}
+
+// A stage, the text of its arguments, and its kind, or a fault's number and how many bytes are left at it.
+const ROW_CASES: &str = "\
+<| in.txt |filein /in.txt/\n\
+<| |1 before 0\n\
+<| a b|2 before 1\n\
+literal|  two|literal / two/\n\
+literal||literal //\n\
+literal| |literal //\n\
+find| |1 before 0\n\
+frlabel| |frlabel //\n\
+frlabel||1 before 0\n\
+take||takefirst 1\n\
+take| LAST *|takelast *\n\
+take| First 3|takefirst 3\n\
+take| 2 3|2 before 1\n\
+take| 2147483648|4 before 10\n\
+take| x|3 before 1\n\
+drop| last|droplast 1\n\
+change| /a/b/|change columns 1-* /a/ /b/ *\n\
+change| 2.3 x61 // 1|change columns 2-4 /a/ // 1\n\
+change| ///|change columns 1-* // // *\n\
+change| w2 /a/b/|7 before 8\n\
+change| 0 /a/b/|4 before 7\n\
+change| x61  |1 before 0\n\
+change| x61 q|7 before 1\n\
+change| x61 /q|5 before 2\n\
+change| x61 xq|8 before 2\n\
+change| x6 /a/|8 before 6\n\
+change| /a/b|5 before 4\n\
+change| 5|1 before 0\n\
+strip| BOTH|strip true true / /\n\
+strip| leading ,ab,|strip true false /ab/\n\
+strip| /x/|strip true true /x/\n\
+chop||chop 80\n\
+chop| 0|chop 0\n\
+chop| 1048577|4 before 7\n\
+pad| 5|pad false 5 32\n\
+pad| Left 5 /x/|pad true 5 120\n\
+pad| 5 /xy/|4 before 4\n\
+pad| left|1 before 0\n\
+pad| left right|3 before 5\n\
+join| * //|join * //\n\
+join| *|join * //\n\
+join| *a*|join 1 /a/\n\
+join| 5000000000|4 before 10\n\
+xlate||xlate upper\n\
+xlate| Lower|xlate lower\n\
+xlate| /ab/ x4142|xlate /ab/ /AB/\n\
+xlate| /ab/ /c/ 5|4 before 5\n\
+unique||unique false columns 1-* last\n\
+unique| count w2|unique true words 2-2 last\n\
+unique| COUNT w2 LAST|unique true words 2-2 last\n\
+unique| count first|7 before 11\n\
+unique| count w2 singles|7 before 16\n\
+unique| 5 singles|unique false columns 5-5 singles\n\
+unique| f|1 before 0\n\
+sort||sort columns 1-* false\n\
+sort| 1.2 d w3|sort columns 1-2 true words 3-3 false\n\
+sort| 1 A D|3 before 1\n\
+sort| a|3 before 1\n\
+sort| 1 1 1 1 1 1 1 1 1 1 1|7 before 1\n\
+count| words Bytes|count words bytes\n\
+count| words Words|7 before 5\n\
+count||1 before 0\n\
+lookup| 1 w2|lookup columns 1-1 words 2-2\n\
+lookup| 3|lookup columns 3-3 columns 3-3\n\
+overlay| x41|overlay 65\n\
+overlay||overlay 32\n\
+gate| x|2 before 1\n\
+block| 80 string /x/|block 80 /x/\n\
+block| 80 SF|block 80 sf\n\
+block| 80|1 before 0\n\
+block| 0 sf|4 before 4\n\
+deblock| fixed 10|deblock 10\n\
+deblock| String // |6 before 3";
+
+#[test]
+fn arguments_of_each_form_are_read(rt: HostRuntime) -> Result<(), Fail> {
+    let alloc = rt.alloc();
+    for case in ROW_CASES.split('\n') {
+        let mut cells = case.split('|');
+        let name = cells.next().unwrap_or("").as_bytes();
+        let text = cells.next().unwrap_or("").as_bytes();
+        let expected = cells.next().unwrap_or("");
+        let mut known = false;
+        for (spelled, _, form) in &STAGES {
+            if name == *spelled {
+                known = true;
+                let read = arguments_as(alloc, *form, false, text);
+                assert_eq!(rt; read_shown(alloc, &read)?.as_str(), expected, "{case}");
+            }
+        }
+        assert!(rt; known, "{case}");
+    }
+    Ok(())
+}
+
+// What the arguments of a stage are, as a case shows it.
+fn read_shown(alloc: Global, read: &Result<Kind, Refusal>) -> Result<String, Fail> {
+    match read {
+        Ok(kind) => kind_shown(alloc, kind),
+        Err(Refusal::Fault(fault)) => {
+            let number = fault.kind.number();
+            let left = fault.left;
+            Ok(format!(in alloc; "{number} before {left}")?)
+        }
+        Err(Refusal::NoMemory) => Ok(format!(in alloc; "no memory")?),
+    }
+}
+
+fn string_shown(alloc: Global, string: &Rec) -> Result<String, Fail> {
+    let string = String::from_utf8_lossy(alloc, string.bytes())?;
+    Ok(format!(in alloc; "/{string}/")?)
+}
+
+fn times_shown(alloc: Global, times: Times) -> Result<String, Fail> {
+    Ok(match times {
+        Times::Only(n) => format!(in alloc; "{n}")?,
+        Times::All => format!(in alloc; "*")?,
+    })
+}
+
+fn range_shown(alloc: Global, range: Range) -> Result<String, Fail> {
+    let span = match range.span {
+        Span::Columns => "columns",
+        Span::Words => "words",
+        Span::Fields => "fields",
+    };
+    let first = range.first;
+    Ok(match range.last {
+        Some(last) => format!(in alloc; "{span} {first}-{last}")?,
+        None => format!(in alloc; "{span} {first}-*")?,
+    })
+}
+
+fn kind_shown(alloc: Global, kind: &Kind) -> Result<String, Fail> {
+    Ok(match kind {
+        Kind::FileIn { name, .. } => {
+            let name = string_shown(alloc, name)?;
+            format!(in alloc; "filein {name}")?
+        }
+        Kind::Literal { text } => {
+            let text = string_shown(alloc, text)?;
+            format!(in alloc; "literal {text}")?
+        }
+        Kind::FrLabel { text } => {
+            let text = string_shown(alloc, text)?;
+            format!(in alloc; "frlabel {text}")?
+        }
+        Kind::TakeFirst(times) => {
+            let times = times_shown(alloc, *times)?;
+            format!(in alloc; "takefirst {times}")?
+        }
+        Kind::TakeLast(times) => {
+            let times = times_shown(alloc, *times)?;
+            format!(in alloc; "takelast {times}")?
+        }
+        Kind::DropLast(times) => {
+            let times = times_shown(alloc, *times)?;
+            format!(in alloc; "droplast {times}")?
+        }
+        Kind::Chop(n) => format!(in alloc; "chop {n}")?,
+        Kind::Pad { left, width, fill } => format!(in alloc; "pad {left} {width} {fill}")?,
+        Kind::Overlay(byte) => format!(in alloc; "overlay {byte}")?,
+        Kind::Deblock(Cutting::Fixed(n)) => format!(in alloc; "deblock {n}")?,
+        _ => longer_shown(alloc, kind)?,
+    })
+}
+
+fn longer_shown(alloc: Global, kind: &Kind) -> Result<String, Fail> {
+    Ok(match kind {
+        Kind::Change {
+            range,
+            sought,
+            put,
+            times,
+        } => {
+            let range = range_shown(alloc, *range)?;
+            let sought = string_shown(alloc, sought)?;
+            let put = string_shown(alloc, put)?;
+            let times = times_shown(alloc, *times)?;
+            format!(in alloc; "change {range} {sought} {put} {times}")?
+        }
+        Kind::Strip {
+            leading,
+            trailing,
+            set,
+        } => {
+            let set = string_shown(alloc, set)?;
+            format!(in alloc; "strip {leading} {trailing} {set}")?
+        }
+        Kind::Join { more, between } => {
+            let more = times_shown(alloc, *more)?;
+            let between = string_shown(alloc, between)?;
+            format!(in alloc; "join {more} {between}")?
+        }
+        Kind::Lookup { details, masters } => {
+            let details = range_shown(alloc, *details)?;
+            let masters = range_shown(alloc, *masters)?;
+            format!(in alloc; "lookup {details} {masters}")?
+        }
+        Kind::Unique { count, range, keep } => {
+            let range = range_shown(alloc, *range)?;
+            let keep = match keep {
+                Keep::First => "first",
+                Keep::Last => "last",
+                Keep::Singles => "singles",
+                Keep::Multiple => "multiple",
+            };
+            format!(in alloc; "unique {count} {range} {keep}")?
+        }
+        _ => list_shown(alloc, kind)?,
+    })
+}
+
+fn list_shown(alloc: Global, kind: &Kind) -> Result<String, Fail> {
+    Ok(match kind {
+        Kind::Xlate(Mapping::Upper) => format!(in alloc; "xlate upper")?,
+        Kind::Xlate(Mapping::Lower) => format!(in alloc; "xlate lower")?,
+        Kind::Xlate(Mapping::Bytes(first, second)) => {
+            let first = string_shown(alloc, first)?;
+            let second = string_shown(alloc, second)?;
+            format!(in alloc; "xlate {first} {second}")?
+        }
+        Kind::Block { size, image } => {
+            let image = match image {
+                Image::Fixed => format!(in alloc; "fixed")?,
+                Image::Linend => format!(in alloc; "linend")?,
+                Image::Text(string) => string_shown(alloc, string)?,
+                Image::Sf => format!(in alloc; "sf")?,
+            };
+            format!(in alloc; "block {size} {image}")?
+        }
+        Kind::Sort(keys) => {
+            let mut shown = format!(in alloc; "sort")?;
+            for key in keys.as_slice() {
+                let range = range_shown(alloc, key.range)?;
+                let descending = key.descending;
+                shown = format!(in alloc; "{shown} {range} {descending}")?;
+            }
+            shown
+        }
+        Kind::Count(totals) => {
+            let mut shown = format!(in alloc; "count")?;
+            for total in totals.as_slice() {
+                let total = match total {
+                    Total::Lines => "lines",
+                    Total::Words => "words",
+                    Total::Bytes => "bytes",
+                };
+                shown = format!(in alloc; "{shown} {total}")?;
+            }
+            shown
+        }
+        _ => format!(in alloc; "another kind")?,
+    })
+}
+
+// The argument of these bytes, each plain and two places after the one before it.
+fn spaced(alloc: Global, bytes: &[u8]) -> Result<Arg, Fail> {
+    let mut plain = Vec::new(alloc);
+    let mut places = Vec::new(alloc);
+    let mut place: u32 = 10;
+    for _ in bytes {
+        plain.push(true)?;
+        places.push(place)?;
+        place = place.wrapping_add(2);
+    }
+    Ok(Arg::from_parts(Vec::from_slice(alloc, bytes)?, plain, places, 1000))
+}
+
+// What was read, as a case shows it.
+fn shown(alloc: Global, read: &Result<Kind, KindFault>) -> Result<String, Fail> {
+    Ok(match read {
+        Ok(Kind::ConsoleIn { .. }) => format!(in alloc; "consolein")?,
+        Ok(Kind::ConsoleOut) => format!(in alloc; "consoleout")?,
+        Ok(Kind::Locate { range, text }) => {
+            let range = range_shown(alloc, *range)?;
+            let range = format!(in alloc; "locate {range}")?;
+            match text {
+                Some(string) => {
+                    let string = string_shown(alloc, string)?;
+                    format!(in alloc; "{range} {string}")?
+                }
+                None => range,
+            }
+        }
+        Ok(_) => format!(in alloc; "another kind")?,
+        Err(KindFault::Unknown) => format!(in alloc; "unknown")?,
+        Err(KindFault::Argument(fault)) => {
+            let number = fault.kind.number();
+            let place = fault.place;
+            format!(in alloc; "{number} at {place}")?
+        }
+        Err(KindFault::NoMemory) => format!(in alloc; "no memory")?,
+    })
+}
