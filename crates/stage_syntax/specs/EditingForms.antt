@@ -44,7 +44,7 @@ change = OfParts (row before_change of_change)
 -- STRIP: [BOTH, LEADING or TRAILING] [string]
 abbrev pub before_strip : List Value → List Part
 before_strip [] = Asked.Word Both ∷ (Asked.Word Leading ∷ (Asked.Word Trailing ∷ (Asked.String ∷ [])))
-before_strip (Read.Word word ∷ []) = Asked.String ∷ []
+before_strip (Read.Word _ ∷ []) = Asked.String ∷ []
 before_strip _ = []
 
 abbrev pub of_strip : List Value → Option Kind

@@ -81,7 +81,7 @@ key_of range descending = record { range = range; descending = descending }
 abbrev pub keys_of : List Value → Option (List SortKey)
 keys_of [] = Some []
 keys_of (Read.Range range ∷ (Read.Word Descending ∷ values)) = option_map (λ keys. key_of range true ∷ keys) (keys_of values)
-keys_of (Read.Range range ∷ (Read.Word word ∷ values)) = option_map (λ keys. key_of range false ∷ keys) (keys_of values)
+keys_of (Read.Range range ∷ (Read.Word _ ∷ values)) = option_map (λ keys. key_of range false ∷ keys) (keys_of values)
 keys_of (Read.Range range ∷ values) = option_map (λ keys. key_of range false ∷ keys) (keys_of values)
 keys_of _ = None
 

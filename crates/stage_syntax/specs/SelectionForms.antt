@@ -50,7 +50,7 @@ nfind = OfText (of_some_text Kinds.Nfind)
 -- TAKE and DROP: [FIRST or LAST] [n or *]
 abbrev pub before_end : List Value → List Part
 before_end [] = Asked.Word First ∷ (Asked.Word Last ∷ (Asked.Times ∷ []))
-before_end (Read.Word word ∷ []) = Asked.Times ∷ []
+before_end (Read.Word _ ∷ []) = Asked.Times ∷ []
 before_end _ = []
 
 abbrev pub of_end : (Times → Kind) → (Times → Kind) → List Value → Option Kind
