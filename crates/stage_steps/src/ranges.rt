@@ -16,6 +16,7 @@ fn width(first: u32, last: u32) -> usize
 }
 
 // The columns of a record.
+#[inline(always)]
 fn columns(rec: &[u8], first: u32, last: Option<u32>) -> &[u8]
     ensures { result.now ≡ between first last rec.now }
 {
@@ -159,6 +160,7 @@ fn words(rec: &[u8], first: u32, last: Option<u32>) -> &[u8]
 }
 
 /// The part of a record that a range names.
+#[inline(always)]
 pub fn part_of(range: Range, rec: &[u8]) -> &[u8]
     ensures { result.now ≡ part_of range rec.now }
 {
