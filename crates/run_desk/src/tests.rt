@@ -1,4 +1,5 @@
-ghost use Rattle.std.specs.Prelude.{◌≡◌, ◌<◌, ◌^◌, ◌∷◌, [], length, IfOk, MatchResult};
+ghost use Rattle.std.specs.Prelude.{◌≡◌, ◌<◌, ◌^◌, ◌∷◌, [], length, IfOk, MatchResult, true, false};
+ghost use Rattle.pipe_model.specs.declared.kind.Kind.TheVariants.{ConsoleIn, ConsoleOut};
 ghost use Rattle.confluence_laws.specs.Examples.{strand, filtering, link, locate};
 
 use crate::{Ask, Desk, Doors, Seat, tells_the_licence, wants_early_levels};
@@ -182,18 +183,38 @@ fn strand(
     })
 }
 
-fn located(alloc: Global, string: &[u8]) -> Result<Kind, NoMemory>
-    ensures { IfOk result (λ kind. kind ≡ locate string.now) }
+// CONSOLE at the front, with its bytes.
+fn reader(alloc: Global, bytes: &[u8]) -> Result<Strand, NoMemory>
+    ensures { IfOk result (λ made. made ≡ strand 0 (ConsoleIn bytes.now) [] (true ∷ [])) }
+{
+    let bytes = Rec::from_slice(alloc, bytes)?;
+    strand(alloc, 0, Kind::ConsoleIn { bytes }, &[], &[true])
+}
+
+// LOCATE of a string, in the whole record.
+fn selector(alloc: Global, number: u32, string: &[u8]) -> Result<Strand, NoMemory>
+    ensures { IfOk result (λ made. made ≡ strand number (locate string.now) (true ∷ []) (true ∷ [])) }
 {
     let range = Range {
         span: Span::Columns,
         first: 1,
         last: None,
     };
-    Ok(Kind::Locate {
-        range,
-        text: Some(Rec::from_slice(alloc, string)?),
-    })
+    let text = Some(Rec::from_slice(alloc, string)?);
+    strand(
+        alloc,
+        number,
+        Kind::Locate { range, text },
+        &[true],
+        &[true],
+    )
+}
+
+// CONSOLE at the end.
+fn writer(alloc: Global, number: u32) -> Result<Strand, NoMemory>
+    ensures { IfOk result (λ made. made ≡ strand number ConsoleOut (true ∷ []) (false ∷ [])) }
+{
+    strand(alloc, number, Kind::ConsoleOut, &[true], &[false])
 }
 
 const fn rendezvous(from: u32, to: u32) -> Link
@@ -212,11 +233,10 @@ const fn rendezvous(from: u32, to: u32) -> Link
 fn filtering_net(alloc: Global) -> Result<Net, NoMemory>
     ensures { IfOk result (λ net. net ≡ filtering) }
 {
-    let bytes = Rec::from_slice(alloc, b"ab\ncd\nb")?;
-    let reader = strand(alloc, 0, Kind::ConsoleIn { bytes }, &[], &[true])?;
-    let selector = strand(alloc, 1, located(alloc, b"b")?, &[true], &[true])?;
-    let writer = strand(alloc, 2, Kind::ConsoleOut, &[true], &[false])?;
-    let strands = vec![in alloc; reader, selector, writer]?;
+    let first = reader(alloc, b"ab\ncd\nb")?;
+    let second = selector(alloc, 1, b"b")?;
+    let last = writer(alloc, 2)?;
+    let strands = vec![in alloc; first, second, last]?;
     let links = vec![in alloc; rendezvous(0, 1), rendezvous(1, 2)]?;
     Ok(Net {
         strands: Strands::from_vec(strands),

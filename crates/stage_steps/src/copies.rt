@@ -38,7 +38,7 @@ impl Lists for Copies {
 
     fn begin(&mut self) {}
 
-#[inline(always)]
+    #[inline(always)]
     fn see(&mut self, _alloc: Global, _bytes: &[u8]) -> Result<(), NoMemory> {
         self.waiting = Some(0);
         Ok(())
@@ -48,22 +48,22 @@ impl Lists for Copies {
         Ok(())
     }
 
-#[inline(always)]
+    #[inline(always)]
     fn next(&mut self, _alloc: Global) -> Result<Option<Group>, NoMemory> {
         Ok(take_waiting(&mut self.waiting))
     }
 
-#[inline(always)]
+    #[inline(always)]
     fn halts(&self) -> bool {
         false
     }
 
-#[inline(always)]
+    #[inline(always)]
     fn stops(&self) -> bool {
         false
     }
 
-#[inline(always)]
+    #[inline(always)]
     fn code(&self) -> i32 {
         0
     }

@@ -56,7 +56,7 @@ impl<L: Lists> Stage for Listed<L> {
     }
 
     // It may be told any event; what isn't answered ends it.
-#[inline(always)]
+    #[inline(always)]
     fn resume(&mut self, alloc: Global, seen: Seen, bytes: &[u8]) -> Result<Want, NoMemory>
         ensures { IfOk result (λ asked. Resumes (λ x s h. ListedStands L.stands L.is_looking x s h) self.old self.new seen bytes.now asked) }
     {

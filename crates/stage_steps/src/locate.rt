@@ -32,7 +32,7 @@ impl Locates {
     }
 
     // Whether it selects a record.
-#[inline(always)]
+    #[inline(always)]
     fn selects(&self, rec: &[u8]) -> bool
         ensures { result ≡ locates self.now.range self.now.text rec.now }
     {
@@ -44,7 +44,7 @@ impl Locates {
     }
 
     // The output that a record goes on.
-#[inline(always)]
+    #[inline(always)]
     fn output(&self, rec: &[u8]) -> u16
         ensures { result ≡ (if locates self.now.range self.now.text rec.now then 0 else 1) }
     {
@@ -65,7 +65,7 @@ impl Lists for Locates {
 
     fn begin(&mut self) {}
 
-#[inline(always)]
+    #[inline(always)]
     fn see(&mut self, _alloc: Global, bytes: &[u8]) -> Result<(), NoMemory> {
         self.waiting = Some(self.output(bytes));
         Ok(())
@@ -75,22 +75,22 @@ impl Lists for Locates {
         Ok(())
     }
 
-#[inline(always)]
+    #[inline(always)]
     fn next(&mut self, _alloc: Global) -> Result<Option<Group>, NoMemory> {
         Ok(take_waiting(&mut self.waiting))
     }
 
-#[inline(always)]
+    #[inline(always)]
     fn halts(&self) -> bool {
         false
     }
 
-#[inline(always)]
+    #[inline(always)]
     fn stops(&self) -> bool {
         false
     }
 
-#[inline(always)]
+    #[inline(always)]
     fn code(&self) -> i32 {
         0
     }

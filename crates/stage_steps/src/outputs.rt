@@ -32,7 +32,7 @@ impl Outputs {
     }
 
     // Whether this output is open.
-#[inline(always)]
+    #[inline(always)]
     fn is_open(&self, output: u16) -> bool
         ensures { result ≡ flag_at self.now.flags.items output }
     {
@@ -51,7 +51,7 @@ impl Outputs {
     }
 
     // Closes the output that an event refuses.
-#[inline(always)]
+    #[inline(always)]
     pub(crate) fn note(&mut self, seen: Seen)
         ensures flags { self.new.flags.items ≡ open_after seen self.old.flags.items }
         ensures connected { self.new.connected ≡ self.old.connected }
