@@ -9,7 +9,8 @@ use Rattle.pipe_model.specs.Row.{Act, Goal}
 use Rattle.pipe_model.specs.Row.Act.{Writes, Repeats, Takes}
 use Rattle.pipe_model.specs.Row.Goal.{Asks, Ends}
 use Rattle.pipe_model.specs.Table.{form}
-use Rattle.pipe_model.specs.Next.{Phase, Past, is_live, after, past_by, want_in, next, IsOwn}
+use Rattle.pipe_model.specs.Next.{Phase, Past, is_live, refused_after, past_by, want_in, next, IsOwn}
+use Rattle.pipe_model.proofs.Pasts.{after}
 use Rattle.pipe_model.specs.Members.{has, flag_at}
 use Rattle.pipe_model.specs.Next.Phase.{Starting, Doing, Lost}
 use Rattle.pipe_model.specs.Alone.{Given, takes_more, IsAllAlone}
@@ -34,11 +35,16 @@ module _ (s : Strand) (plain : IsPlainStrand s) (g : Given) (unlimited : (o : �
     known = x.known;
     refused = x.refused;
     now = Lost;
-    past = ap (λ p. after (form s).row s.ports.has_output p p.phase e) (x.past ∙ ap (mk x.known x.refused) ends);
+    past = ap (λ p. after (form s).row s.ports.has_output p p.phase e) (x.past ∙ ap (mk x.known x.refused) ends) ∙ ap (λ z. mk x.known z Lost) (not_refused e (subst (λ z. answers (want_in z) e ≡ true) ends still));
     all_refused = x.all_refused;
     over = inr refl;
   }
     where
+      -- an end refuses nothing
+      not_refused : (e : Event) → answers (Some (Done (pos 0))) e ≡ true → refused_after x.refused e ≡ x.refused
+      not_refused (Ended code) _ = refl
+      not_refused _ it = cc
+
       still : answers (want_in x.now) e ≡ true
       still = subst (λ (p : Past). answers (want_in p.phase) e ≡ true) x.past (still_wants s h e fits)
 

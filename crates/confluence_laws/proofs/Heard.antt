@@ -4,7 +4,8 @@ use Rattle.pipe_model.specs.Event.{Event, Want, answers}
 use Rattle.pipe_model.specs.Event.Event.{Refused}
 use Rattle.pipe_model.specs.Event.Want.{Commit, Read, Any, Gate, Take, Write, Prime, Issue, Join, Sever, Done}
 use Rattle.pipe_model.specs.Row.{Known, Row}
-use Rattle.pipe_model.specs.Next.{Past, known_after, begins_plan, after_answer}
+use Rattle.pipe_model.specs.Next.{Past, hears, begins_plan}
+use Rattle.pipe_model.proofs.Pasts.{after_answer}
 use Rattle.confluence_laws.proofs.Facts.{IsFiniteLook}
 
 -- no look of a finite row is answered by a refusal
@@ -23,6 +24,6 @@ never_refused k (Done code) o finite it = absurd finite
 
 -- so it goes on by its plan
 pub heard_plain : (w : Row) (outputs : List Bool) (p : Past) (want : Want) (e : Event) → IsFiniteLook p.known want → answers (Some want) e ≡ true →
-    after_answer w outputs p e ≡ record { known = known_after p.known e; refused = p.refused; phase = begins_plan outputs p.refused (w.plan (known_after p.known e)) }
+    after_answer w outputs p e ≡ record { known = hears p.known e; refused = p.refused; phase = begins_plan outputs p.refused (w.plan (hears p.known e)) }
 heard_plain w outputs p want (Refused o) finite it = absurd (never_refused p.known want o finite it)
 heard_plain w outputs p want _ finite it = refl

@@ -10,7 +10,7 @@ use Rattle.pipe_model.specs.Row.Goal.{Asks}
 use Rattle.pipe_model.specs.Shape.{row, ends, each_record, copied, first_plan, gate_plan, dam_plan, row_of}
 use Rattle.pipe_model.specs.Shape.Order.{WritesFirst}
 use Rattle.pipe_model.specs.Shape.Shape.{Dams}
-use Rattle.pipe_model.specs.Next.{known_after}
+use Rattle.pipe_model.specs.Next.{hears}
 use Rattle.pipe_model.specs.Members.{has}
 use Rattle.confluence_laws.proofs.Facts.{Fits, IsLook, IsSound, IsFiniteRow, IsFiniteLook, NoRepeats, LooksAtAny, LooksAtGate, AsksDam}
 use Rattle.confluence_laws.proofs.SoundActs.{fits_writes, no_repeats, sees_new, without_new}
@@ -29,9 +29,9 @@ module _ (outs : List Pair → List Pair) where
     goes = λ k want e a it. goes k want e a;
   }
     where
-      goes : (k : Known) (want : Want) (e : Event) → LooksAtAny k want → Fits LooksAtAny (known_after k e) (first_plan outs (known_after k e) (known_after k e).told).acts (first_plan outs (known_after k e) (known_after k e).told).goal
+      goes : (k : Known) (want : Want) (e : Event) → LooksAtAny k want → Fits LooksAtAny (hears k e) (first_plan outs (hears k e) (hears k e).told).acts (first_plan outs (hears k e) (hears k e).told).goal
       goes k want (Saw i rec) a =
-          let now = known_after k (Saw i rec) in
+          let now = hears k (Saw i rec) in
           fits_writes LooksAtAny now (outs now.seen) (Takes i ∷ []) (Asks Any) (sees_new (without i k.sight) i rec, record { want_is = refl; sight = without_new k.sight i rec a.sight; ends = a.ends; goes_on = a.goes_on })
       goes k want _ a = tt
 
@@ -39,7 +39,7 @@ module _ (outs : List Pair → List Pair) where
   pub first_finite : IsFiniteRow LooksAtAny first_row
   first_finite = record { looks = λ k want a. subst (IsFiniteLook k) (sym a.want_is) tt; starts = tt; goes = λ k want e a it. goes k e }
     where
-      goes : (k : Known) (e : Event) → NoRepeats (first_plan outs (known_after k e) (known_after k e).told).acts
+      goes : (k : Known) (e : Event) → NoRepeats (first_plan outs (hears k e) (hears k e).told).acts
       goes k (Saw i rec) = no_repeats (outs (k.seen ++ (i, rec) ∷ [])) (Takes i ∷ []) tt
       goes k _ = tt
 
@@ -51,9 +51,9 @@ gate_sound reach = record {
   goes = λ k want e a it. goes k want e a;
 }
   where
-    goes : (k : Known) (want : Want) (e : Event) → LooksAtGate k want → Fits LooksAtGate (known_after k e) (gate_plan (known_after k e).told).acts (gate_plan (known_after k e).told).goal
+    goes : (k : Known) (want : Want) (e : Event) → LooksAtGate k want → Fits LooksAtGate (hears k e) (gate_plan (hears k e).told).acts (gate_plan (hears k e).told).goal
     goes k want (Saw i rec) a =
-        elim (i == 0) as (λ b. (λ (plan : Plan). Fits LooksAtGate (known_after k (Saw i rec)) plan.acts plan.goal) (cond b (ends (pos 0)) (record { acts = Writes i rec ∷ Takes i ∷ []; goal = Asks Gate }))) [
+        elim (i == 0) as (λ b. (λ (plan : Plan). Fits LooksAtGate (hears k (Saw i rec)) plan.acts plan.goal) (cond b (ends (pos 0)) (record { acts = Writes i rec ∷ Takes i ∷ []; goal = Asks Gate }))) [
           | true ↦ tt
           | false ↦ (sees_new (without i k.sight) i rec, record { want_is = refl; sight = without_new k.sight i rec a.sight; goes_on = a.goes_on })
         ]
@@ -87,7 +87,7 @@ later_sound = record {
   goes = λ k want e a it. goes k want e a;
 }
   where
-    goes : (k : Known) (want : Want) (e : Event) → AsksDam k want → Fits AsksDam (known_after k e) (dam_plan (known_after k e) (known_after k e).told).acts (dam_plan (known_after k e) (known_after k e).told).goal
+    goes : (k : Known) (want : Want) (e : Event) → AsksDam k want → Fits AsksDam (hears k e) (dam_plan (hears k e) (hears k e).told).acts (dam_plan (hears k e) (hears k e).told).goal
     goes k want (Primed true) a = record { want_is = inl refl; sight = a.sight; ends = a.ends; goes_on = a.goes_on }
     goes k want (Primed false) a = tt
     goes k want (Saw i rec) a = (sees_new (without i k.sight) i rec, dam_looking.again k want i rec a)
@@ -97,7 +97,7 @@ later_sound = record {
 later_finite : IsFiniteRow AsksDam later_row
 later_finite = record { looks = dam_finite_look; starts = tt; goes = λ k want e a it. goes k e }
   where
-    goes : (k : Known) (e : Event) → NoRepeats (dam_plan (known_after k e) (known_after k e).told).acts
+    goes : (k : Known) (e : Event) → NoRepeats (dam_plan (hears k e) (hears k e).told).acts
     goes k (Primed true) = tt
     goes k (Primed false) = tt
     goes k (Saw i rec) = tt

@@ -10,7 +10,7 @@ use Rattle.pipe_model.specs.Shape.{Records, Outs, Stream, Order, writes, ends, r
 use Rattle.pipe_model.specs.Shape.Outs.{Pairs, Endless}
 use Rattle.pipe_model.specs.Shape.Order.{WritesFirst, TakesFirst}
 use Rattle.pipe_model.specs.Form.{has_none, are_finite}
-use Rattle.pipe_model.specs.Next.{known_after, nothing_known}
+use Rattle.pipe_model.specs.Next.{hears, nothing_known}
 use Rattle.pipe_model.specs.Members.{has}
 use Rattle.confluence_laws.proofs.Basics.{both}
 use Rattle.confluence_laws.proofs.Facts.{Fits, IsLook, IsSound, IsThin, IsFiniteRow, IsFiniteLook, ReadsOne, NoWrites, ThinActs, NoRepeats, taken}
@@ -19,7 +19,7 @@ use Rattle.confluence_laws.proofs.SoundActs.{fits_writes, fits_only, thin_writes
 -- it reads input 0 with nothing in sight, first and after each record
 pub record IsLooking (A : Known → Want → Type 0) : Type 0 where
   pub looks : (k : Known) (want : Want) → A k want → IsLook 1 k want
-  pub again : (k : Known) (want : Want) (i : ℕ) (rec : List ℕ) → A k want → A (taken i (known_after k (Saw i rec))) (Read 0)
+  pub again : (k : Known) (want : Want) (i : ℕ) (rec : List ℕ) → A k want → A (taken i (hears k (Saw i rec))) (Read 0)
   pub first : A nothing_known (Read 0)
 
 -- a stage that reads one input does
@@ -53,15 +53,15 @@ module _ (order : Order) (t : Stream) (yields : Bool) where
     fits_order (Endless pair) TakesFirst k recs i goal sight fits = (sight, fits)
 
     -- what it does by an answer fits
-    goes_on : (k : Known) (want : Want) (e : Event) → A k want → Fits A (known_after k e) (list_plan order t (known_after k e) (known_after k e).told).acts (list_plan order t (known_after k e) (known_after k e).told).goal
+    goes_on : (k : Known) (want : Want) (e : Event) → A k want → Fits A (hears k e) (list_plan order t (hears k e) (hears k e).told).acts (list_plan order t (hears k e) (hears k e).told).goal
     goes_on k want (Saw i rec) a =
-        let now = known_after k (Saw i rec) in
+        let now = hears k (Saw i rec) in
         let recs = records_of now.seen in
         elim (t.halts recs) as (λ b. (λ (plan : Plan). Fits A now plan.acts plan.goal) (cond b (ends (t.code recs)) (record { acts = in_order order (acts_of t.outs recs) (Takes i); goal = next_record t recs }))) [
           | true ↦ tt
           | false ↦ fits_order t.outs order now recs i (next_record t recs) (sees_new (without i k.sight) i rec) (fits_next (taken i now) recs (looking.again k want i rec a))
         ]
-    goes_on k want (SawEnd i) a = fits_only A (known_after k (SawEnd i)) (last_pairs t.last (records_of k.seen)) (Ends (t.code (records_of k.seen))) tt
+    goes_on k want (SawEnd i) a = fits_only A (hears k (SawEnd i)) (last_pairs t.last (records_of k.seen)) (Ends (t.code (records_of k.seen))) tt
     goes_on k want _ a = tt
 
     -- so the row is sound
@@ -82,9 +82,9 @@ module _ (order : Order) (t : Stream) (yields : Bool) where
     pub list_finite : ((k : Known) (want : Want) → A k want → IsFiniteLook k want) → are_finite t.outs ≡ true → IsFiniteRow A list_row
     list_finite looks finite = record { looks = looks; starts = only_writes t.before; goes = λ k want e a it. goes k e }
       where
-        goes : (k : Known) (e : Event) → NoRepeats (list_plan order t (known_after k e) (known_after k e).told).acts
+        goes : (k : Known) (e : Event) → NoRepeats (list_plan order t (hears k e) (hears k e).told).acts
         goes k (Saw i rec) =
-            let recs = records_of (known_after k (Saw i rec)).seen in
+            let recs = records_of (hears k (Saw i rec)).seen in
             elim (t.halts recs) as (λ b. NoRepeats (cond b (ends (t.code recs)) (record { acts = in_order order (acts_of t.outs recs) (Takes i); goal = next_record t recs })).acts) [
               | true ↦ tt
               | false ↦ finite_order t.outs order recs i finite
@@ -112,9 +112,9 @@ list_thin t yields thin = record {
     at_end None recs none = tt
     at_end (Some last) recs none = cc
 
-    goes : (k : Known) (e : Event) → ThinActs (list_plan WritesFirst t (known_after k e) (known_after k e).told).acts
+    goes : (k : Known) (e : Event) → ThinActs (list_plan WritesFirst t (hears k e) (hears k e).told).acts
     goes k (Saw i rec) =
-        let recs = records_of (known_after k (Saw i rec)).seen in
+        let recs = records_of (hears k (Saw i rec)).seen in
         elim (t.halts recs) as (λ b. ThinActs (cond b (ends (t.code recs)) (record { acts = in_order WritesFirst (acts_of t.outs recs) (Takes i); goal = next_record t recs })).acts) [
           | true ↦ tt
           | false ↦ thin_order t.outs recs i

@@ -8,7 +8,7 @@ use Rattle.pipe_model.specs.Event.Want.{Read}
 use Rattle.pipe_model.specs.Row.{Pair, Goal, Known, Plan, sees, without, without_all}
 use Rattle.pipe_model.specs.Row.Act.{Takes}
 use Rattle.pipe_model.specs.Shape.{Rounding, row, ends, lacks, all_inputs, look, has_any, round_of, read_or_act, round_plan}
-use Rattle.pipe_model.specs.Next.{known_after, nothing_known}
+use Rattle.pipe_model.specs.Next.{hears, nothing_known}
 use Rattle.pipe_model.specs.Members.{has}
 use Rattle.confluence_laws.proofs.Basics.{both, not_so, found_at, same_number}
 use Rattle.confluence_laws.proofs.Facts.{Fits, IsLook, IsSound, IsFiniteRow, IsFiniteLook, NoRepeats, ReadsInRound, has_all, taken}
@@ -112,7 +112,7 @@ module _ (inputs : ℕ) (t : Rounding) where
       by_end false = by_next (find (lacks k.sight k.ends) (all_inputs inputs)) refl
 
   -- an answer tells it no end of all
-  still_on : (k : Known) (i : ℕ) (e : Event) → answers (Some (Read i)) e ≡ true → has_all k.told ≡ false → has_all (known_after k e).told ≡ false
+  still_on : (k : Known) (i : ℕ) (e : Event) → answers (Some (Read i)) e ≡ true → has_all k.told ≡ false → has_all (hears k e).told ≡ false
   still_on k i (Saw j rec) it on = on
   still_on k i (SawEnd j) it on = on
   still_on k i _ it on = cc
@@ -122,7 +122,7 @@ module _ (inputs : ℕ) (t : Rounding) where
   round_sound = record {
     looks = λ k want a. subst (IsLook inputs k) (sym a.want_is) a.within;
     starts = fits_plan nothing_known refl;
-    goes = λ k want e a it. fits_plan (known_after k e) (still_on k a.input e (subst (λ z. answers (Some z) e ≡ true) a.want_is it) a.goes_on);
+    goes = λ k want e a it. fits_plan (hears k e) (still_on k a.input e (subst (λ z. answers (Some z) e ≡ true) a.want_is it) a.goes_on);
   }
 
   -- and has no endless pairs
@@ -130,7 +130,7 @@ module _ (inputs : ℕ) (t : Rounding) where
   round_finite = record {
     looks = λ k want a. subst (IsFiniteLook k) (sym a.want_is) (a.unseen, a.unended);
     starts = quiet nothing_known;
-    goes = λ k want e a it. quiet (known_after k e);
+    goes = λ k want e a it. quiet (hears k e);
   }
     where
       in_round : (k : Known) (sight : List Pair) → NoRepeats (round_of inputs t k sight).acts

@@ -9,7 +9,7 @@ use Rattle.pipe_model.specs.Row.{Pair, Act, Known, Row, sees, without}
 use Rattle.pipe_model.specs.Row.Act.{Takes}
 use Rattle.pipe_model.specs.Row.Goal.{Asks, Ends}
 use Rattle.pipe_model.specs.Shape.{Turning, row, writes, can_read, read_next, turn_plan}
-use Rattle.pipe_model.specs.Next.{known_after, nothing_known}
+use Rattle.pipe_model.specs.Next.{hears, nothing_known}
 use Rattle.pipe_model.specs.Members.{has}
 use Rattle.confluence_laws.proofs.Basics.{both, not_so, found_at}
 use Rattle.confluence_laws.proofs.Facts.{Fits, IsLook, IsSound, IsFiniteRow, IsFiniteLook, NoRepeats, ReadsInTurn, has_all, taken}
@@ -35,18 +35,18 @@ module _ (inputs : ℕ) (t : Turning) where
   -- and so does what it does with a record at hand
   fits_taking : (k : Known) (i : ℕ) (rec : List ℕ) (next : Option ℕ) → k.sight ≡ [] → has_all k.told ≡ false → find (can_read inputs k.ends) (t.order inputs (k.seen ++ (i, rec) ∷ [])) ≡ next →
       (λ (now : Known) (acts : List Act). Fits (ReadsInTurn inputs) now (read_next acts (t.last now.seen) next).acts (read_next acts (t.last now.seen) next).goal)
-      (known_after k (Saw i rec)) (writes (t.outs (k.seen ++ (i, rec) ∷ [])) ++ Takes i ∷ [])
+      (hears k (Saw i rec)) (writes (t.outs (k.seen ++ (i, rec) ∷ [])) ++ Takes i ∷ [])
   fits_taking k i rec (Some j) none on found =
-      let now = known_after k (Saw i rec) in
+      let now = hears k (Saw i rec) in
       fits_writes (ReadsInTurn inputs) now (t.outs now.seen) (Takes i ∷ []) (Asks (Read j)) (sees_new (without i k.sight) i rec, reads (taken i now) j (without_new k.sight i rec none) on found)
   fits_taking k i rec None none on found =
-      let now = known_after k (Saw i rec) in
+      let now = hears k (Saw i rec) in
       fits_then (ReadsInTurn inputs) now (t.outs now.seen) i (writes (t.last now.seen)) (Ends (pos 0)) (sees_new (without i k.sight) i rec) (fits_only (ReadsInTurn inputs) (taken i now) (t.last now.seen) (Ends (pos 0)) tt)
 
   -- what it does by an answer fits
-  goes_on : (k : Known) (i : ℕ) (e : Event) → k.sight ≡ [] → has_all k.told ≡ false → answers (Some (Read i)) e ≡ true → Fits (ReadsInTurn inputs) (known_after k e) (turn_row.plan (known_after k e)).acts (turn_row.plan (known_after k e)).goal
+  goes_on : (k : Known) (i : ℕ) (e : Event) → k.sight ≡ [] → has_all k.told ≡ false → answers (Some (Read i)) e ≡ true → Fits (ReadsInTurn inputs) (hears k e) (turn_row.plan (hears k e)).acts (turn_row.plan (hears k e)).goal
   goes_on k i (Saw j rec) none on it = fits_taking k j rec (find (can_read inputs k.ends) (t.order inputs (k.seen ++ (j, rec) ∷ []))) none on refl
-  goes_on k i (SawEnd j) none on it = fits_reading (known_after k (SawEnd j)) (find (can_read inputs (j ∷ k.ends)) (t.order inputs k.seen)) none on refl
+  goes_on k i (SawEnd j) none on it = fits_reading (hears k (SawEnd j)) (find (can_read inputs (j ∷ k.ends)) (t.order inputs k.seen)) none on refl
   goes_on k i _ none on it = cc
 
   -- so the row is sound
@@ -73,9 +73,9 @@ module _ (inputs : ℕ) (t : Turning) where
       quiet : (k : Known) → NoRepeats (read_next [] (t.last k.seen) (find (can_read inputs k.ends) (t.order inputs k.seen))).acts
       quiet k = finite_next [] (t.last k.seen) (find (can_read inputs k.ends) (t.order inputs k.seen)) tt
 
-      goes : (k : Known) (e : Event) → NoRepeats (turn_row.plan (known_after k e)).acts
+      goes : (k : Known) (e : Event) → NoRepeats (turn_row.plan (hears k e)).acts
       goes k (Saw i rec) =
-          let now = known_after k (Saw i rec) in
+          let now = hears k (Saw i rec) in
           finite_next (writes (t.outs now.seen) ++ Takes i ∷ []) (t.last now.seen) (find (can_read inputs now.ends) (t.order inputs now.seen)) (no_repeats (t.outs now.seen) (Takes i ∷ []) tt)
-      goes k (SawEnd i) = quiet (known_after k (SawEnd i))
+      goes k (SawEnd i) = quiet (hears k (SawEnd i))
       goes k _ = quiet k

@@ -14,7 +14,8 @@ use Rattle.pipe_model.specs.Row.{Act, Goal, Row}
 use Rattle.pipe_model.specs.Row.Act.{Writes, Repeats, Takes}
 use Rattle.pipe_model.specs.Row.Goal.{Asks, Ends}
 use Rattle.pipe_model.specs.Table.{form}
-use Rattle.pipe_model.specs.Next.{Phase, Past, after, want_in, next, known_after, first_phase, is_live, is_refused, begins_plan, doing, IsOwn, refused_after, gives_up, after_answer}
+use Rattle.pipe_model.specs.Next.{Phase, Past, want_in, next, hears, first_phase, is_live, is_refused, begins_plan, doing, IsOwn, refused_after, gives_up}
+use Rattle.pipe_model.proofs.Pasts.{after, after_answer, when_asked}
 use Rattle.pipe_model.specs.Next.Phase.{Starting, Doing, Lost}
 use Rattle.confluence_laws.proofs.Basics.{or_second}
 use Rattle.confluence_laws.proofs.Fitting.{past_of, still_wants, stands_for}
@@ -126,9 +127,9 @@ module _ (w : Row) (outputs : List Bool) where
   up_step p (Starting (negsuc (suc n))) h e at it is = absurd is
   up_step p (Starting (pos (suc n))) h e at it is = absurd is
   up_step p (Doing [] (Asks want)) h e at it is =
-      let now = known_after p.known e in
+      let now = hears p.known e in
       let refused = refused_after p.refused e in
-      subst (λ b. UpTo (cond b (after_answer w outputs p e) (record p { phase = Lost })).phase (e ∷ h)) (sym it)
+      subst (λ b. UpTo (when_asked w outputs p e b).phase (e ∷ h)) (sym it)
       (elim (gives_up w outputs refused e) as (λ b. UpTo (cond b (Doing [] (Ends (pos 0))) (begins_plan outputs refused (w.plan now))) (e ∷ h)) [
         | true ↦ stops (e ∷ h) (went_on e h is)
         | false ↦ went_doing (filter (is_live outputs refused) (w.plan now).acts) (w.plan now).goal (e ∷ h) (went_on e h is)
@@ -141,7 +142,7 @@ module _ (w : Row) (outputs : List Bool) where
       by_end true = stops (Refused o' ∷ h) (went_on (Refused o') h is)
       by_end false = went_doing (filter (is_live outputs (o' ∷ p.refused)) acts) goal (Refused o' ∷ h) (went_on (Refused o') h is)
   up_step p (Doing (Writes o rec ∷ acts) goal) h _ at it is = cc
-  up_step p (Doing (Repeats o rec ∷ acts) goal) h (Put o' rec') at it is = subst (λ f. UpTo f (Put o' rec' ∷ h)) (sym at) (went_on (Put o' rec') h is)
+  up_step p (Doing (Repeats o rec ∷ acts) goal) h (Put o' rec') at it is = went_on (Put o' rec') h is
   up_step p (Doing (Repeats o rec ∷ acts) goal) h (Refused o') at it is = by_end (w.yields && is_refused outputs (o' ∷ p.refused))
     where
       by_end : (b : Bool) → UpTo (cond b (Doing [] (Ends (pos 0))) (doing outputs (o' ∷ p.refused) acts goal)) (Refused o' ∷ h)

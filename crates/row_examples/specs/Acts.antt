@@ -8,7 +8,7 @@ use Rattle.pipe_model.specs.declared.net.Strand.{Strand}
 use Rattle.pipe_model.specs.declared.range.Range.{Range}
 use Rattle.pipe_model.specs.declared.range.Span.TheVariants.{Columns, Words, Fields}
 use Rattle.pipe_model.specs.Event.Event.{Saw, SawEnd}
-use Rattle.pipe_model.specs.Next.{is_live, known_after, nothing_known}
+use Rattle.pipe_model.specs.Next.{is_live, hears, nothing_known}
 use Rattle.pipe_model.specs.Row.{Act, Goal, Plan, Known, Row}
 use Rattle.pipe_model.specs.Row.Act.{Writes, Takes}
 use Rattle.pipe_model.specs.Row.Goal.{Asks, Ends}
@@ -26,8 +26,8 @@ if_reads (Ends code) plans = []
 
 -- its plans from what it knows: one at each of the records, and one at their end
 abbrev pub plans_from : Row → Known → Records → List Plan
-plans_from row k [] = row.plan k ∷ if_reads (row.plan k).goal (row.plan (known_after k (SawEnd 0)) ∷ [])
-plans_from row k (rec ∷ recs) = row.plan k ∷ if_reads (row.plan k).goal (plans_from row (known_after k (Saw 0 rec)) recs)
+plans_from row k [] = row.plan k ∷ if_reads (row.plan k).goal (row.plan (hears k (SawEnd 0)) ∷ [])
+plans_from row k (rec ∷ recs) = row.plan k ∷ if_reads (row.plan k).goal (plans_from row (hears k (Saw 0 rec)) recs)
 
 abbrev pub plans_over : Kind → List Bool → Records → List Plan
 plans_over kind outputs recs = plans_from (form (strand kind outputs)).row nothing_known recs

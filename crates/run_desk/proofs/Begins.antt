@@ -10,7 +10,8 @@ use Rattle.pipe_model.specs.Row.{Row}
 use Rattle.pipe_model.specs.Row.Act.{Writes, Repeats, Takes}
 use Rattle.pipe_model.specs.Row.Goal.{Asks, Ends}
 use Rattle.pipe_model.specs.Table.{form}
-use Rattle.pipe_model.specs.Next.{Phase, Past, after, want_in, next, known_after, refused_after, gives_up, after_answer, first_phase, is_refused, begins_plan, doing, IsOwn}
+use Rattle.pipe_model.specs.Next.{Phase, Past, want_in, next, hears, refused_after, gives_up, first_phase, is_refused, begins_plan, doing, IsOwn}
+use Rattle.pipe_model.proofs.Pasts.{after, after_answer, when_asked}
 use Rattle.pipe_model.specs.Next.Phase.{Starting, Doing, Lost}
 use Rattle.confluence_laws.proofs.Fitting.{past_of, still_wants, stands_for}
 
@@ -35,8 +36,8 @@ awaits_step w outputs p (Starting (pos zero)) h _ at it is = cc
 awaits_step w outputs p (Starting (negsuc (suc n))) h e at it is = absurd is
 awaits_step w outputs p (Starting (pos (suc n))) h e at it is = absurd is
 awaits_step w outputs p (Doing [] (Asks want)) h e at it is =
-    let next = begins_plan outputs (refused_after p.refused e) (w.plan (known_after p.known e)) in
-    subst (λ b. Awaits (cond b (after_answer w outputs p e) (record p { phase = Lost })).phase (e ∷ h)) (sym it)
+    let next = begins_plan outputs (refused_after p.refused e) (w.plan (hears p.known e)) in
+    subst (λ b. Awaits (when_asked w outputs p e b).phase (e ∷ h)) (sym it)
     (elim (gives_up w outputs (refused_after p.refused e) e) as (λ b. Awaits (cond b (Doing [] (Ends (pos 0))) next) (e ∷ h)) [ true ↦ tt | false ↦ tt ])
 awaits_step w outputs p (Doing [] (Ends code)) h e at it is = tt
 awaits_step w outputs p (Doing (Writes o rec ∷ acts) goal) h (Put o' rec') at it is = tt

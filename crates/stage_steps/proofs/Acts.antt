@@ -11,7 +11,8 @@ use Rattle.pipe_model.specs.Members.{flag_at}
 use Rattle.pipe_model.specs.Row.{Pair, Act, Goal, Row}
 use Rattle.pipe_model.specs.Row.Act.{Writes, Repeats, Takes}
 use Rattle.pipe_model.specs.Shape.{writes}
-use Rattle.pipe_model.specs.Next.{Phase, Past, is_open, is_live, is_refused, after, after_refusal, want_in}
+use Rattle.pipe_model.specs.Next.{Phase, Past, is_open, is_live, is_refused, want_in}
+use Rattle.pipe_model.proofs.Pasts.{after, after_refusal}
 use Rattle.pipe_model.specs.Next.Phase.{Doing}
 use Rattle.stage_steps.specs.declared.group.Group.{Group}
 use Rattle.stage_steps.specs.declared.place.Follow.{Follow}

@@ -13,7 +13,8 @@ use Rattle.pipe_model.specs.Row.Goal.{Asks as Asking, Ends}
 use Rattle.pipe_model.specs.Row.Act.{Takes}
 use Rattle.pipe_model.specs.Shape.{Records, Stream, Order as RowOrder, Keeping, records_of, next_record}
 use Rattle.pipe_model.specs.Table.{form}
-use Rattle.pipe_model.specs.Next.{Past, past_by, after, want_in, wanted_by, next}
+use Rattle.pipe_model.specs.Next.{Past, past_by, want_in, wanted_by, next}
+use Rattle.pipe_model.proofs.Pasts.{after}
 use Rattle.pipe_model.specs.Next.Phase.{Doing}
 use Rattle.pipe_model.specs.Next.Phase.{Starting as Reaching}
 use Rattle.stage_steps.specs.declared.group.Group.{Group}

@@ -13,7 +13,8 @@ use Rattle.pipe_model.specs.Shape.{Keeping, Shape, source, row, listed, dam_plan
 use Rattle.pipe_model.specs.Shape.Order.{WritesFirst, TakesFirst}
 use Rattle.pipe_model.specs.Shape.Keeping.{Nothing, Console, File}
 use Rattle.pipe_model.specs.Shape.Shape.{Absent, Sources, Lists, Sinks, Firsts, Turns, Rounds, Gates, Dams, Queues}
-use Rattle.pipe_model.specs.Next.{Phase, Past, past_by, after, begins_plan, doing, is_refused}
+use Rattle.pipe_model.specs.Next.{Phase, Past, past_by, begins_plan, doing, is_refused}
+use Rattle.pipe_model.proofs.Pasts.{after}
 use Rattle.pipe_model.specs.Next.Phase.{Starting, Doing, Lost}
 use Rattle.stage_steps.specs.Coroutine.{kept_by}
 use Rattle.stage_steps.specs.Listed.{Listing, lists_of, only_before, list_row}

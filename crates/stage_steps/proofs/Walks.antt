@@ -15,7 +15,8 @@ use Rattle.pipe_model.specs.Row.Act.{Writes, Takes}
 use Rattle.pipe_model.specs.Row.Goal.{Asks as Asking, Ends}
 use Rattle.pipe_model.specs.Shape.{Records, Stream, Order as RowOrder, records_of, writes, acts_of, in_order, next_record, list_plan, last_pairs, at_hand_of, ends}
 use Rattle.pipe_model.specs.Shape.Order.{WritesFirst as RowWritesFirst, TakesFirst as RowTakesFirst}
-use Rattle.pipe_model.specs.Next.{Phase, Past, nothing_known, begins_plan, known_after, after, want_in, is_live, is_refused}
+use Rattle.pipe_model.specs.Next.{Phase, Past, nothing_known, begins_plan, hears, want_in, is_live, is_refused}
+use Rattle.pipe_model.proofs.Pasts.{after}
 use Rattle.pipe_model.specs.Next.Phase.{Doing}
 use Rattle.pipe_model.specs.Next.Phase.{Starting as Reaching}
 use Rattle.stage_steps.specs.declared.group.Group.{Group}
@@ -159,7 +160,7 @@ module _ {L : Type 0} (stands : L → Stream → Records → List Act → Type 0
   sees : (rec : List ℕ) → stands x t (records_of p.known.seen) [] → hand ≡ None → length (records_of p.known.seen) < 50000000 → (looks ≡ true → bytes ≡ rec) →
       Sees stands looks x y bytes → Tells stands y place' (sight_place order) → Next Looking (Saw 0 rec) (after (list_row (order_of order) keeps t) outputs p (Doing [] (Asking (Want.Read 0))) (Saw 0 rec))
   sees rec stood none room came sight tells =
-      let known = known_after p.known (Saw 0 rec) in
+      let known = hears p.known (Saw 0 rec) in
       let all : records_of known.seen ≡ records_of p.known.seen ++ rec ∷ [] = map-append (λ (q : Pair). q.1) p.known.seen ((0, rec) ∷ []) in
       let new : stands y t (records_of known.seen) (acts_of t.outs (records_of known.seen)) = subst (λ r. stands y t r (acts_of t.outs r)) (sym all) (sight t (records_of p.known.seen) rec stood room came) in
       let place_is : place' ≡ sight_place order t (records_of known.seen) = tells t (records_of known.seen) (acts_of t.outs (records_of known.seen)) new in record {

@@ -14,7 +14,7 @@ use Rattle.pipe_model.specs.JoiningRows.{detail_then, beside_master, Turn, turn_
 use Rattle.pipe_model.specs.JoiningRows.Turn.{Match, Master, Detail}
 use Rattle.pipe_model.specs.Table.{form}
 use Rattle.pipe_model.specs.Members.{has}
-use Rattle.pipe_model.specs.Next.{known_after, nothing_known}
+use Rattle.pipe_model.specs.Next.{hears, nothing_known}
 use Rattle.pipe_model.specs.Alone.{Given, IsAllAlone}
 use Rattle.pipe_model.specs.Listed.{IsUnlimited, Puts}
 use Rattle.confluence_laws.proofs.Basics.{test_same}
@@ -137,23 +137,23 @@ module _ (s : Strand) (g : Given) (unlimited : IsUnlimited g) (W : List Event) (
 
         by_list : (rest : Records) → own.rest ≡ rest → (k' : Known) × Stand (pairs ++ (collating of_master of_detail).outs k) (with_list 1 own.rest left) e' k'
         by_list [] list = (
-          known_after (took 1 k) (SawEnd 1),
+          hears (took 1 k) (SawEnd 1),
           record {
             place = round_end s g unlimited W done 2 (collating of_master of_detail) refl row_is (took 1 k) (pairs ++ (collating of_master of_detail).outs k) (with_list 1 own.rest left) 1 again list place;
-            first = shows_still (took 1 k) (known_after (took 1 k) (SawEnd 1)) (with_list 1 own.rest left) 0 refl refl other;
+            first = shows_still (took 1 k) (hears (took 1 k) (SawEnd 1)) (with_list 1 own.rest left) 0 refl refl other;
             second = inl (end_own (took 1 k) (with_list 1 own.rest left) 1 opened list);
-            beyond = λ j le. open_still k (known_after (took 1 k) (SawEnd 1)) j (without_others 1 j k.sight (apart_from 1 j (omega arith) le)) (ap (λ b. b || has k.ends j) (apart_from 1 j (omega arith) le)) (x.beyond j le);
+            beyond = λ j le. open_still k (hears (took 1 k) (SawEnd 1)) j (without_others 1 j k.sight (apart_from 1 j (omega arith) le)) (ap (λ b. b || has k.ends j) (apart_from 1 j (omega arith) le)) (x.beyond j le);
             latest = sym opened.none;
             count = λ m is. let c = now m (sym same_first ∙ is) in let d : count_of of_master of_detail (m ∷ []) (records_from 1 (without 1 k.sight)) ≡ 0 = ap (count_of of_master of_detail (m ∷ [])) opened.none in omega (arith, c, d);
           },
         )
         by_list (d ∷ ds) list = (
-          known_after (took 1 k) (Saw 1 d),
+          hears (took 1 k) (Saw 1 d),
           record {
             place = round_saw s g unlimited W done 2 (collating of_master of_detail) refl row_is (took 1 k) (pairs ++ (collating of_master of_detail).outs k) (with_list 1 own.rest left) 1 d ds again list place;
-            first = shows_still (took 1 k) (known_after (took 1 k) (Saw 1 d)) (with_list 1 own.rest left) 0 (now_others 1 0 (without 1 k.sight) d refl) refl other;
+            first = shows_still (took 1 k) (hears (took 1 k) (Saw 1 d)) (with_list 1 own.rest left) 0 (now_others 1 0 (without 1 k.sight) d refl) refl other;
             second = inr (saw_own (took 1 k) (with_list 1 own.rest left) 1 opened d ds list);
-            beyond = λ j le. open_still k (known_after (took 1 k) (Saw 1 d)) j (now_others 1 j (without 1 k.sight) d (apart_from 1 j (omega arith) le) ∙ without_others 1 j k.sight (apart_from 1 j (omega arith) le)) refl (x.beyond j le);
+            beyond = λ j le. open_still k (hears (took 1 k) (Saw 1 d)) j (now_others 1 j (without 1 k.sight) d (apart_from 1 j (omega arith) le) ∙ without_others 1 j k.sight (apart_from 1 j (omega arith) le)) refl (x.beyond j le);
             latest = sym (now_own 1 (without 1 k.sight) d opened.none);
             count = λ m is.
                 count_more of_master of_detail m d (beside_master k.told) e' (now m (sym (now_others 1 0 (without 1 k.sight) d refl ∙ same_first) ∙ is))
@@ -186,23 +186,23 @@ module _ (s : Strand) (g : Given) (unlimited : IsUnlimited g) (W : List Event) (
 
         by_list : (rest : Records) → own.rest ≡ rest → (k' : Known) × Stand (pairs ++ (collating of_master of_detail).outs k) (with_list 0 own.rest left) 0 k'
         by_list [] list = (
-          known_after (took 0 k) (SawEnd 0),
+          hears (took 0 k) (SawEnd 0),
           record {
             place = round_end s g unlimited W done 2 (collating of_master of_detail) refl row_is (took 0 k) (pairs ++ (collating of_master of_detail).outs k) (with_list 0 own.rest left) 0 again list place;
             first = inl (end_own (took 0 k) (with_list 0 own.rest left) 0 opened list);
-            second = shows_still (took 0 k) (known_after (took 0 k) (SawEnd 0)) (with_list 0 own.rest left) 1 refl refl other;
-            beyond = λ j le. open_still k (known_after (took 0 k) (SawEnd 0)) j (without_others 0 j k.sight (apart_from 0 j (omega arith) le)) (ap (λ b. b || has k.ends j) (apart_from 0 j (omega arith) le)) (x.beyond j le);
+            second = shows_still (took 0 k) (hears (took 0 k) (SawEnd 0)) (with_list 0 own.rest left) 1 refl refl other;
+            beyond = λ j le. open_still k (hears (took 0 k) (SawEnd 0)) j (without_others 0 j k.sight (apart_from 0 j (omega arith) le)) (ap (λ b. b || has k.ends j) (apart_from 0 j (omega arith) le)) (x.beyond j le);
             latest = x.latest ∙ sym same_second;
             count = λ m is. (let z : [] ≡ m ∷ [] = sym opened.none ∙ is in cc);
           },
         )
         by_list (m' ∷ ms) list = (
-          known_after (took 0 k) (Saw 0 m'),
+          hears (took 0 k) (Saw 0 m'),
           record {
             place = round_saw s g unlimited W done 2 (collating of_master of_detail) refl row_is (took 0 k) (pairs ++ (collating of_master of_detail).outs k) (with_list 0 own.rest left) 0 m' ms again list place;
             first = inr (saw_own (took 0 k) (with_list 0 own.rest left) 0 opened m' ms list);
-            second = shows_still (took 0 k) (known_after (took 0 k) (Saw 0 m')) (with_list 0 own.rest left) 1 (now_others 0 1 (without 0 k.sight) m' refl) refl other;
-            beyond = λ j le. open_still k (known_after (took 0 k) (Saw 0 m')) j (now_others 0 j (without 0 k.sight) m' (apart_from 0 j (omega arith) le) ∙ without_others 0 j k.sight (apart_from 0 j (omega arith) le)) refl (x.beyond j le);
+            second = shows_still (took 0 k) (hears (took 0 k) (Saw 0 m')) (with_list 0 own.rest left) 1 (now_others 0 1 (without 0 k.sight) m' refl) refl other;
+            beyond = λ j le. open_still k (hears (took 0 k) (Saw 0 m')) j (now_others 0 j (without 0 k.sight) m' (apart_from 0 j (omega arith) le) ∙ without_others 0 j k.sight (apart_from 0 j (omega arith) le)) refl (x.beyond j le);
             latest = x.latest ∙ sym (now_others 0 1 (without 0 k.sight) m' refl ∙ same_second);
             count = λ m is. let c : count_of of_master of_detail (m ∷ []) (detail_then k.told) ≡ count_of of_master of_detail (m ∷ []) (records_from 1 (without 0 (without 0 k.sight) ++ (0, m') ∷ [])) = ap (count_of of_master of_detail (m ∷ [])) (x.latest ∙ sym (now_others 0 1 (without 0 k.sight) m' refl ∙ same_second)) in omega (arith, c);
           },
@@ -219,23 +219,23 @@ module _ (s : Strand) (g : Given) (unlimited : IsUnlimited g) (W : List Event) (
 
       by_list : (rest : Records) → g.inputs 1 ≡ rest → (k' : Known) × Stand [] g.inputs 0 k'
       by_list [] list = (
-        known_after k (SawEnd 1),
+        hears k (SawEnd 1),
         record {
           place = round_end s g unlimited W done 2 (collating of_master of_detail) refl row_is k [] g.inputs 1 next_is list place;
-          first = shows_still k (known_after k (SawEnd 1)) g.inputs 0 refl refl first;
+          first = shows_still k (hears k (SawEnd 1)) g.inputs 0 refl refl first;
           second = inl (end_own k g.inputs 1 opened list);
-          beyond = λ j le. open_still k (known_after k (SawEnd 1)) j refl (ap (λ b. b || has k.ends j) (apart_from 1 j (omega arith) le)) (beyond j le);
+          beyond = λ j le. open_still k (hears k (SawEnd 1)) j refl (ap (λ b. b || has k.ends j) (apart_from 1 j (omega arith) le)) (beyond j le);
           latest = sym opened.none;
           count = λ m is. let c = no_count m in let d : count_of of_master of_detail (m ∷ []) (records_from 1 k.sight) ≡ 0 = ap (count_of of_master of_detail (m ∷ [])) opened.none in omega (arith, c, d);
         },
       )
       by_list (d ∷ ds) list = (
-        known_after k (Saw 1 d),
+        hears k (Saw 1 d),
         record {
           place = round_saw s g unlimited W done 2 (collating of_master of_detail) refl row_is k [] g.inputs 1 d ds next_is list place;
-          first = shows_still k (known_after k (Saw 1 d)) g.inputs 0 (now_others 1 0 k.sight d refl) refl first;
+          first = shows_still k (hears k (Saw 1 d)) g.inputs 0 (now_others 1 0 k.sight d refl) refl first;
           second = inr (saw_own k g.inputs 1 opened d ds list);
-          beyond = λ j le. open_still k (known_after k (Saw 1 d)) j (now_others 1 j k.sight d (apart_from 1 j (omega arith) le)) refl (beyond j le);
+          beyond = λ j le. open_still k (hears k (Saw 1 d)) j (now_others 1 j k.sight d (apart_from 1 j (omega arith) le)) refl (beyond j le);
           latest = sym (now_own 1 k.sight d opened.none);
           count = λ m is. count_more of_master of_detail m d (beside_master k.told) 0 (no_count m) ∙ ap (λ z. 0 + count_of of_master of_detail (m ∷ []) z) (sym (now_own 1 k.sight d opened.none));
         },
@@ -249,10 +249,10 @@ module _ (s : Strand) (g : Given) (unlimited : IsUnlimited g) (W : List Event) (
 
       by_list : (rest : Records) → g.inputs 0 ≡ rest → (k' : Known) × Stand [] g.inputs 0 k'
       by_list [] list =
-          start_second (known_after nothing_known (SawEnd 0)) (round_end s g unlimited W done 2 (collating of_master of_detail) refl row_is nothing_known [] g.inputs 0 refl list begun)
+          start_second (hears nothing_known (SawEnd 0)) (round_end s g unlimited W done 2 (collating of_master of_detail) refl row_is nothing_known [] g.inputs 0 refl list begun)
           (inl (end_own nothing_known g.inputs 0 (record { none = refl; going = refl }) list)) (record { none = refl; going = refl }) refl
           (λ j le. record { none = refl; going = ap (λ b. b || false) (apart_from 0 j (omega arith) le) }) refl
       by_list (m ∷ ms) list =
-          start_second (known_after nothing_known (Saw 0 m)) (round_saw s g unlimited W done 2 (collating of_master of_detail) refl row_is nothing_known [] g.inputs 0 m ms refl list begun)
+          start_second (hears nothing_known (Saw 0 m)) (round_saw s g unlimited W done 2 (collating of_master of_detail) refl row_is nothing_known [] g.inputs 0 m ms refl list begun)
           (inr (saw_own nothing_known g.inputs 0 (record { none = refl; going = refl }) m ms list)) (record { none = refl; going = refl }) refl
           (λ j le. record { none = now_others 0 j [] m (apart_from 0 j (omega arith) le); going = refl }) refl

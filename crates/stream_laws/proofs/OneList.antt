@@ -16,7 +16,7 @@ use Rattle.pipe_model.specs.Shape.Order.{WritesFirst, TakesFirst}
 use Rattle.pipe_model.specs.Form.{are_finite}
 use Rattle.pipe_model.specs.Table.{form}
 use Rattle.pipe_model.specs.Members.{flag_at}
-use Rattle.pipe_model.specs.Next.{is_live, begins_plan, known_after, nothing_known}
+use Rattle.pipe_model.specs.Next.{is_live, begins_plan, hears, nothing_known}
 use Rattle.pipe_model.specs.Next.Phase.{Doing}
 use Rattle.pipe_model.specs.Alone.{Given, IsAllAlone}
 use Rattle.pipe_model.specs.Inputs.{records_from}
@@ -66,7 +66,7 @@ module _ (s : Strand) (g : Given) (unlimited : IsUnlimited g) (W : List Event) (
       Gives put taken (pairs_after t recs rest) (taken_after t recs rest) (code_after t recs rest)
   reads recs [] k put taken seen list r =
       let hand : slice_get (g.inputs 0) (length (records_from 0 taken)) ≡ None = ap (λ z. slice_get z (length (records_from 0 taken))) (list ∙ append-nil (records_from 0 taken)) ∙ past_end (records_from 0 taken) in
-      let k' : Known = known_after k (SawEnd 0) in
+      let k' : Known = hears k (SawEnd 0) in
       let a = subst (λ (z : Plan). Reaches s g unlimited W done k' (begins_plan s.ports.has_output [] z) put taken) (plan_is k') (read_end s g unlimited W done k 0 put taken r hand) in
       let b = subst (λ z. Reaches s g unlimited W done k' (Doing (filter (is_live s.ports.has_output []) (writes (last_pairs t.last z))) (Ends (t.code z))) put taken) (ap records_of seen ∙ records_all 0 recs) a in
       let d = finish s g unlimited W done k' (t.code recs) (put ++ connected s.ports.has_output (last_pairs t.last recs)) taken (write_rest s g unlimited W done k' (last_pairs t.last recs) (Ends (t.code recs)) put taken b) in
@@ -81,7 +81,7 @@ module _ (s : Strand) (g : Given) (unlimited : IsUnlimited g) (W : List Event) (
       now = recs ++ rec ∷ []
 
       seen_it : Known
-      seen_it = known_after k (Saw 0 rec)
+      seen_it = hears k (Saw 0 rec)
 
       now_seen : seen_it.seen ≡ all_on 0 now
       now_seen = ap (λ z. z ++ (0, rec) ∷ []) seen ∙ sym (output_both 0 recs (rec ∷ []))

@@ -12,7 +12,8 @@ use Rattle.pipe_model.specs.Row.Goal.{Asks, Ends}
 use Rattle.pipe_model.specs.Shape.{writes, at_hand_of, records_of}
 use Rattle.pipe_model.specs.Table.{form}
 use Rattle.pipe_model.specs.Members.{flag_at}
-use Rattle.pipe_model.specs.Next.{Phase, Past, is_live, after, begins_plan, known_after, nothing_known, first_phase, past_by, want_in, wanted_by, next}
+use Rattle.pipe_model.specs.Next.{Phase, Past, is_live, begins_plan, hears, nothing_known, first_phase, past_by, want_in, wanted_by, next}
+use Rattle.pipe_model.proofs.Pasts.{after}
 use Rattle.pipe_model.specs.Next.Phase.{Starting, Doing, Lost}
 use Rattle.pipe_model.specs.Alone.{Given, takes_more, look_alone, alone_event, IsAllAlone}
 use Rattle.pipe_model.specs.Inputs.{records_from}
@@ -102,13 +103,13 @@ module _ (s : Strand) (g : Given) (unlimited : IsUnlimited g) (W : List Event) (
 
   -- it sees the next record of an input
   pub read_one : (k : Known) (i : ℕ) (rec : List ℕ) (put taken : List Pair) → Reaches k (Doing [] (Asks (Read i))) put taken → slice_get (g.inputs i) (length (records_from i taken)) ≡ Some rec →
-      Reaches (known_after k (Saw i rec)) (begins_plan s.ports.has_output [] ((form s).row.plan (known_after k (Saw i rec)))) put taken
+      Reaches (hears k (Saw i rec)) (begins_plan s.ports.has_output [] ((form s).row.plan (hears k (Saw i rec)))) put taken
   read_one k i rec put taken (h, x) hand = (
     Saw i rec ∷ h,
     record {
       within = on k (Doing [] (Asks (Read i))) put taken h x (Saw i rec) (Read i) refl (ap (λ z. Some (look_alone i z)) (ap (slice_get (g.inputs i)) (sym (took_count i h) ∙ ap length (x.takes i)) ∙ hand));
       going = x.going;
-      past = ap (λ (p : Past). after (form s).row s.ports.has_output p p.phase (Saw i rec)) x.past ∙ ap (λ b. cond b (mk (known_after k (Saw i rec)) (begins_plan s.ports.has_output [] ((form s).row.plan (known_after k (Saw i rec))))) (mk k Lost)) (test_same i);
+      past = ap (λ (p : Past). after (form s).row s.ports.has_output p p.phase (Saw i rec)) x.past ∙ ap (λ b. cond b (mk (hears k (Saw i rec)) (begins_plan s.ports.has_output [] ((form s).row.plan (hears k (Saw i rec))))) (mk k Lost)) (test_same i);
       puts = x.puts;
       takes = x.takes;
       last = λ q. by_test q (i == q) refl (x.last q);
@@ -123,13 +124,13 @@ module _ (s : Strand) (g : Given) (unlimited : IsUnlimited g) (W : List Event) (
 
   -- it sees the end of an input
   pub read_end : (k : Known) (i : ℕ) (put taken : List Pair) → Reaches k (Doing [] (Asks (Read i))) put taken → slice_get (g.inputs i) (length (records_from i taken)) ≡ None →
-      Reaches (known_after k (SawEnd i)) (begins_plan s.ports.has_output [] ((form s).row.plan (known_after k (SawEnd i)))) put taken
+      Reaches (hears k (SawEnd i)) (begins_plan s.ports.has_output [] ((form s).row.plan (hears k (SawEnd i)))) put taken
   read_end k i put taken (h, x) hand = (
     SawEnd i ∷ h,
     record {
       within = on k (Doing [] (Asks (Read i))) put taken h x (SawEnd i) (Read i) refl (ap (λ z. Some (look_alone i z)) (ap (slice_get (g.inputs i)) (sym (took_count i h) ∙ ap length (x.takes i)) ∙ hand));
       going = x.going;
-      past = ap (λ (p : Past). after (form s).row s.ports.has_output p p.phase (SawEnd i)) x.past ∙ ap (λ b. cond b (mk (known_after k (SawEnd i)) (begins_plan s.ports.has_output [] ((form s).row.plan (known_after k (SawEnd i))))) (mk k Lost)) (test_same i);
+      past = ap (λ (p : Past). after (form s).row s.ports.has_output p p.phase (SawEnd i)) x.past ∙ ap (λ b. cond b (mk (hears k (SawEnd i)) (begins_plan s.ports.has_output [] ((form s).row.plan (hears k (SawEnd i))))) (mk k Lost)) (test_same i);
       puts = x.puts;
       takes = x.takes;
       last = x.last;

@@ -15,7 +15,7 @@ use Rattle.pipe_model.specs.Shape.{Records, Rounding, records_of, lacks, all_inp
 use Rattle.pipe_model.specs.Inputs.{records_from}
 use Rattle.pipe_model.specs.Table.{form}
 use Rattle.pipe_model.specs.Members.{has, flag_at}
-use Rattle.pipe_model.specs.Next.{begins_plan, known_after, nothing_known}
+use Rattle.pipe_model.specs.Next.{begins_plan, hears, nothing_known}
 use Rattle.pipe_model.specs.Next.Phase.{Doing}
 use Rattle.pipe_model.specs.Alone.{Given, IsAllAlone}
 use Rattle.pipe_model.specs.Listed.{IsUnlimited}
@@ -75,10 +75,10 @@ open_still k k' j sight ended x = record { none = sight ∙ x.none; going = ende
 -- After a look
 
 module _ (k : Known) (left : ℕ → Records) (i : ℕ) (open_is : IsOpen k i) where
-  pub saw_own : (rec : List ℕ) (rest : Records) → left i ≡ rec ∷ rest → IsSeen (known_after k (Saw i rec)) left i
+  pub saw_own : (rec : List ℕ) (rest : Records) → left i ≡ rec ∷ rest → IsSeen (hears k (Saw i rec)) left i
   saw_own rec rest list = record { rec = rec; rest = rest; seen = now_own i k.sight rec open_is.none; going = open_is.going; list = list }
 
-  pub end_own : left i ≡ [] → IsOver (known_after k (SawEnd i)) left i
+  pub end_own : left i ≡ [] → IsOver (hears k (SawEnd i)) left i
   end_own list = record { none = open_is.none; ended = ap (λ b. b || has k.ends i) (test_same i); all = list }
 
 module _ (s : Strand) (g : Given) (unlimited : IsUnlimited g) (W : List Event) (done : IsAllAlone s g W)
@@ -109,11 +109,11 @@ module _ (s : Strand) (g : Given) (unlimited : IsUnlimited g) (W : List Event) (
     now m is x = subst (λ (z : Plan). Reaches s g unlimited W done k (begins_plan s.ports.has_output [] z) (connected s.ports.has_output pairs) x.taken) (plan_at k m is) x.reaches
 
     -- it sees the next record of an input
-    pub round_saw : (i : ℕ) (rec : List ℕ) (rest : Records) → find (lacks k.sight k.ends) (all_inputs n) ≡ Some i → left i ≡ rec ∷ rest → At k pairs left → At (known_after k (Saw i rec)) pairs left
+    pub round_saw : (i : ℕ) (rec : List ℕ) (rest : Records) → find (lacks k.sight k.ends) (all_inputs n) ≡ Some i → left i ≡ rec ∷ rest → At k pairs left → At (hears k (Saw i rec)) pairs left
     round_saw i rec rest next_is list x =
         let l = x.lists i in
         let hand : slice_get (g.inputs i) (length (records_from i x.taken)) ≡ Some rec = ap (λ z. slice_get z (length (records_from i x.taken))) (l.1 ∙ ap (λ z. l.0 ++ z) list) ∙ ap (slice_get (l.0 ++ rec ∷ rest)) (sym l.2) ∙ at_end l.0 rec rest in
-        let k' : Known = known_after k (Saw i rec) in
+        let k' : Known = hears k (Saw i rec) in
         record {
           taken = x.taken;
           reaches = subst (λ (z : Plan). Reaches s g unlimited W done k' (begins_plan s.ports.has_output [] z) (connected s.ports.has_output pairs) x.taken) (plan_is k')
@@ -122,11 +122,11 @@ module _ (s : Strand) (g : Given) (unlimited : IsUnlimited g) (W : List Event) (
         }
 
     -- or its end
-    pub round_end : (i : ℕ) → find (lacks k.sight k.ends) (all_inputs n) ≡ Some i → left i ≡ [] → At k pairs left → At (known_after k (SawEnd i)) pairs left
+    pub round_end : (i : ℕ) → find (lacks k.sight k.ends) (all_inputs n) ≡ Some i → left i ≡ [] → At k pairs left → At (hears k (SawEnd i)) pairs left
     round_end i next_is list x =
         let l = x.lists i in
         let hand : slice_get (g.inputs i) (length (records_from i x.taken)) ≡ None = ap (λ z. slice_get z (length (records_from i x.taken))) (l.1 ∙ ap (λ z. l.0 ++ z) list ∙ append-nil l.0) ∙ ap (slice_get l.0) (sym l.2) ∙ past_end l.0 in
-        let k' : Known = known_after k (SawEnd i) in
+        let k' : Known = hears k (SawEnd i) in
         record {
           taken = x.taken;
           reaches = subst (λ (z : Plan). Reaches s g unlimited W done k' (begins_plan s.ports.has_output [] z) (connected s.ports.has_output pairs) x.taken) (plan_is k')
@@ -215,9 +215,9 @@ module _ (s : Strand) (g : Given) (unlimited : IsUnlimited g) (W : List Event) (
 
       by_list : IsOpen k a → (l : Records) → left a ≡ l → Rest → Full pairs left
       by_list open_is [] list rest =
-          with_it (known_after k (SawEnd a)) (round_end k pairs left a (next_is open_is) list x) (inl (end_own k left a open_is list)) (λ j apart. refl) (λ j apart. ap (λ b. b || has k.ends j) apart) rest
+          with_it (hears k (SawEnd a)) (round_end k pairs left a (next_is open_is) list x) (inl (end_own k left a open_is list)) (λ j apart. refl) (λ j apart. ap (λ b. b || has k.ends j) apart) rest
       by_list open_is (rec ∷ more) list rest =
-          with_it (known_after k (Saw a rec)) (round_saw k pairs left a rec more (next_is open_is) list x) (inr (saw_own k left a open_is rec more list)) (λ j apart. now_others a j k.sight rec apart) (λ j apart. refl) rest
+          with_it (hears k (Saw a rec)) (round_saw k pairs left a rec more (next_is open_is) list x) (inr (saw_own k left a open_is rec more list)) (λ j apart. now_others a j k.sight rec apart) (λ j apart. refl) rest
 
       by_status : Shows k left a ⊎ IsOpen k a → Rest → Full pairs left
       by_status (inl own) rest =

@@ -15,7 +15,7 @@ use Rattle.pipe_model.specs.Inputs.{records_from}
 use Rattle.pipe_model.specs.Counts.{all_on}
 use Rattle.pipe_model.specs.Table.{form}
 use Rattle.pipe_model.specs.Members.{flag_at}
-use Rattle.pipe_model.specs.Next.{is_live, begins_plan, known_after, nothing_known}
+use Rattle.pipe_model.specs.Next.{is_live, begins_plan, hears, nothing_known}
 use Rattle.pipe_model.specs.Next.Phase.{Doing}
 use Rattle.pipe_model.specs.Alone.{Given, IsAllAlone}
 use Rattle.pipe_model.specs.Listed.{IsUnlimited}
@@ -73,7 +73,7 @@ module _ (s : Strand) (g : Given) (unlimited : IsUnlimited g) (W : List Event) (
     pub turn_saw : (rec : List ℕ) (rest : Records) → g.inputs i ≡ records_from i seen ++ rec ∷ rest → At seen ends pairs → At (seen ++ (i, rec) ∷ []) ends (pairs ++ t.outs (seen ++ (i, rec) ∷ []))
     turn_saw rec rest list (k, x) =
         let hand : slice_get (g.inputs i) (length (records_from i seen)) ≡ Some rec = ap (λ z. slice_get z (length (records_from i seen))) list ∙ at_end (records_from i seen) rec rest in
-        let k' : Known = known_after k (Saw i rec) in
+        let k' : Known = hears k (Saw i rec) in
         let now : k'.seen ≡ seen ++ (i, rec) ∷ [] = ap (λ z. z ++ (i, rec) ∷ []) x.saw in
         let a = subst (λ (z : Plan). Reaches s g unlimited W done k' (begins_plan s.ports.has_output [] z) (connected s.ports.has_output pairs) seen) (plan_is k') (read_one s g unlimited W done k i rec (connected s.ports.has_output pairs) seen (asks_it k x) hand) in
         let b = acts_done k' i (t.outs k'.seen) (t.last k'.seen) (find (can_read n k'.ends) (t.order n k'.seen)) (connected s.ports.has_output pairs) seen a in (
@@ -92,7 +92,7 @@ module _ (s : Strand) (g : Given) (unlimited : IsUnlimited g) (W : List Event) (
     pub turn_end : g.inputs i ≡ records_from i seen → At seen ends pairs → At seen (i ∷ ends) pairs
     turn_end list (k, x) =
         let hand : slice_get (g.inputs i) (length (records_from i seen)) ≡ None = ap (λ z. slice_get z (length (records_from i seen))) list ∙ past_end (records_from i seen) in
-        let k' : Known = known_after k (SawEnd i) in (
+        let k' : Known = hears k (SawEnd i) in (
           k',
           record {
             saw = x.saw;
