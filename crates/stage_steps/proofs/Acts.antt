@@ -82,7 +82,7 @@ want_first [] goal p is = cc
 pub after_put : (w : Row) (outputs : List Bool) (p : Past) (acts : List Act) (goal : Goal) (q : Pair) (o : ℕ) (rec : List ℕ) → first_write acts ≡ Some q → p.phase ≡ Doing acts goal →
     after w outputs p (Doing acts goal) (Put o rec) ≡ record p { phase = Doing (when_written acts) goal }
 after_put w outputs p (Writes o' rec' ∷ acts) goal q o rec first is = refl
-after_put w outputs p (Repeats o' rec' ∷ acts) goal q o rec first is = ap (λ f. record p { phase = f }) is
+after_put w outputs p (Repeats o' rec' ∷ acts) goal q o rec first is = refl
 after_put w outputs p (Takes i ∷ acts) goal q o rec first is = cc
 after_put w outputs p [] goal q o rec first is = cc
 

@@ -47,7 +47,7 @@ module _ (pairs : List Pair) (outputs : List Bool) where
   step p (Doing (Writes o rec ∷ acts) (Ends c)) (Put o' rec') told quiet now = (refl, told, tt)
   step p (Doing (Writes o rec ∷ acts) (Ends c)) (Refused o') told quiet now = (refl, told, dropped p o' acts c)
   step p (Doing (Writes o rec ∷ acts) (Ends c)) _ told quiet now = (refl, told, tt)
-  step p (Doing (Repeats o rec ∷ acts) (Ends c)) (Put o' rec') told quiet now = (refl, told, now)
+  step p (Doing (Repeats o rec ∷ acts) (Ends c)) (Put o' rec') told quiet now = (refl, told, quiet)
   step p (Doing (Repeats o rec ∷ acts) (Ends c)) (Refused o') told quiet now = (refl, told, dropped p o' acts c)
   step p (Doing (Repeats o rec ∷ acts) (Ends c)) _ told quiet now = (refl, told, tt)
   step p (Doing (Takes i ∷ acts) (Ends c)) (Took i') told quiet now = (refl, told, tt)

@@ -13,7 +13,7 @@ use Rattle.pipe_model.specs.Shape.{writes, at_hand_of, records_of}
 use Rattle.pipe_model.specs.Table.{form}
 use Rattle.pipe_model.specs.Members.{flag_at}
 use Rattle.pipe_model.specs.Next.{Phase, Past, is_live, begins_plan, hears, nothing_known, first_phase, past_by, want_in, wanted_by, next}
-use Rattle.pipe_model.proofs.Pasts.{after}
+use Rattle.pipe_model.proofs.Pasts.{after, when_asked}
 use Rattle.pipe_model.specs.Next.Phase.{Starting, Doing, Lost}
 use Rattle.pipe_model.specs.Alone.{Given, takes_more, look_alone, alone_event, IsAllAlone}
 use Rattle.pipe_model.specs.Inputs.{records_from}
@@ -109,7 +109,7 @@ module _ (s : Strand) (g : Given) (unlimited : IsUnlimited g) (W : List Event) (
     record {
       within = on k (Doing [] (Asks (Read i))) put taken h x (Saw i rec) (Read i) refl (ap (λ z. Some (look_alone i z)) (ap (slice_get (g.inputs i)) (sym (took_count i h) ∙ ap length (x.takes i)) ∙ hand));
       going = x.going;
-      past = ap (λ (p : Past). after (form s).row s.ports.has_output p p.phase (Saw i rec)) x.past ∙ ap (λ b. cond b (mk (hears k (Saw i rec)) (begins_plan s.ports.has_output [] ((form s).row.plan (hears k (Saw i rec))))) (mk k Lost)) (test_same i);
+      past = ap (λ (p : Past). after (form s).row s.ports.has_output p p.phase (Saw i rec)) x.past ∙ ap (when_asked (form s).row s.ports.has_output (mk k (Doing [] (Asks (Read i)))) (Saw i rec)) (test_same i);
       puts = x.puts;
       takes = x.takes;
       last = λ q. by_test q (i == q) refl (x.last q);
@@ -130,7 +130,7 @@ module _ (s : Strand) (g : Given) (unlimited : IsUnlimited g) (W : List Event) (
     record {
       within = on k (Doing [] (Asks (Read i))) put taken h x (SawEnd i) (Read i) refl (ap (λ z. Some (look_alone i z)) (ap (slice_get (g.inputs i)) (sym (took_count i h) ∙ ap length (x.takes i)) ∙ hand));
       going = x.going;
-      past = ap (λ (p : Past). after (form s).row s.ports.has_output p p.phase (SawEnd i)) x.past ∙ ap (λ b. cond b (mk (hears k (SawEnd i)) (begins_plan s.ports.has_output [] ((form s).row.plan (hears k (SawEnd i))))) (mk k Lost)) (test_same i);
+      past = ap (λ (p : Past). after (form s).row s.ports.has_output p p.phase (SawEnd i)) x.past ∙ ap (when_asked (form s).row s.ports.has_output (mk k (Doing [] (Asks (Read i)))) (SawEnd i)) (test_same i);
       puts = x.puts;
       takes = x.takes;
       last = x.last;

@@ -16,3 +16,10 @@ loop-group-preserved g c =
       looks_same = c.in_ok-group.ensures.looks_same ∙ c.loop-group.invariant.looks_same;
       passes = passes_one g.L.Lists.stands c.args.outputs.now.flags.items c.args.lists.now c.loop-group.lists c.next.new.self None c.in-Some.group c.loop-group.invariant.passes gives (sym c.takes.ensures ∙ c.if-takes.false);
     }
+
+pub loop-group-preserved-else-takes-2 : goal.loop-group-preserved-else-takes-2
+loop-group-preserved-else-takes-2 g c =
+    let gives = subst (GivesNext g.L.Lists.stands c.loop-group.lists c.next.new.self) c.in-Some.is c.in_ok-group.ensures.gives in record {
+      looks_same = c.in_ok-group.ensures.looks_same ∙ c.loop-group.invariant.looks_same;
+      passes = passes_one g.L.Lists.stands c.args.outputs.now.flags.items c.args.lists.now c.loop-group.lists c.next.new.self None c.in-Some.group c.loop-group.invariant.passes gives (sym c.takes.ensures ∙ c.if-takes.false);
+    }
