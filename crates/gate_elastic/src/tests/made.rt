@@ -1,12 +1,13 @@
-ghost use Rattle.stage_steps.specs.First.{IsFirstKind};
+ghost use Rattle.std.specs.Prelude.{◌≡◌, true};
+ghost use Rattle.gate_elastic.specs.Gate.{is_gate};
 
-use crate::first::FirstStage;
+use crate::GateStage;
 use pipe_model::{Flags, Kind, NoMemory, Ports, StageName, Strand};
 use std::alloc::Global;
 
 // A fresh stage of this kind, with these connected outputs.
-pub(crate) fn fresh(alloc: Global, kind: Kind, outputs: &[bool]) -> Result<FirstStage, NoMemory>
-    requires { IsFirstKind kind }
+pub(crate) fn fresh(alloc: Global, kind: Kind, outputs: &[bool]) -> Result<GateStage, NoMemory>
+    requires { is_gate kind ≡ true }
 {
     let strand = Strand {
         name: StageName::from_vec(Vec::new(alloc)),
@@ -15,10 +16,10 @@ pub(crate) fn fresh(alloc: Global, kind: Kind, outputs: &[bool]) -> Result<First
         unit: 0,
         ports: Ports {
             inputs: 1,
-            outputs: 2,
+            outputs: 1,
             has_input: Flags::from_vec(Vec::new(alloc)),
             has_output: Flags::from_vec(Vec::from_slice(alloc, outputs)?),
         },
     };
-    FirstStage::new(alloc, &strand)
+    GateStage::new(alloc, &strand)
 }
