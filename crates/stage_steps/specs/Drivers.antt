@@ -1,5 +1,6 @@
 -- What a driver of lists stands for, and what a fresh one needs.
 use Rattle.std.specs.Prelude.{◌≡◌, Bool, true, List, [], Some}
+use Rattle.pipe_model.specs.declared.kind.Kind.{Kind}
 use Rattle.pipe_model.specs.declared.net.Strand.{Strand}
 use Rattle.pipe_model.specs.Event.{Event}
 use Rattle.pipe_model.specs.Row.{Act}
@@ -26,3 +27,7 @@ pub record Fits {L : Type 0} (stands : L → Stream → Records → List Act →
 -- a driver of these stands for each strand that they fit, before its first event
 abbrev pub IsFresh : {L : Type 0} → (L → Stream → Records → List Act → Type 0) → (L → Bool) → L → Order → List Bool → Bool → Listed L → Type 0
 IsFresh stands is_looking lists order outputs keeps x = (s : Strand) (t : Stream) → Fits stands (is_looking lists) lists order outputs keeps s t → ListedStands stands is_looking x s []
+
+-- the driver stands for each strand of this kind with these connected outputs, before its first event
+abbrev pub IsStageOf : {L : Type 0} → (L → Stream → Records → List Act → Type 0) → (L → Bool) → Kind → List Bool → Listed L → Type 0
+IsStageOf stands is_looking kind outputs x = (s : Strand) → s.kind ≡ kind → s.ports.has_output ≡ outputs → ListedStands stands is_looking x s []

@@ -1,7 +1,5 @@
 pub mod Coroutine
 pub mod Drivers
-pub mod First
-pub mod FirstLists
 pub mod Group
 pub mod Kept
 pub mod KeptText
@@ -11,5 +9,6 @@ pub mod Lists
 pub mod Outputs
 pub mod Parts
 pub mod Places
+pub mod SharedLists
 pub mod Walk
 pub mod Waiting

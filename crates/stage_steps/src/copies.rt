@@ -7,17 +7,18 @@ use std::alloc::Global;
 /// Each record goes on output 0.
 #[derive(Drop)]
 pub struct Copies {
-    pub(crate) is_looking: bool,
+    is_looking: bool,
     /// The output on which the record at hand is still to be written.
-    pub(crate) waiting: Option<u16>,
+    waiting: Option<u16>,
 }
 
 impl Copies {
-    ghost use Rattle.std.specs.Prelude.{◌≡◌, None};
+    ghost use Rattle.std.specs.Prelude.{◌≡◌};
+    ghost use Rattle.stage_steps.specs.SharedLists.{fresh_copies};
 
     /// Before the first record. CONSOLE looks at records, and stages that only pass them on don't.
     pub fn new(is_looking: bool) -> Copies
-        ensures { result ≡ record { is_looking = is_looking; waiting = None } }
+        ensures { result ≡ fresh_copies is_looking }
     {
         Copies {
             is_looking,
@@ -27,12 +28,12 @@ impl Copies {
 }
 
 impl Lists for Copies {
-    ghost use Rattle.stage_steps.specs.FirstLists.{CopiesStand};
+    ghost use Rattle.stage_steps.specs.SharedLists.{CopiesStand, copies_look};
     ghost use Rattle.stage_steps.specs.Waiting.{how_many};
 
-    ghost stands = { λ x t recs acts. CopiesStand x.waiting t recs acts };
+    ghost stands = { CopiesStand };
 
-    ghost is_looking = { λ x. x.is_looking };
+    ghost is_looking = { copies_look };
 
     ghost left = { λ x. how_many x.waiting };
 

@@ -1,16 +1,14 @@
 //! The sequential parts of stages: what a stage promises, the driver of the stages that are made of lists of pairs, the
-//! first of them, and what others need of records.
+//! lists that several of them share, and what others need of records.
 #![tactic(auto)]
 
 mod boxed;
 mod copies;
-mod first;
 mod group;
 mod kept;
 mod keys;
 mod listed;
 mod lists;
-mod locate;
 mod order;
 mod outputs;
 mod place;
@@ -23,12 +21,10 @@ mod waiting;
 mod walk;
 
 pub use copies::Copies;
-pub use first::FirstStage;
 pub use group::Group;
 pub use keys::{is_less, is_same};
 pub use listed::Listed;
 pub use lists::Lists;
-pub use locate::Locates;
 pub use order::Order;
 pub use ranges::part_of;
 pub use stage::Stage;

@@ -1,16 +1,11 @@
-ghost use Rattle.std.specs.Prelude.{IfOk};
-ghost use Rattle.stage_steps.specs.First.{IsFirstKind};
-
 use crate::*;
-use pipe_model::{Kind, NoMemory, Out, Range, Rec, Seen, Span, Times, Want};
+use pipe_model::{Out, Range, Seen, Span, Times, Want};
 use std::alloc::{AllocError, Global};
 use std::process::Abort;
 use std::test::Fail;
 
-mod made;
 mod scripted;
 
-use made::fresh;
 use scripted::{Script, a_script};
 
 // What is asked for, as text.
@@ -24,88 +19,6 @@ fn shown(alloc: Global, want: &Want) -> Result<String, AllocError> {
         Want::Done(code) => format!(in alloc; "done {code}"),
         _ => format!(in alloc; "another"),
     }
-}
-
-// LOCATE of the string `b`.
-fn of_b(alloc: Global) -> Result<Kind, NoMemory>
-    ensures { IfOk result IsFirstKind }
-{
-    Ok(Kind::Locate {
-        range: Range {
-            span: Span::Columns,
-            first: 1,
-            last: None,
-        },
-        text: Some(Rec::from_slice(alloc, b"b")?),
-    })
-}
-
-#[test]
-fn locate_asks_by_what_it_is_told(rt: HostRuntime) -> Result<(), Fail> {
-    let alloc = rt.alloc();
-    let mut stage = fresh(alloc, of_b(alloc)?, &[true, false])?;
-    assert!(rt; stage.looks());
-    assert_eq!(rt; shown(alloc, &stage.first())?.as_str(), "commit -1");
-    let steps: [(Seen, &[u8], &str); 9] = [
-        (Seen::Up(-1, 0), b"", "commit 0"),
-        (Seen::Up(0, 0), b"", "read 0"),
-        (Seen::Saw(0), b"ab", "write 0 same 0"),
-        (Seen::Put(0), b"", "take 0"),
-        (Seen::Took(0), b"", "read 0"),
-        (Seen::Saw(0), b"cd", "take 0"),
-        (Seen::Took(0), b"", "read 0"),
-        (Seen::SawEnd(0), b"", "done 0"),
-        (Seen::Ended(0), b"", "done 0"),
-    ];
-    for (seen, bytes, want) in steps {
-        let asked = stage.resume(alloc, seen, bytes)?;
-        assert_eq!(rt; shown(alloc, &asked)?.as_str(), want, "after {seen:?}");
-    }
-    assert!(rt; stage.kept().is_empty());
-    Ok(())
-}
-
-#[test]
-fn a_console_keeps_what_it_takes(rt: HostRuntime) -> Result<(), Fail> {
-    let alloc = rt.alloc();
-    let mut stage = fresh(alloc, Kind::ConsoleOut, &[true])?;
-    let steps: [(Seen, &[u8], &str, &[u8]); 8] = [
-        (Seen::Up(-1, 0), b"", "commit 0", b""),
-        (Seen::Up(0, 0), b"", "read 0", b""),
-        (Seen::Saw(0), b"ab", "write 0 same 0", b""),
-        (Seen::Refused(0), b"", "take 0", b""),
-        (Seen::Took(0), b"", "read 0", b"ab\n"),
-        (Seen::Saw(0), b"", "take 0", b"ab\n"),
-        (Seen::Took(0), b"", "read 0", b"ab\n\n"),
-        (Seen::SawEnd(0), b"", "done 0", b"ab\n\n"),
-    ];
-    for (seen, bytes, want, kept) in steps {
-        let asked = stage.resume(alloc, seen, bytes)?;
-        assert_eq!(rt; shown(alloc, &asked)?.as_str(), want, "after {seen:?}");
-        assert_eq!(rt; stage.kept(), kept, "after {seen:?}");
-    }
-    Ok(())
-}
-
-#[test]
-fn a_console_writes_its_lines(rt: HostRuntime) -> Result<(), Fail> {
-    let alloc = rt.alloc();
-    let bytes = Rec::from_slice(alloc, b"a\n\nb")?;
-    let mut stage = fresh(alloc, Kind::ConsoleIn { bytes }, &[true])?;
-    assert!(rt; !stage.looks());
-    let steps: [(Seen, &str); 6] = [
-        (Seen::Up(-1, 0), "commit 0"),
-        (Seen::Up(0, 0), "write 0 [97]"),
-        (Seen::Put(0), "write 0 []"),
-        (Seen::Put(0), "write 0 [98]"),
-        (Seen::Put(0), "done 0"),
-        (Seen::Ended(0), "done 0"),
-    ];
-    for (seen, want) in steps {
-        let asked = stage.resume(alloc, seen, b"")?;
-        assert_eq!(rt; shown(alloc, &asked)?.as_str(), want, "after {seen:?}");
-    }
-    Ok(())
 }
 
 // What a range names of a record.
@@ -279,26 +192,6 @@ fn a_bad_commit_ends_it(rt: HostRuntime) -> Result<(), Fail> {
         Order::TakesFirst,
         &steps,
     )
-}
-
-#[test]
-fn copies_that_queue_are_taken_first(rt: HostRuntime) -> Result<(), Fail> {
-    let alloc = rt.alloc();
-    let mut stage = Listed::new(alloc, Copies::new(false), Order::TakesFirst, &[true], false)?;
-    assert!(rt; !stage.looks());
-    let steps = [
-        (Seen::Up(-1, 0), "commit 0"),
-        (Seen::Up(0, 0), "read 0"),
-        (Seen::Saw(0), "take 0"),
-        (Seen::Took(0), "write 0 same 0"),
-        (Seen::Put(0), "read 0"),
-        (Seen::SawEnd(0), "done 0"),
-    ];
-    for (seen, want) in steps {
-        let asked = stage.resume(alloc, seen, b"")?;
-        assert_eq!(rt; shown(alloc, &asked)?.as_str(), want, "after {seen:?}");
-    }
-    Ok(())
 }
 
 #[test]

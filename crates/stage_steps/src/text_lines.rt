@@ -11,22 +11,21 @@ use std::alloc::Global;
 /// The lines of a text, before any record: each is cut when it is asked for.
 #[derive(Drop)]
 pub struct TextLines {
-    pub(crate) bytes: Rec,
+    bytes: Rec,
     /// Where the lines begin that are left.
-    pub(crate) at: usize,
+    at: usize,
 }
 
 impl TextLines {
-    ghost use Rattle.std.specs.Prelude.{◌≡◌, length, IfOk};
+    ghost use Rattle.std.specs.Prelude.{◌≡◌};
+    ghost use Rattle.stage_steps.specs.SharedLists.{fresh_lines};
 
-    /// All lines of this text.
-    pub fn new(alloc: Global, text: &[u8]) -> Result<TextLines, NoMemory>
-        ensures { IfOk result (λ it. it ≡ record { bytes = text.now; at = length text.now }) }
+    /// All lines of this text, before the first of them is asked for.
+    pub fn new(bytes: Rec) -> TextLines
+        ensures { result ≡ fresh_lines bytes }
     {
-        Ok(TextLines {
-            bytes: Rec::from_slice(alloc, text)?,
-            at: text.len(),
-        })
+        let at = bytes.bytes().len();
+        TextLines { bytes, at }
     }
 }
 
@@ -38,12 +37,12 @@ fn first_line(text: &[u8]) -> Option<&[u8]>
 }
 
 impl Lists for TextLines {
-    ghost use Rattle.std.specs.Prelude.{◌-◌, false, length};
-    ghost use Rattle.stage_steps.specs.FirstLists.{LinesStand};
+    ghost use Rattle.std.specs.Prelude.{◌-◌, length};
+    ghost use Rattle.stage_steps.specs.SharedLists.{LinesStand, lines_look};
 
-    ghost stands = { λ x t recs acts. LinesStand x.bytes x.at t acts };
+    ghost stands = { LinesStand };
 
-    ghost is_looking = { λ _. false };
+    ghost is_looking = { lines_look };
 
     ghost left = { λ x. length x.bytes - x.at };
 

@@ -1,0 +1,26 @@
+-- The kinds of devices, and what their stages stand for.
+use Rattle.std.specs.Prelude.{Bool, true, false, List}
+use Rattle.pipe_model.specs.declared.net.Strand.{Strand}
+use Rattle.pipe_model.specs.declared.kind.Kind.{Kind}
+use Rattle.pipe_model.specs.declared.kind.Kind.TheVariants.{ConsoleIn, ConsoleOut, Literal, Hole}
+use Rattle.pipe_model.specs.Event.{Event}
+use Rattle.stage_steps.specs.Drivers.{ListedStands}
+use Rattle.stage_steps.specs.SharedLists.{LinesStand, lines_look, CopiesStand, copies_look}
+use Rattle.device_stages.specs.declared.device.DeviceStage.{DeviceStage}
+use Rattle.device_stages.specs.declared.device.DeviceStage.TheVariants as Stages
+use Rattle.device_stages.specs.DeviceLists.{LiteralsStand, literals_look, HolesStand, holes_look}
+
+-- there is a device of the kind
+abbrev pub is_device : Kind → Bool
+is_device (ConsoleIn bytes) = true
+is_device ConsoleOut = true
+is_device (Literal text) = true
+is_device Hole = true
+is_device _ = false
+
+-- the stage stands for this history of this strand
+abbrev pub DeviceStands : DeviceStage → Strand → List Event → Type 0
+DeviceStands (Stages.Source x) s h = ListedStands LinesStand lines_look x s h
+DeviceStands (Stages.Console x) s h = ListedStands CopiesStand copies_look x s h
+DeviceStands (Stages.Literal x) s h = ListedStands LiteralsStand literals_look x s h
+DeviceStands (Stages.Hole x) s h = ListedStands HolesStand holes_look x s h

@@ -1,0 +1,85 @@
+use crate::console::console;
+use crate::hole::Holes;
+use crate::literal::Literals;
+use crate::source::source;
+use pipe_model::{Kind, NoMemory, Seen, Strand, Want};
+use stage_steps::{Copies, Listed, Stage, TextLines};
+use std::alloc::Global;
+
+/// A stage of a device.
+#[derive(Drop)]
+pub enum DeviceStage {
+    /// CONSOLE, first in its pipeline.
+    Source(Listed<TextLines>),
+    /// CONSOLE, not first in its pipeline.
+    Console(Listed<Copies>),
+    Literal(Listed<Literals>),
+    Hole(Listed<Holes>),
+}
+
+impl DeviceStage {
+    ghost use Rattle.std.specs.Prelude.{◌≡◌, true, [], IfOk};
+    ghost use Rattle.device_stages.specs.Device.{is_device, DeviceStands};
+
+    /// The stage of a strand, before its first event.
+    pub fn new(alloc: Global, strand: &Strand) -> Result<DeviceStage, NoMemory>
+        requires { is_device strand.now.kind ≡ true }
+        ensures { IfOk result (λ stage. DeviceStands stage strand.now []) }
+    {
+        let outputs = strand.ports.has_output.as_slice();
+        match &strand.kind {
+            Kind::ConsoleIn { bytes } => Ok(DeviceStage::Source(source(alloc, bytes, outputs)?)),
+            Kind::ConsoleOut => Ok(DeviceStage::Console(console(alloc, outputs)?)),
+            Kind::Literal { text } => Ok(DeviceStage::Literal(Literals::stage(alloc, text, outputs)?)),
+            Kind::Hole => Ok(DeviceStage::Hole(Holes::stage(alloc, outputs)?)),
+            _ => unreachable!(),
+        }
+    }
+}
+
+impl Stage for DeviceStage {
+    ghost use Rattle.std.specs.Prelude.{IfOk};
+    ghost use Rattle.stage_steps.specs.Coroutine.{Resumes};
+    ghost use Rattle.device_stages.specs.Device.{DeviceStands};
+
+    ghost stands = { DeviceStands };
+
+    fn first(&self) -> Want {
+        match self {
+            DeviceStage::Source(stage) => stage.first(),
+            DeviceStage::Console(stage) => stage.first(),
+            DeviceStage::Literal(stage) => stage.first(),
+            DeviceStage::Hole(stage) => stage.first(),
+        }
+    }
+
+    // It may be told any event; what isn't answered ends it.
+    fn resume(&mut self, alloc: Global, seen: Seen, bytes: &[u8]) -> Result<Want, NoMemory>
+        ensures { IfOk result (λ asked. Resumes DeviceStands self.old self.new seen bytes.now asked) }
+    {
+        match self {
+            DeviceStage::Source(stage) => stage.resume(alloc, seen, bytes),
+            DeviceStage::Console(stage) => stage.resume(alloc, seen, bytes),
+            DeviceStage::Literal(stage) => stage.resume(alloc, seen, bytes),
+            DeviceStage::Hole(stage) => stage.resume(alloc, seen, bytes),
+        }
+    }
+
+    fn looks(&self) -> bool {
+        match self {
+            DeviceStage::Source(stage) => stage.looks(),
+            DeviceStage::Console(stage) => stage.looks(),
+            DeviceStage::Literal(stage) => stage.looks(),
+            DeviceStage::Hole(stage) => stage.looks(),
+        }
+    }
+
+    fn kept(&self) -> &[u8] {
+        match self {
+            DeviceStage::Source(stage) => stage.kept(),
+            DeviceStage::Console(stage) => stage.kept(),
+            DeviceStage::Literal(stage) => stage.kept(),
+            DeviceStage::Hole(stage) => stage.kept(),
+        }
+    }
+}

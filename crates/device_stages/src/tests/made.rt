@@ -1,0 +1,25 @@
+ghost use Rattle.std.specs.Prelude.{◌≡◌, true};
+ghost use Rattle.device_stages.specs.Device.{is_device};
+
+use crate::DeviceStage;
+use pipe_model::{Flags, Kind, NoMemory, Ports, StageName, Strand};
+use std::alloc::Global;
+
+// A fresh device of this kind, with these connected outputs.
+pub(crate) fn fresh(alloc: Global, kind: Kind, outputs: &[bool]) -> Result<DeviceStage, NoMemory>
+    requires { is_device kind ≡ true }
+{
+    let strand = Strand {
+        name: StageName::from_vec(Vec::new(alloc)),
+        kind,
+        part: 0,
+        unit: 0,
+        ports: Ports {
+            inputs: 1,
+            outputs: 1,
+            has_input: Flags::from_vec(Vec::new(alloc)),
+            has_output: Flags::from_vec(Vec::from_slice(alloc, outputs)?),
+        },
+    };
+    DeviceStage::new(alloc, &strand)
+}

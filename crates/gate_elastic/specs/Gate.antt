@@ -1,0 +1,19 @@
+-- The kinds of the stages that only pass on what they read, and what their stages stand for.
+use Rattle.std.specs.Prelude.{Bool, true, false, List}
+use Rattle.pipe_model.specs.declared.net.Strand.{Strand}
+use Rattle.pipe_model.specs.declared.kind.Kind.{Kind}
+use Rattle.pipe_model.specs.declared.kind.Kind.TheVariants.{Copy}
+use Rattle.pipe_model.specs.Event.{Event}
+use Rattle.stage_steps.specs.Drivers.{ListedStands}
+use Rattle.stage_steps.specs.SharedLists.{CopiesStand, copies_look}
+use Rattle.gate_elastic.specs.declared.gate.GateStage.{GateStage}
+use Rattle.gate_elastic.specs.declared.gate.GateStage.TheVariants as Stages
+
+-- the stage of the kind is one of these
+abbrev pub is_gate : Kind → Bool
+is_gate Copy = true
+is_gate _ = false
+
+-- the stage stands for this history of this strand
+abbrev pub GateStands : GateStage → Strand → List Event → Type 0
+GateStands (Stages.Copy x) s h = ListedStands CopiesStand copies_look x s h

@@ -1,0 +1,18 @@
+-- The kinds of the built-in stages, and what these stand for.
+use Rattle.std.specs.Prelude.{Bool, ◌||◌, List}
+use Rattle.pipe_model.specs.declared.net.Strand.{Strand}
+use Rattle.pipe_model.specs.declared.kind.Kind.{Kind}
+use Rattle.pipe_model.specs.Event.{Event}
+use Rattle.device_stages.specs.Device.{is_device, DeviceStands}
+use Rattle.gate_elastic.specs.Gate.{is_gate, GateStands}
+use Rattle.stage_table.specs.declared.built_in.BuiltIn.{BuiltIn}
+use Rattle.stage_table.specs.declared.built_in.BuiltIn.TheVariants.{Device, Gate}
+
+-- a family has the kind
+abbrev pub is_built_in : Kind → Bool
+is_built_in kind = is_device kind || is_gate kind
+
+-- the stage stands for this history of this strand
+abbrev pub BuiltInStands : BuiltIn → Strand → List Event → Type 0
+BuiltInStands (Device x) s h = DeviceStands x.value s h
+BuiltInStands (Gate x) s h = GateStands x.value s h

@@ -1,0 +1,53 @@
+use device_stages::DeviceStage;
+use gate_elastic::GateStage;
+use pipe_model::{NoMemory, Seen, Want};
+use stage_steps::Stage;
+use std::alloc::Global;
+
+/// A built-in stage, by its family. It is boxed, since a coroutine that goes out with a job is moved, and a box is moved
+/// at the cost of a pointer.
+#[derive(Drop)]
+pub enum BuiltIn {
+    Device(Box<DeviceStage>),
+    Gate(Box<GateStage>),
+}
+
+impl Stage for BuiltIn {
+    ghost use Rattle.std.specs.Prelude.{IfOk};
+    ghost use Rattle.stage_steps.specs.Coroutine.{Resumes};
+    ghost use Rattle.stage_table.specs.BuiltIn.{BuiltInStands};
+
+    ghost stands = { BuiltInStands };
+
+    fn first(&self) -> Want {
+        match self {
+            BuiltIn::Device(stage) => stage.first(),
+            BuiltIn::Gate(stage) => stage.first(),
+        }
+    }
+
+    // It may be told any event; what isn't answered ends it.
+    #[inline(always)]
+    fn resume(&mut self, alloc: Global, seen: Seen, bytes: &[u8]) -> Result<Want, NoMemory>
+        ensures { IfOk result (λ asked. Resumes BuiltInStands self.old self.new seen bytes.now asked) }
+    {
+        match self {
+            BuiltIn::Device(stage) => (**stage).resume(alloc, seen, bytes),
+            BuiltIn::Gate(stage) => (**stage).resume(alloc, seen, bytes),
+        }
+    }
+
+    fn looks(&self) -> bool {
+        match self {
+            BuiltIn::Device(stage) => stage.looks(),
+            BuiltIn::Gate(stage) => stage.looks(),
+        }
+    }
+
+    fn kept(&self) -> &[u8] {
+        match self {
+            BuiltIn::Device(stage) => stage.kept(),
+            BuiltIn::Gate(stage) => stage.kept(),
+        }
+    }
+}

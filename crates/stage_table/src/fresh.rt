@@ -1,0 +1,38 @@
+ghost use Rattle.std.specs.Prelude.{◌≡◌, ℕ, [], true, length, slice_get, IfOk, Some};
+ghost use Rattle.pipe_model.specs.declared.net.Strand.{Strand as StrandIs};
+ghost use Rattle.pipe_model.specs.State.{nothing_yet, strand_at};
+ghost use Rattle.stage_table.specs.declared.built_in.BuiltIn.{BuiltIn as BuiltInIs};
+ghost use Rattle.stage_table.specs.BuiltIn.{is_built_in, BuiltInStands};
+
+use crate::built_in::BuiltIn;
+use device_stages::{DeviceStage, is_device};
+use gate_elastic::GateStage;
+use pipe_model::{Net, NoMemory, Strand};
+use std::alloc::Global;
+
+/// The stage of a strand, before its first event.
+pub fn make(alloc: Global, strand: &Strand) -> Result<BuiltIn, NoMemory>
+    requires { is_built_in strand.now.kind ≡ true }
+    ensures { IfOk result (λ stage. BuiltInStands stage strand.now []) }
+{
+    if is_device(&strand.kind) {
+        let stage = DeviceStage::new(alloc, strand)?;
+        return Ok(BuiltIn::Device(Box::new(alloc, stage)?));
+    }
+    let stage = GateStage::new(alloc, strand)?;
+    Ok(BuiltIn::Gate(Box::new(alloc, stage)?))
+}
+
+/// A stage for each strand of a net, in their order, each before its first event.
+pub fn make_all(alloc: Global, net: &Net) -> Result<Vec<BuiltIn>, NoMemory>
+    requires { (s : ℕ) (p : StrandIs) → strand_at net.now nothing_yet s ≡ Some p → is_built_in p.kind ≡ true }
+    ensures count { IfOk result (λ stages. length stages.items ≡ length net.now.strands) }
+    ensures each { IfOk result (λ stages. (s : ℕ) (p : StrandIs) (stage : BuiltInIs) → slice_get net.now.strands s ≡ Some p → slice_get stages.items s ≡ Some stage → BuiltInStands stage p []) }
+{
+    let strands = net.strands.as_slice();
+    let mut stages = Vec::new(alloc);
+    for k in 0..strands.len() {
+        stages.push(make(alloc, &strands[k])?)?;
+    }
+    Ok(stages)
+}

@@ -1,0 +1,13 @@
+ghost use Rattle.std.specs.Prelude.{◌≡◌};
+ghost use Rattle.stage_table.specs.BuiltIn.{is_built_in};
+
+use device_stages::is_device;
+use gate_elastic::is_gate;
+use pipe_model::Kind;
+
+/// Whether there is a stage of the kind.
+pub fn is_built_in(kind: &Kind) -> bool
+    ensures { result ≡ is_built_in kind.now }
+{
+    is_device(kind) || is_gate(kind)
+}

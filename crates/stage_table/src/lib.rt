@@ -1,0 +1,13 @@
+//! The built-in stages: one value for the stages of all families, and the stage of each strand of a net.
+#![tactic(auto)]
+
+mod built_in;
+mod fresh;
+mod kinds;
+
+pub use built_in::BuiltIn;
+pub use kinds::is_built_in;
+pub use fresh::{make, make_all};
+
+#[cfg(test)]
+mod tests;
