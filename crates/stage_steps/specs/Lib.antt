@@ -11,5 +11,6 @@ pub mod Lists
 pub mod Outputs
 pub mod Parts
 pub mod Places
+pub mod Strings
 pub mod Walk
 pub mod Waiting

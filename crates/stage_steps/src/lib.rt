@@ -32,7 +32,7 @@ pub use locate::Locates;
 pub use order::Order;
 pub use ranges::part_of;
 pub use stage::Stage;
-pub use strings::contains;
+pub use strings::{Sought, contains};
 pub use text_lines::TextLines;
 pub use waiting::take_waiting;
 
