@@ -1,5 +1,5 @@
 -- What a stage does that writes each record on output 0 or on output 1, and nothing at the start or at the end of input.
-use Rattle.std.specs.Prelude.{◌≡◌, ◌<◌, ℕ, Bool, true, List, [], ◌∷◌, ◌++◌, length}
+use Rattle.std.specs.Prelude.{◌≡◌, ◌<◌, ℕ, Bool, true, not, List, [], ◌∷◌, ◌++◌, length}
 use Rattle.std.specs.declared.option.Option.{Option}
 use Rattle.pipe_model.specs.Row.{Act}
 use Rattle.pipe_model.specs.SelectionRows.{selected}
@@ -19,6 +19,10 @@ pub record Choice : Type 0 where
 abbrev pub choice_by : (List ℕ → Bool) → Choice
 choice_by test = record { selects = λ recs. test (at_hand_of recs); halts = never; stops = never }
 
+-- the records are selected that a choice rejects
+abbrev pub rejected : Choice → Choice
+rejected choice = record choice { selects = λ recs. not (choice.selects recs) }
+
 -- the lists of a choice
 abbrev pub chosen : Choice → Stream
 chosen choice = record (each_record (λ recs. selected (choice.selects recs) recs)) { stops = choice.stops; halts = choice.halts }
@@ -31,6 +35,10 @@ PicksNext stands looks x y bytes is = (choice : Choice) (recs : Records) (rec : 
 -- what it tells is what the choice says after the records so far
 abbrev pub Says : {P : Type 0} → (P → Choice → Records → Type 0) → P → Bool → (Choice → Records → Bool) → Type 0
 Says stands x is f = (choice : Choice) (recs : Records) → stands x choice recs → is ≡ f choice recs
+
+-- the other value stands for the choice that is rejected
+abbrev pub RejectsStand : {P : Type 0} → (P → Choice → Records → Type 0) → P → Choice → Records → Type 0
+RejectsStand stands x choice recs = (other : Choice) × (choice ≡ rejected other) × stands x other recs
 
 -- each record goes on the output that is picked, where it may wait for it
 abbrev pub PickedStands : {P : Type 0} → (P → Choice → Records → Type 0) → P → Option ℕ → Stream → Records → List Act → Type 0

@@ -7,5 +7,3 @@ mod select;
 
 pub use select::{SelectStage, is_select};
 
-#[cfg(test)]
-mod tests;

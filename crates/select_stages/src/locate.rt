@@ -3,12 +3,10 @@ use pipe_model::Range;
 use stage_steps::{Sought, part_of};
 
 /// LOCATE selects the records in whose range the string stands, and without a string those whose range isn't empty.
-/// NLOCATE rejects them.
 #[derive(Drop)]
 pub struct Locates {
     pub(crate) range: Range,
     pub(crate) sought: Option<Sought>,
-    pub(crate) rejects: bool,
 }
 
 impl Locates {
@@ -30,15 +28,15 @@ impl Locates {
 
 impl Picks for Locates {
     ghost use Rattle.std.specs.Prelude.{true};
-    ghost use Rattle.select_stages.specs.Locating.{LocatesStand};
+    ghost use Rattle.select_stages.specs.States.{LocatesStand};
 
-    ghost stands = { λ x choice recs. LocatesStand x.range x.sought x.rejects choice };
+    ghost stands = { λ x choice recs. LocatesStand x.range x.sought choice };
 
     ghost is_looking = { λ _. true };
 
     #[inline(always)]
     fn pick(&mut self, bytes: &[u8]) -> bool {
-        self.locates(bytes) != self.rejects
+        self.locates(bytes)
     }
 
     #[inline(always)]

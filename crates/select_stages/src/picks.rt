@@ -33,6 +33,39 @@ pub trait Picks: Sized + Drop {
         ensures { result ≡ is_looking self.now };
 }
 
+/// Selects the records that the other rejects, and rejects those that it selects: NLOCATE.
+#[derive(Drop)]
+pub struct Rejects<P: Picks> {
+    pub(crate) picks: P,
+}
+
+impl<P: Picks> Picks for Rejects<P> {
+    ghost use Rattle.select_stages.specs.Picks.{RejectsStand};
+
+    ghost stands = { λ x choice recs. RejectsStand P.stands x.picks choice recs };
+
+    ghost is_looking = { λ x. P.is_looking x.picks };
+
+    #[inline(always)]
+    fn pick(&mut self, bytes: &[u8]) -> bool {
+        !self.picks.pick(bytes)
+    }
+
+    #[inline(always)]
+    fn halts(&self) -> bool {
+        self.picks.halts()
+    }
+
+    #[inline(always)]
+    fn stops(&self) -> bool {
+        self.picks.stops()
+    }
+
+    fn looks(&self) -> bool {
+        self.picks.looks()
+    }
+}
+
 /// The lists of such a stage: one pair for each record.
 #[derive(Drop)]
 pub struct Picked<P: Picks> {

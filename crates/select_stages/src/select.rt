@@ -1,8 +1,8 @@
-ghost use Rattle.std.specs.Prelude.{◌≡◌, IfOk, option_map};
+ghost use Rattle.std.specs.Prelude.{◌≡◌, IfOk};
 ghost use Rattle.select_stages.specs.Select.{is_select};
 
 use crate::locate::Locates;
-use crate::picks::Picked;
+use crate::picks::{Picked, Rejects};
 use pipe_model::{Kind, NoMemory, Range, Rec, Seen, Strand, Want};
 use stage_steps::{Listed, Order, Sought, Stage};
 use std::alloc::Global;
@@ -10,8 +10,8 @@ use std::alloc::Global;
 /// A stage of Selection.
 #[derive(Drop)]
 pub enum SelectStage {
-    /// LOCATE and NLOCATE.
     Locate(Listed<Picked<Locates>>),
+    Nlocate(Listed<Picked<Rejects<Locates>>>),
 }
 
 /// Whether the kind is one of Selection.
@@ -49,7 +49,6 @@ impl SelectStage {
                 let locates = Locates {
                     range: *range,
                     sought: sought(alloc, text)?,
-                    rejects: false,
                 };
                 let picked = Picked::new(locates);
                 let stage = Listed::new(alloc, picked, Order::WritesFirst, outputs, false)?;
@@ -59,11 +58,10 @@ impl SelectStage {
                 let locates = Locates {
                     range: *range,
                     sought: sought(alloc, text)?,
-                    rejects: true,
                 };
-                let picked = Picked::new(locates);
+                let picked = Picked::new(Rejects { picks: locates });
                 let stage = Listed::new(alloc, picked, Order::WritesFirst, outputs, false)?;
-                Ok(SelectStage::Locate(stage))
+                Ok(SelectStage::Nlocate(stage))
             }
             _ => unreachable!(),
         }
@@ -80,28 +78,31 @@ impl Stage for SelectStage {
     fn first(&self) -> Want {
         match self {
             SelectStage::Locate(stage) => stage.first(),
+            SelectStage::Nlocate(stage) => stage.first(),
         }
     }
 
     // It may be told any event; what isn't answered ends it.
-    #[inline(always)]
     fn resume(&mut self, alloc: Global, seen: Seen, bytes: &[u8]) -> Result<Want, NoMemory>
         ensures { IfOk result (λ asked. Resumes (λ x s h. SelectStands x s h) self.old self.new seen bytes.now asked) }
     {
         match self {
             SelectStage::Locate(stage) => stage.resume(alloc, seen, bytes),
+            SelectStage::Nlocate(stage) => stage.resume(alloc, seen, bytes),
         }
     }
 
     fn looks(&self) -> bool {
         match self {
             SelectStage::Locate(stage) => stage.looks(),
+            SelectStage::Nlocate(stage) => stage.looks(),
         }
     }
 
     fn kept(&self) -> &[u8] {
         match self {
             SelectStage::Locate(stage) => stage.kept(),
+            SelectStage::Nlocate(stage) => stage.kept(),
         }
     }
 }
