@@ -1,0 +1,9 @@
+//! The stages of Editing: those that write what they make of each record.
+#![tactic(auto)]
+
+mod duplicate;
+mod edit;
+mod edits;
+mod reverse;
+
+pub use edit::{EditStage, is_edit};
