@@ -6,6 +6,7 @@ pub mod Fields
 pub mod Fitting
 pub mod Flags
 pub mod Groups
+pub mod Searching
 pub mod Sources
 pub mod Starts
 pub mod Walks

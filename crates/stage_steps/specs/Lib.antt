@@ -10,5 +10,6 @@ pub mod Outputs
 pub mod Parts
 pub mod Places
 pub mod SharedLists
+pub mod Strings
 pub mod Walk
 pub mod Waiting

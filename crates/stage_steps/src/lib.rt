@@ -28,7 +28,7 @@ pub use lists::Lists;
 pub use order::Order;
 pub use ranges::part_of;
 pub use stage::Stage;
-pub use strings::contains;
+pub use strings::Sought;
 pub use text_lines::TextLines;
 pub use waiting::take_waiting;
 

@@ -1,21 +1,128 @@
-ghost use Rattle.std.specs.Prelude.{◌≡◌, ◌∷◌, []};
-ghost use Rattle.pipe_model.specs.Search.{holds};
+ghost use Rattle.std.specs.Prelude.{◌≡◌, ◌<◌, length};
+ghost use Rattle.bstr.specs.Find.{FindsNeedle};
 
 use bstr::ByteSlice;
+use pipe_model::Rec;
+use std::marker::Model;
 
-/// Whether the string stands in the part.
-pub fn contains(part: &[u8], string: &[u8]) -> bool
-    ensures { result ≡ holds string.now part.now }
-{
-    if string.len() == 1 {
-        return contains_byte(part, string[0]);
-    }
-    part.contains_str(string)
+/// A string to look for, seen as the list of its bytes. A short one is looked for by its rarest byte, which is chosen
+/// when the value is made.
+#[derive(Drop)]
+pub struct Sought {
+    text: Rec,
+    /// The place of its rarest byte.
+    rare: usize,
 }
 
-// The same for a string of one byte, which needs no preparation.
-fn contains_byte(part: &[u8], byte: u8) -> bool
-    ensures { result ≡ holds (byte ∷ []) part.now }
+impl Model for Sought {
+    ghost use Rattle.std.specs.Prelude.{◌<◌, ℕ, List, length};
+
+    ghost Value = { List ℕ };
+
+    ghost view = { λ sought. sought.text };
+
+    ghost invariant = { λ sought. 0 < length sought.text → sought.rare < length sought.text };
+}
+
+/// The longest string that is looked for by a byte. Where all bytes but one are those of the record, each place is
+/// compared, so a long one is left to the library, whose worst case is linear.
+const LONGEST: usize = 32;
+
+impl Sought {
+    ghost use Rattle.std.specs.Prelude.{◌≡◌, ◌+◌, ◌≤◌, length, IfSome};
+    ghost use Rattle.pipe_model.specs.Search.{holds};
+    ghost use Rattle.stage_steps.specs.Strings.{IsFirstPlace};
+
+    /// The string of these bytes.
+    pub fn new(text: Rec) -> Sought
+        ensures { result ≡ text }
+    {
+        let rare = rarest(text.bytes());
+        Sought { text, rare }
+    }
+
+    /// The first place, counted from 0, where the string stands in the part.
+    #[inline(always)]
+    pub fn find(&self, part: &[u8]) -> Option<usize>
+        ensures first { IsFirstPlace self.now part.now result }
+        ensures within { IfSome result (λ k. k + length self.now ≤ length part.now) }
+    {
+        let text = self.text.bytes();
+        if text.len() == 1 {
+            return find_byte(part, text);
+        }
+        if text.is_empty() || text.len() > LONGEST {
+            return part.find(text);
+        }
+        find_by_byte(part, text, self.rare)
+    }
+
+    /// Whether the string stands in the part.
+    #[inline(always)]
+    pub fn is_in(&self, part: &[u8]) -> bool
+        ensures { result ≡ holds self.now part.now }
+    {
+        self.find(part).is_some()
+    }
+}
+
+// How rare a byte is in texts, by its class.
+fn rarity(byte: u8) -> u8 {
+    match byte {
+        b' ' | b'a' | b'e' | b'i' | b'o' | b'u' => 0,
+        b'a'..=b'z' => 1,
+        b'0'..=b'9' => 2,
+        b'A'..=b'Z' => 3,
+        b'!'..=b'~' => 4,
+        _ => 5,
+    }
+}
+
+// The place of the first of its rarest bytes.
+fn rarest(text: &[u8]) -> usize
+    ensures { 0 < length text.now → result < length text.now }
 {
-    part.find_byte(byte).is_some()
+    let mut rare = 0;
+    let mut most = 0;
+    for (place, byte) in text.iter().enumerate() {
+        let rarity = rarity(*byte);
+        if rarity > most {
+            rare = place;
+            most = rarity;
+        }
+    }
+    rare
+}
+
+// The same for a string of one byte, which isn't compared again.
+#[inline(always)]
+fn find_byte(part: &[u8], text: &[u8]) -> Option<usize>
+    requires { length text.now ≡ 1 }
+    ensures { FindsNeedle part.now text.now 0 result }
+{
+    part.find_byte(text[0])
+}
+
+// The same by its byte at a place: where the string stands, that byte stands so far behind.
+fn find_by_byte(part: &[u8], text: &[u8], rare: usize) -> Option<usize>
+    requires { rare < length text.now }
+    ensures { FindsNeedle part.now text.now 0 result }
+{
+    let byte = text[rare];
+    let mut from = 0;
+    while from + rare < part.len() {
+        let rest = &part[from + rare..];
+        match rest.find_byte(byte) {
+            None => return None,
+            Some(ahead) => {
+                let place = from + ahead;
+                let behind = &part[place..];
+                if behind.starts_with_str(text) {
+                    return Some(place);
+                }
+                from = place + 1;
+            }
+        }
+    }
+    None
 }

@@ -1,6 +1,8 @@
 use device_stages::DeviceStage;
+use edit_stages::EditStage;
 use gate_elastic::GateStage;
 use pipe_model::{NoMemory, Seen, Want};
+use select_stages::SelectStage;
 use stage_steps::Stage;
 use std::alloc::Global;
 
@@ -9,6 +11,8 @@ use std::alloc::Global;
 #[derive(Drop)]
 pub enum BuiltIn {
     Device(Box<DeviceStage>),
+    Select(Box<SelectStage>),
+    Edit(Box<EditStage>),
     Gate(Box<GateStage>),
 }
 
@@ -22,6 +26,8 @@ impl Stage for BuiltIn {
     fn first(&self) -> Want {
         match self {
             BuiltIn::Device(stage) => stage.first(),
+            BuiltIn::Select(stage) => stage.first(),
+            BuiltIn::Edit(stage) => stage.first(),
             BuiltIn::Gate(stage) => stage.first(),
         }
     }
@@ -33,6 +39,8 @@ impl Stage for BuiltIn {
     {
         match self {
             BuiltIn::Device(stage) => (**stage).resume(alloc, seen, bytes),
+            BuiltIn::Select(stage) => (**stage).resume(alloc, seen, bytes),
+            BuiltIn::Edit(stage) => (**stage).resume(alloc, seen, bytes),
             BuiltIn::Gate(stage) => (**stage).resume(alloc, seen, bytes),
         }
     }
@@ -40,6 +48,8 @@ impl Stage for BuiltIn {
     fn looks(&self) -> bool {
         match self {
             BuiltIn::Device(stage) => stage.looks(),
+            BuiltIn::Select(stage) => stage.looks(),
+            BuiltIn::Edit(stage) => stage.looks(),
             BuiltIn::Gate(stage) => stage.looks(),
         }
     }
@@ -47,6 +57,8 @@ impl Stage for BuiltIn {
     fn kept(&self) -> &[u8] {
         match self {
             BuiltIn::Device(stage) => stage.kept(),
+            BuiltIn::Select(stage) => stage.kept(),
+            BuiltIn::Edit(stage) => stage.kept(),
             BuiltIn::Gate(stage) => stage.kept(),
         }
     }

@@ -6,8 +6,10 @@ ghost use Rattle.stage_table.specs.BuiltIn.{is_built_in, BuiltInStands};
 
 use crate::built_in::BuiltIn;
 use device_stages::{DeviceStage, is_device};
+use edit_stages::{EditStage, is_edit};
 use gate_elastic::GateStage;
 use pipe_model::{Net, NoMemory, Strand};
+use select_stages::{SelectStage, is_select};
 use std::alloc::Global;
 
 /// The stage of a strand, before its first event.
@@ -18,6 +20,14 @@ pub fn make(alloc: Global, strand: &Strand) -> Result<BuiltIn, NoMemory>
     if is_device(&strand.kind) {
         let stage = DeviceStage::new(alloc, strand)?;
         return Ok(BuiltIn::Device(Box::new(alloc, stage)?));
+    }
+    if is_select(&strand.kind) {
+        let stage = SelectStage::new(alloc, strand)?;
+        return Ok(BuiltIn::Select(Box::new(alloc, stage)?));
+    }
+    if is_edit(&strand.kind) {
+        let stage = EditStage::new(alloc, strand)?;
+        return Ok(BuiltIn::Edit(Box::new(alloc, stage)?));
     }
     let stage = GateStage::new(alloc, strand)?;
     Ok(BuiltIn::Gate(Box::new(alloc, stage)?))

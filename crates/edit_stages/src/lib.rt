@@ -1,0 +1,11 @@
+//! The stages of Editing: those that write what they make of each record.
+#![tactic(auto)]
+
+mod duplicate;
+mod edit;
+mod edits;
+mod laws;
+mod reverse;
+
+pub use edit::{EditStage, is_edit};
+pub use laws::lists;

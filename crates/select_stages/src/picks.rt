@@ -1,0 +1,144 @@
+ghost use Rattle.std.specs.Prelude.{◌≡◌, Bool, if◌then◌else◌};
+ghost use Rattle.pipe_model.specs.Shape.{Records};
+ghost use Rattle.select_stages.specs.Picks.{Choice, PicksNext, Says};
+
+use pipe_model::NoMemory;
+use stage_steps::{Group, Lists, take_waiting};
+use std::alloc::Global;
+
+/// What a stage does that writes each record on output 0, where it selects it, or else on output 1: a value that has
+/// seen some records, and says of one more whether it is selected.
+pub trait Picks: Sized + Drop {
+    /// The value stands for this choice and these records so far.
+    ghost stands: { Self → Choice → Records → Type 0 };
+
+    /// It needs the bytes of the records.
+    ghost is_looking: { Self → Bool };
+
+    /// Whether it selects one more record. `bytes` is the record where they are needed, else empty.
+    fn pick(&mut self, bytes: &[u8]) -> bool
+        ensures looks_same { is_looking self.new ≡ is_looking self.old }
+        ensures picks { PicksNext stands (is_looking self.old) self.old self.new bytes.now result };
+
+    /// Whether it ends at the sight of the record at hand.
+    fn halts(&self) -> bool
+        ensures { Says stands self.now result (λ choice recs. choice.halts recs) };
+
+    /// Whether it ends after the record at hand, or before the first record.
+    fn stops(&self) -> bool
+        ensures { Says stands self.now result (λ choice recs. choice.stops recs) };
+
+    /// Whether it needs the bytes of the records.
+    fn looks(&self) -> bool
+        ensures { result ≡ is_looking self.now };
+}
+
+/// Selects the records that the other rejects, and rejects those that it selects: NLOCATE.
+#[derive(Drop)]
+pub struct Rejects<P: Picks> {
+    pub(crate) picks: P,
+}
+
+impl<P: Picks> Picks for Rejects<P> {
+    ghost use Rattle.select_stages.specs.Picks.{RejectsStand};
+
+    ghost stands = { λ x choice recs. RejectsStand P.stands x.picks choice recs };
+
+    ghost is_looking = { λ x. P.is_looking x.picks };
+
+    #[inline(always)]
+    fn pick(&mut self, bytes: &[u8]) -> bool {
+        !self.picks.pick(bytes)
+    }
+
+    #[inline(always)]
+    fn halts(&self) -> bool {
+        self.picks.halts()
+    }
+
+    #[inline(always)]
+    fn stops(&self) -> bool {
+        self.picks.stops()
+    }
+
+    fn looks(&self) -> bool {
+        self.picks.looks()
+    }
+}
+
+/// The lists of such a stage: one pair for each record.
+#[derive(Drop)]
+pub struct Picked<P: Picks> {
+    pub(crate) picks: P,
+    /// The output on which the record at hand is still to be written.
+    pub(crate) waiting: Option<u16>,
+}
+
+impl<P: Picks> Picked<P> {
+    ghost use Rattle.std.specs.Prelude.{◌≡◌, None};
+
+    /// Before the first record.
+    pub(crate) fn new(picks: P) -> Picked<P>
+        ensures { result ≡ record { picks = picks; waiting = None } }
+    {
+        Picked {
+            picks,
+            waiting: None,
+        }
+    }
+}
+
+// The output of a record.
+#[inline(always)]
+fn output(selected: bool) -> u16
+    ensures { result ≡ (if selected then 0 else 1) }
+{
+    if selected { 0 } else { 1 }
+}
+
+impl<P: Picks> Lists for Picked<P> {
+    ghost use Rattle.stage_steps.specs.Waiting.{how_many};
+    ghost use Rattle.select_stages.specs.Picks.{PickedStands};
+
+    ghost stands = { λ x t recs acts. PickedStands P.stands x.picks x.waiting t recs acts };
+
+    ghost is_looking = { λ x. P.is_looking x.picks };
+
+    ghost left = { λ x. how_many x.waiting };
+
+    fn begin(&mut self) {}
+
+    #[inline(always)]
+    fn see(&mut self, _alloc: Global, bytes: &[u8]) -> Result<(), NoMemory> {
+        self.waiting = Some(output(self.picks.pick(bytes)));
+        Ok(())
+    }
+
+    fn end(&mut self, _alloc: Global) -> Result<(), NoMemory> {
+        Ok(())
+    }
+
+    #[inline(always)]
+    fn next(&mut self, _alloc: Global) -> Result<Option<Group>, NoMemory> {
+        Ok(take_waiting(&mut self.waiting))
+    }
+
+    #[inline(always)]
+    fn halts(&self) -> bool {
+        self.picks.halts()
+    }
+
+    #[inline(always)]
+    fn stops(&self) -> bool {
+        self.picks.stops()
+    }
+
+    #[inline(always)]
+    fn code(&self) -> i32 {
+        0
+    }
+
+    fn looks(&self) -> bool {
+        self.picks.looks()
+    }
+}

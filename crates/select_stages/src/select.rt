@@ -1,0 +1,108 @@
+ghost use Rattle.std.specs.Prelude.{◌≡◌, IfOk};
+ghost use Rattle.select_stages.specs.Select.{is_select};
+
+use crate::locate::Locates;
+use crate::picks::{Picked, Rejects};
+use pipe_model::{Kind, NoMemory, Range, Rec, Seen, Strand, Want};
+use stage_steps::{Listed, Order, Sought, Stage};
+use std::alloc::Global;
+
+/// A stage of Selection.
+#[derive(Drop)]
+pub enum SelectStage {
+    Locate(Listed<Picked<Locates>>),
+    Nlocate(Listed<Picked<Rejects<Locates>>>),
+}
+
+/// Whether the kind is one of Selection.
+pub fn is_select(kind: &Kind) -> bool
+    ensures { result ≡ is_select kind.now }
+{
+    matches!(kind, Kind::Locate { .. } | Kind::Nlocate { .. })
+}
+
+// The string of an argument that may be there.
+fn sought(alloc: Global, text: &Option<Rec>) -> Result<Option<Sought>, NoMemory>
+    ensures { IfOk result (λ sought. sought ≡ text.now) }
+{
+    match text {
+        None => Ok(None),
+        Some(text) => {
+            let copy = Rec::from_slice(alloc, text.bytes())?;
+            Ok(Some(Sought::new(copy)))
+        }
+    }
+}
+
+impl SelectStage {
+    ghost use Rattle.std.specs.Prelude.{◌≡◌, [], true, IfOk};
+    ghost use Rattle.select_stages.specs.Select.{is_select, SelectStands};
+
+    /// The stage of a strand, before its first event.
+    pub fn new(alloc: Global, strand: &Strand) -> Result<SelectStage, NoMemory>
+        requires { is_select strand.now.kind ≡ true }
+        ensures { IfOk result (λ stage. SelectStands stage strand.now []) }
+    {
+        let outputs = strand.ports.has_output.as_slice();
+        match &strand.kind {
+            Kind::Locate { range, text } => {
+                let locates = Locates {
+                    range: *range,
+                    sought: sought(alloc, text)?,
+                };
+                let picked = Picked::new(locates);
+                let stage = Listed::new(alloc, picked, Order::WritesFirst, outputs, false)?;
+                Ok(SelectStage::Locate(stage))
+            }
+            Kind::Nlocate { range, text } => {
+                let locates = Locates {
+                    range: *range,
+                    sought: sought(alloc, text)?,
+                };
+                let picked = Picked::new(Rejects { picks: locates });
+                let stage = Listed::new(alloc, picked, Order::WritesFirst, outputs, false)?;
+                Ok(SelectStage::Nlocate(stage))
+            }
+            _ => unreachable!(),
+        }
+    }
+}
+
+impl Stage for SelectStage {
+    ghost use Rattle.std.specs.Prelude.{IfOk};
+    ghost use Rattle.stage_steps.specs.Coroutine.{Resumes};
+    ghost use Rattle.select_stages.specs.Select.{SelectStands};
+
+    ghost stands = { λ x s h. SelectStands x s h };
+
+    fn first(&self) -> Want {
+        match self {
+            SelectStage::Locate(stage) => stage.first(),
+            SelectStage::Nlocate(stage) => stage.first(),
+        }
+    }
+
+    // It may be told any event; what isn't answered ends it.
+    fn resume(&mut self, alloc: Global, seen: Seen, bytes: &[u8]) -> Result<Want, NoMemory>
+        ensures { IfOk result (λ asked. Resumes (λ x s h. SelectStands x s h) self.old self.new seen bytes.now asked) }
+    {
+        match self {
+            SelectStage::Locate(stage) => stage.resume(alloc, seen, bytes),
+            SelectStage::Nlocate(stage) => stage.resume(alloc, seen, bytes),
+        }
+    }
+
+    fn looks(&self) -> bool {
+        match self {
+            SelectStage::Locate(stage) => stage.looks(),
+            SelectStage::Nlocate(stage) => stage.looks(),
+        }
+    }
+
+    fn kept(&self) -> &[u8] {
+        match self {
+            SelectStage::Locate(stage) => stage.kept(),
+            SelectStage::Nlocate(stage) => stage.kept(),
+        }
+    }
+}
