@@ -32,7 +32,7 @@ impl Literals {
         ensures { IfOk result (IsStageOf LiteralsStand literals_look (Literal text.now) outputs.now) }
     {
         let literals = Literals {
-            text: Rec::from_slice(alloc, text.bytes())?,
+            text: text.copy(alloc)?,
             due: Due::Nothing,
         };
         Listed::new(alloc, literals, Order::WritesFirst, outputs, false)
@@ -66,7 +66,7 @@ impl Lists for Literals {
     fn next(&mut self, alloc: Global) -> Result<Option<Group>, NoMemory> {
         let group = match self.due {
             Due::Nothing => None,
-            Due::Text => Some(Group::fresh(0, Rec::from_slice(alloc, self.text.bytes())?)),
+            Due::Text => Some(Group::fresh(0, self.text.copy(alloc)?)),
             Due::AtHand => Some(Group::at_hand(0)),
         };
         self.due = Due::Nothing;

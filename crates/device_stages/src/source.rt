@@ -15,6 +15,6 @@ pub(crate) fn source(
 ) -> Result<Listed<TextLines>, NoMemory>
     ensures { IfOk result (IsStageOf LinesStand lines_look (ConsoleIn bytes.now) outputs.now) }
 {
-    let lines = TextLines::new(Rec::from_slice(alloc, bytes.bytes())?);
+    let lines = TextLines::new(bytes.copy(alloc)?);
     Listed::new(alloc, lines, Order::WritesFirst, outputs, false)
 }
