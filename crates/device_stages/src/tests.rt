@@ -1,13 +1,11 @@
-use crate::DeviceStage;
-use pipe_model::{Kind, Out, Rec, Seen, Want};
-use stage_steps::Stage;
+use crate::console::console;
+use crate::source::source;
+use crate::{Holes, Literals};
+use pipe_model::{Out, Rec, Seen, Want};
+use stage_steps::{Listed, Lists, Stage};
 use std::alloc::{AllocError, Global};
 use std::process::Abort;
 use std::test::Fail;
-
-mod made;
-
-use made::fresh;
 
 // What is asked for, as text.
 fn shown(alloc: Global, want: &Want) -> Result<String, AllocError> {
@@ -23,10 +21,10 @@ fn shown(alloc: Global, want: &Want) -> Result<String, AllocError> {
 }
 
 // Goes through these events with a fresh device that doesn't look, and looks at what is asked for after each.
-fn driven(
+fn driven<L: Lists>(
     rt: &impl Abort,
     alloc: Global,
-    mut stage: DeviceStage,
+    mut stage: Listed<L>,
     steps: &[(Seen, &str)],
 ) -> Result<(), Fail> {
     assert!(rt; !stage.looks());
@@ -51,14 +49,14 @@ fn a_console_writes_its_lines(rt: HostRuntime) -> Result<(), Fail> {
         (Seen::Put(0), "done 0"),
         (Seen::Ended(0), "done 0"),
     ];
-    let stage = fresh(alloc, Kind::ConsoleIn { bytes }, &[true])?;
+    let stage = source(alloc, &bytes, &[true])?;
     driven(&rt, alloc, stage, &steps)
 }
 
 #[test]
 fn a_console_keeps_what_it_takes(rt: HostRuntime) -> Result<(), Fail> {
     let alloc = rt.alloc();
-    let mut stage = fresh(alloc, Kind::ConsoleOut, &[true])?;
+    let mut stage = console(alloc, &[true])?;
     assert!(rt; stage.looks());
     let steps: [(Seen, &[u8], &str, &[u8]); 8] = [
         (Seen::Up(-1, 0), b"", "commit 0", b""),
@@ -91,7 +89,7 @@ fn a_text_comes_before_the_records(rt: HostRuntime) -> Result<(), Fail> {
         (Seen::SawEnd(0), "done 0"),
     ];
     let text = Rec::from_slice(alloc, b"a")?;
-    let stage = fresh(alloc, Kind::Literal { text }, &[true])?;
+    let stage = Literals::stage(alloc, &text, &[true])?;
     driven(&rt, alloc, stage, &steps)?;
     let refused = [
         (Seen::Up(-1, 0), "commit 0"),
@@ -99,7 +97,7 @@ fn a_text_comes_before_the_records(rt: HostRuntime) -> Result<(), Fail> {
         (Seen::Refused(0), "done 0"),
     ];
     let text = Rec::from_slice(alloc, b"a")?;
-    let stage = fresh(alloc, Kind::Literal { text }, &[true])?;
+    let stage = Literals::stage(alloc, &text, &[true])?;
     driven(&rt, alloc, stage, &refused)
 }
 
@@ -113,6 +111,6 @@ fn a_hole_writes_nothing(rt: HostRuntime) -> Result<(), Fail> {
         (Seen::Took(0), "read 0"),
         (Seen::SawEnd(0), "done 0"),
     ];
-    let stage = fresh(alloc, Kind::Hole, &[true])?;
+    let stage = Holes::stage(alloc, &[true])?;
     driven(&rt, alloc, stage, &steps)
 }

@@ -1,11 +1,8 @@
-use pipe_model::{Kind, Out, Seen, Want};
+use crate::copy::copy;
+use pipe_model::{Out, Seen, Want};
 use stage_steps::Stage;
 use std::alloc::{AllocError, Global};
 use std::test::Fail;
-
-mod made;
-
-use made::fresh;
 
 // What is asked for, as text.
 fn shown(alloc: Global, want: &Want) -> Result<String, AllocError> {
@@ -22,7 +19,7 @@ fn shown(alloc: Global, want: &Want) -> Result<String, AllocError> {
 #[test]
 fn a_copy_is_taken_before_it_is_written(rt: HostRuntime) -> Result<(), Fail> {
     let alloc = rt.alloc();
-    let mut stage = fresh(alloc, Kind::Copy, &[true])?;
+    let mut stage = copy(alloc, &[true])?;
     assert!(rt; !stage.looks());
     assert_eq!(rt; shown(alloc, &stage.first())?.as_str(), "commit -1");
     let steps = [
