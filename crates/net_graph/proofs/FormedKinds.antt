@@ -1,22 +1,14 @@
 -- What a kind of stage that has been read may have: one strand, an output, and an input where it isn't first.
-use Rattle.std.proofs.Common.{◌≡◌, ◌⊎◌, inl, inr, ℕ, zero, suc, ◌<◌, Bool, true, false, List, [], ◌∷◌, refl, subst, arith, Option, Some, None, slice_get, map}
+use Rattle.std.proofs.Common.{◌≡◌, ℕ, zero, suc, ◌<◌, Bool, true, false, List, [], ◌∷◌, refl, subst, arith, Some, slice_get, map}
 use Rattle.std.specs.Prelude.{Ok}
-use Rattle.std.specs.Option.{IfSome}
 use Rattle.pipe_model.specs.declared.kind.Kind.{Kind}
-use Rattle.pipe_model.specs.declared.kind.Kind.TheVariants.{Locate}
-use Rattle.pipe_model.specs.declared.range.Range.{Range}
-use Rattle.pipe_model.specs.Straight.{all_columns}
+use Rattle.pipe_model.specs.declared.kind.Kind.TheVariants as Kinds
 use Rattle.pipe_model.specs.Table.{line_of}
 use Rattle.pipe_model.specs.Form.{parting_by}
 use Rattle.pipe_model.specs.Form.Parting.{Whole}
-use Rattle.pipe_model.specs.Proper.{is_filled, is_locate, is_range}
 use Rattle.stage_syntax.specs.Arg.{ArgText}
-use Rattle.stage_syntax.specs.declared.part.Value.{Value}
-use Rattle.stage_syntax.specs.declared.part.Value.TheVariants as Read
 use Rattle.stage_syntax.specs.Kinds.{IsKind}
-use Rattle.stage_syntax.specs.SelectionForms.{of_locate}
-use Rattle.stage_syntax.proofs.ReadValues.{AreOfRow, range_of_one, string_of_string, string_or_range}
-use Rattle.stage_syntax.proofs.TypedKinds.{console_kind, locate_row, typed_kind}
+use Rattle.stage_syntax.proofs.TypedKinds.{is_typed, typed_kind}
 use Rattle.net_graph.specs.Stands.{Stand}
 use Rattle.net_graph.specs.Nets.{AreOutcomes, inputs_of, outputs_of}
 
@@ -26,30 +18,21 @@ pub record IsPlain (first : Bool) (kind : Kind) : Type 0 where
   pub input : first ≡ false → 0 < inputs_of kind
   pub proper : (line_of kind).proper ≡ true
 
-plain_console : (first : Bool) → IsPlain first (console_kind first)
-plain_console true = record { whole = refl; output = omega arith; input = λ is. cc; proper = refl }
-plain_console false = record { whole = refl; output = omega arith; input = λ is. omega arith; proper = refl }
-
-found_is_proper : (range : Range) (text : Option (List ℕ)) → is_range range ≡ true → IfSome text (λ string. is_filled string ≡ true) → is_locate range text ≡ true
-found_is_proper range None proper filled = proper
-found_is_proper range (Some string) proper filled = rw (proper, filled) refl
-
-plain_found : (first : Bool) (range : Range) (text : Option (List ℕ)) → is_range range ≡ true → IfSome text (λ string. is_filled string ≡ true) → IsPlain first (Locate range text)
-plain_found first range text proper filled = record { whole = refl; output = omega arith; input = λ is. omega arith; proper = found_is_proper range text proper filled }
-
-plain_locate : (first : Bool) (values : List Value) → AreOfRow locate_row [] values → IfSome (of_locate Locate values) (IsPlain first)
-plain_locate first [] are = tt
-plain_locate first (Read.Range range ∷ []) are = plain_found first range None (range_of_one (locate_row.next []) range are.0) tt
-plain_locate first (Read.String string ∷ []) are = plain_found first all_columns (Some string) refl (string_or_range string are.0)
-plain_locate first (Read.Range range ∷ (Read.String string ∷ [])) are =
-    plain_found first range (Some string) (range_of_one (locate_row.next []) range are.0) (string_of_string string are.1.0)
-plain_locate first _ are = tt
+-- a kind that can be typed, one for each
+plain_typed : (first : Bool) (kind : Kind) → is_typed first kind ≡ true → (line_of kind).proper ≡ true → IsPlain first kind
+plain_typed first (Kinds.ConsoleIn bytes) is proper = record { whole = refl; output = omega arith; input = λ later. cc; proper = proper }
+plain_typed first Kinds.ConsoleOut is proper = record { whole = refl; output = omega arith; input = λ later. omega arith; proper = proper }
+plain_typed first (Kinds.Literal text) is proper = record { whole = refl; output = omega arith; input = λ later. omega arith; proper = proper }
+plain_typed first Kinds.Hole is proper = record { whole = refl; output = omega arith; input = λ later. omega arith; proper = proper }
+plain_typed first (Kinds.Locate range text) is proper = record { whole = refl; output = omega arith; input = λ later. omega arith; proper = proper }
+plain_typed first (Kinds.Nlocate range text) is proper = record { whole = refl; output = omega arith; input = λ later. omega arith; proper = proper }
+plain_typed first Kinds.Reverse is proper = record { whole = refl; output = omega arith; input = λ later. omega arith; proper = proper }
+plain_typed first (Kinds.Duplicate times) is proper = record { whole = refl; output = omega arith; input = λ later. omega arith; proper = proper }
+plain_typed first Kinds.Copy is proper = record { whole = refl; output = omega arith; input = λ later. omega arith; proper = proper }
+plain_typed first _ is proper = cc
 
 pub plain_kind : (name : List ℕ) (arg : ArgText) (first : Bool) (kind : Kind) → IsKind name arg first kind → IsPlain first kind
-plain_kind name arg first kind is = by (typed_kind name arg first kind is) where
-  by : (console_kind first ≡ kind) ⊎ ((values : List Value) × (of_locate Locate values ≡ Some kind) × AreOfRow locate_row [] values) → IsPlain first kind
-  by (inl console) = subst (IsPlain first) console (plain_console first)
-  by (inr (values, made, are)) = subst (λ (made : Option Kind). IfSome made (IsPlain first)) made (plain_locate first values are)
+plain_kind name arg first kind is = let known = typed_kind name arg first kind is in plain_typed first kind known.typed known.proper
 
 -- The stage at a number is of the kind at that number
 pub kind_here : (stages : List Stand) (kinds : List Kind) (k : ℕ) (stand : Stand) → AreOutcomes stages (map (λ (kind : Kind). Ok kind) kinds) → slice_get stages k ≡ Some stand

@@ -147,6 +147,11 @@ pub string_or_range : (string : List ℕ) → IsOfOne (Asked.Range ∷ (Asked.St
 string_or_range string (inl is) = let value = is.1 in cc
 string_or_range string (inr is) = string_of_string string is
 
+-- a count is one that can be named
+pub count_of_times : (times : Times) → IsOfOne (Asked.Times ∷ []) (Read.Times times) → is_count times ≡ true
+count_of_times times (inl is) = let value = is.1 in let same : is.0 ≡ times = cc in subst (λ (times : Times). is_count times ≡ true) same is.2
+count_of_times times (inr is) = absurd is
+
 -- values that a row's arguments after some others may have
 abbrev pub AreOfRow : Row → List Value → List Value → Type 0
 AreOfRow row before [] = ⊤

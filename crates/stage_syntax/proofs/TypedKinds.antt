@@ -1,38 +1,141 @@
--- The kinds that can be typed today: CONSOLE and LOCATE.
-use Rattle.std.proofs.Common.{◌≡◌, ◌⊎◌, ℕ, Bool, true, false, List, [], Option, Some, None, subst, sym, inl, inr}
-use Rattle.std.specs.Prelude.{codes, if◌then◌else◌}
+-- The kinds that can be typed: each is one that a running row makes, and is as the table wants it.
+use Rattle.std.proofs.Common.{◌≡◌, ℕ, Bool, true, false, not, ◌&&◌, List, [], ◌∷◌, refl, subst, Option, Some, None, inl, inr}
+use Rattle.std.specs.Prelude.{⊤, if◌then◌else◌}
+use Rattle.std.specs.Option.{IfSome}
 use Rattle.std.specs.Str.{bytes_eq, str_to_ascii_lowercase}
 use Rattle.pipe_model.specs.declared.kind.Kind.{Kind}
-use Rattle.pipe_model.specs.declared.kind.Kind.TheVariants.{ConsoleIn, ConsoleOut, Locate}
-use Rattle.stage_syntax.proofs.ReadValues.{AreOfRow, made_of_row}
+use Rattle.pipe_model.specs.declared.kind.Kind.TheVariants as Kinds
+use Rattle.pipe_model.specs.declared.kind.Times.{Times}
+use Rattle.pipe_model.specs.declared.kind.Times.TheVariants.{Only}
+use Rattle.pipe_model.specs.declared.range.Range.{Range}
+use Rattle.pipe_model.specs.Proper.{is_count, is_filled, is_locate, is_range}
+use Rattle.pipe_model.specs.Straight.{all_columns}
+use Rattle.pipe_model.specs.Table.{line_of}
+use Rattle.stage_syntax.proofs.ReadValues.{AreOfRow, count_of_times, made_of_row, range_of_one, string_of_string, string_or_range}
 use Rattle.stage_syntax.specs.Arg.{ArgText}
-use Rattle.stage_syntax.specs.DeviceForms.{console}
-use Rattle.stage_syntax.specs.Forms.{row, none_next}
+use Rattle.stage_syntax.specs.DeviceForms.{literal_of}
+use Rattle.stage_syntax.specs.Forms.{row, none_next, before_times, of_times}
 use Rattle.stage_syntax.specs.Kinds.{IsKind}
-use Rattle.stage_syntax.specs.Rows.{Arguments, Reads, Row}
-use Rattle.stage_syntax.specs.SelectionForms.{before_locate, locate, of_locate}
+use Rattle.stage_syntax.specs.Names.{Named, named_in, stages}
+use Rattle.stage_syntax.specs.Rows.{Arguments, Makes, Reads, Row, text_in}
+use Rattle.stage_syntax.specs.SelectionForms.{before_locate, of_locate}
 use Rattle.stage_syntax.specs.declared.part.Value.{Value}
+use Rattle.stage_syntax.specs.declared.part.Value.TheVariants as Read
 
--- the row of LOCATE
-abbrev pub locate_row : Row
-locate_row = row before_locate (of_locate Locate)
+-- a stage of the kind can be typed, first in its pipeline or not
+abbrev pub is_typed : Bool → Kind → Bool
+is_typed first (Kinds.ConsoleIn bytes) = first
+is_typed first Kinds.ConsoleOut = not first
+is_typed first (Kinds.Literal text) = true
+is_typed first Kinds.Hole = true
+is_typed first (Kinds.Locate range text) = true
+is_typed first (Kinds.Nlocate range text) = true
+is_typed first Kinds.Reverse = true
+is_typed first (Kinds.Duplicate times) = true
+is_typed first Kinds.Copy = true
+is_typed first _ = false
 
--- the kind of a CONSOLE
-abbrev pub console_kind : Bool → Kind
-console_kind first = if first then ConsoleIn [] else ConsoleOut
+-- what is known of a kind that was read
+pub record IsTyped (first : Bool) (kind : Kind) : Type 0 where
+  pub typed : is_typed first kind ≡ true
+  pub proper : (line_of kind).proper ≡ true
 
-two_stages : (a b : Bool) (one other arguments : Arguments) → (if a then Some one else if b then Some other else None) ≡ Some arguments → (one ≡ arguments) ⊎ (other ≡ arguments)
-two_stages true b one other arguments is = inl cc
-two_stages false true one other arguments is = inr cc
-two_stages false false one other arguments is = cc
+-- Of each running row
 
-module _ (name : List ℕ) (arg : ArgText) (first : Bool) (kind : Kind) (is : IsKind name arg first kind) where
-  -- what is read is a CONSOLE's kind, or is made of arguments that LOCATE may have
-  pub typed_kind : (console_kind first ≡ kind) ⊎ ((values : List Value) × (of_locate Locate values ≡ Some kind) × AreOfRow locate_row [] values)
-  typed_kind = by (two_stages (bytes_eq (str_to_ascii_lowercase name) (codes "console")) (bytes_eq (str_to_ascii_lowercase name) (codes "locate")) (console first) locate is.arguments is.named) where
-    reads_as : (arguments : Arguments) → arguments ≡ is.arguments → Reads arguments arg.bytes kind
-    reads_as arguments same = subst (λ arguments. Reads arguments arg.bytes kind) (sym same) is.reads
+-- this of the arguments of a running stage, and of the stages after it
+abbrev OfRunning : Bool → Type 0 → Type 0 → Type 0
+OfRunning true here rest = here × rest
+OfRunning false here rest = rest
 
-    by : (console first ≡ is.arguments) ⊎ (locate ≡ is.arguments) → (console_kind first ≡ kind) ⊎ ((values : List Value) × (of_locate Locate values ≡ Some kind) × AreOfRow locate_row [] values)
-    by (inl same) = let made = (made_of_row (row none_next (λ values. Some (console_kind first))) arg.bytes kind (reads_as (console first) same)).1 in inl cc
-    by (inr same) = let made = made_of_row locate_row arg.bytes kind (reads_as locate same) in inr (made.0, made.1, made.2)
+abbrev OfEach : (Arguments → Type 0) → List Named → Type 0
+OfEach P [] = ⊤
+OfEach P (stage ∷ more) = OfRunning stage.runs (P stage.arguments) (OfEach P more)
+
+module _ (P : Arguments → Type 0) (arguments : Arguments) where
+  -- it is the stage's own, or comes after it
+  found_here : (runs same : Bool) (own : Arguments) (found : Option Arguments) (rest : Type 0) → OfRunning runs (P own) rest → (rest → found ≡ Some arguments → P arguments)
+      → (if runs && same then Some own else found) ≡ Some arguments → P arguments
+  found_here true true own found rest each later is = let same : own ≡ arguments = cc in subst P same each.0
+  found_here true false own found rest each later is = later each.1 is
+  found_here false same own found rest each later is = later each is
+
+  -- what holds of each running row holds of the one that a name finds
+  of_named : (named : List Named) (name : List ℕ) → OfEach P named → named_in named name ≡ Some arguments → P arguments
+  of_named [] name each is = cc
+  of_named (stage ∷ more) name each is =
+      found_here stage.runs (bytes_eq (str_to_ascii_lowercase name) stage.name) stage.arguments (named_in more name) (OfEach P more) each (of_named more name) is
+
+-- Of what a form makes
+
+module _ (first : Bool) where
+  -- the arguments make only kinds that can be typed
+  abbrev AreTyped : Arguments → Type 0
+  AreTyped arguments = (text : List ℕ) (kind : Kind) → Reads arguments text kind → IsTyped first kind
+
+  of_parts : (row : Row) → ((values : List Value) → AreOfRow row [] values → IfSome (row.kind values) (IsTyped first)) → (text : List ℕ) (kind : Kind) → Makes row [] [] text kind → IsTyped first kind
+  of_parts row each text kind makes =
+      let made = made_of_row row text kind makes in
+      subst (λ (o : Option Kind). IfSome o (IsTyped first)) made.1 (each made.0 made.2)
+
+  of_text : (make : Option (List ℕ) → Option Kind) → ((text : Option (List ℕ)) → IfSome (make text) (IsTyped first)) → (text : Option (List ℕ)) (kind : Kind) → make text ≡ Some kind → IsTyped first kind
+  of_text make each text kind made = subst (λ (o : Option Kind). IfSome o (IsTyped first)) made (each text)
+
+  alone : (kind : Kind) → IsTyped first kind → (values : List Value) → AreOfRow (row none_next (λ values. Some kind)) [] values → IsTyped first kind
+  alone kind is values are = is
+
+  counted : (kind : Times → Kind) → ((times : Times) → is_count times ≡ true → IsTyped first (kind times))
+      → (values : List Value) → AreOfRow (row before_times (of_times kind)) [] values → IfSome (of_times kind values) (IsTyped first)
+  counted kind each [] are = each (Only 1) refl
+  counted kind each (Read.Times times ∷ []) are = each times (count_of_times times are.0)
+  counted kind each _ are = tt
+
+  found : (range : Range) (text : Option (List ℕ)) → is_range range ≡ true → IfSome text (λ string. is_filled string ≡ true) → is_locate range text ≡ true
+  found range None proper filled = proper
+  found range (Some string) proper filled = rw (proper, filled) refl
+
+  located : (kind : Range → Option (List ℕ) → Kind) → ((range : Range) (text : Option (List ℕ)) → is_locate range text ≡ true → IsTyped first (kind range text))
+      → (values : List Value) → AreOfRow (row before_locate (of_locate kind)) [] values → IfSome (of_locate kind values) (IsTyped first)
+  located kind each [] are = tt
+  located kind each (Read.Range range ∷ []) are = each range None (range_of_one (before_locate []) range are.0)
+  located kind each (Read.String string ∷ []) are = each all_columns (Some string) (found all_columns (Some string) refl (string_or_range string are.0))
+  located kind each (Read.Range range ∷ (Read.String string ∷ [])) are =
+      each range (Some string) (found range (Some string) (range_of_one (before_locate []) range are.0) (string_of_string string are.1.0))
+  located kind each _ are = tt
+
+  literal_typed : (text : Option (List ℕ)) → IfSome (literal_of text) (IsTyped first)
+  literal_typed None = record { typed = refl; proper = refl }
+  literal_typed (Some text) = record { typed = refl; proper = refl }
+
+-- a CONSOLE reads where it is first, and writes where it isn't
+console_typed : (first : Bool) → IsTyped first (if first then Kinds.ConsoleIn [] else Kinds.ConsoleOut)
+console_typed true = record { typed = refl; proper = refl }
+console_typed false = record { typed = refl; proper = refl }
+
+-- each running row in the order of the table
+rows_typed : (first : Bool) → OfEach (AreTyped first) (stages first)
+rows_typed first = (
+  of_parts first _ (alone first (if first then Kinds.ConsoleIn [] else Kinds.ConsoleOut) (console_typed first)),
+  (
+    λ text kind reads. of_text first literal_of (literal_typed first) (text_in text) kind reads,
+    (
+      of_parts first _ (alone first Kinds.Hole (record { typed = refl; proper = refl })),
+      (
+        of_parts first _ (located first Kinds.Locate (λ range text proper. record { typed = refl; proper = proper })),
+        (
+          of_parts first _ (located first Kinds.Nlocate (λ range text proper. record { typed = refl; proper = proper })),
+          (
+            of_parts first _ (alone first Kinds.Reverse (record { typed = refl; proper = refl })),
+            (
+              of_parts first _ (counted first Kinds.Duplicate (λ times proper. record { typed = refl; proper = proper })),
+              (of_parts first _ (alone first Kinds.Copy (record { typed = refl; proper = refl })), tt),
+            ),
+          ),
+        ),
+      ),
+    ),
+  ),
+)
+
+-- what is read can be typed
+pub typed_kind : (name : List ℕ) (arg : ArgText) (first : Bool) (kind : Kind) → IsKind name arg first kind → IsTyped first kind
+typed_kind name arg first kind is = of_named (AreTyped first) is.arguments (stages first) name (rows_typed first) is.named arg.bytes kind is.reads

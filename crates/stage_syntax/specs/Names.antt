@@ -47,10 +47,10 @@ stages first =
     running (codes "console") (console first)
     ∷ (coming (codes "<") file_in
     ∷ (coming (codes ">") file_out
-    ∷ (coming (codes "literal") literal
-    ∷ (coming (codes "hole") (no_arguments Kinds.Hole)
+    ∷ (running (codes "literal") literal
+    ∷ (running (codes "hole") (no_arguments Kinds.Hole)
     ∷ (running (codes "locate") locate
-    ∷ (coming (codes "nlocate") nlocate
+    ∷ (running (codes "nlocate") nlocate
     ∷ (coming (codes "find") find
     ∷ (coming (codes "nfind") nfind
     ∷ (coming (codes "take") takes
@@ -66,8 +66,8 @@ stages first =
     ∷ (coming (codes "split") split
     ∷ (coming (codes "join") join
     ∷ (coming (codes "xlate") xlate
-    ∷ (coming (codes "reverse") reversed
-    ∷ (coming (codes "duplicate") duplicate
+    ∷ (running (codes "reverse") reversed
+    ∷ (running (codes "duplicate") duplicate
     ∷ (coming (codes "unique") unique
     ∷ (coming (codes "sort") sort
     ∷ (coming (codes "count") count
@@ -87,7 +87,7 @@ stages first =
     ∷ (coming (codes "dam") (no_arguments Kinds.Dam)
     ∷ (coming (codes "elastic") (no_arguments Kinds.Elastic)
     ∷ (coming (codes "buffer") (no_arguments Kinds.Buffer)
-    ∷ (coming (codes "copy") (no_arguments Kinds.Copy)
+    ∷ (running (codes "copy") (no_arguments Kinds.Copy)
     ∷ (coming (codes "fblock") fblock
     ∷ (coming (codes "block") block
     ∷ (coming (codes "deblock") deblock

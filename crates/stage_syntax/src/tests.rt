@@ -1,6 +1,6 @@
 use crate::stages::STAGES;
 use crate::*;
-use pipe_model::{Kind, Range, Rec, Span};
+use pipe_model::{Kind, Range, Rec, Span, Times};
 use std::alloc::Global;
 use std::test::Fail;
 
@@ -55,7 +55,29 @@ locate| 5/a/|later|7 at 12\n\
 locate| 5- /a/|later|7 at 12\n\
 locate| 4294967296-5|later|4 at 12\n\
 locate| , a b,|later|locate columns 1-* / a b/\n\
-locate| 3 /x/y|later|2 at 22";
+locate| 3 /x/y|later|2 at 22\n\
+nlocate| w2|later|nlocate words 2-2\n\
+NLocate| 3 /x/|later|nlocate columns 3-3 /x/\n\
+nlocate||later|1 at 1000\n\
+nlocate| 5-3|later|9 at 16\n\
+nlocate| /a/ /b/|later|2 at 20\n\
+literal||first|literal //\n\
+literal| |later|literal //\n\
+Literal|  two words |first|literal / two words /\n\
+hole|  |later|hole\n\
+hole| x|later|2 at 12\n\
+copy||later|copy\n\
+copies||later|unknown\n\
+COPY|  /|later|2 at 14\n\
+reverse||later|reverse\n\
+reverse| 1|later|2 at 12\n\
+duplicate||later|duplicate 1\n\
+duplicate| 0|later|duplicate 0\n\
+Duplicate| 2147483647|later|duplicate 2147483647\n\
+duplicate| *  |later|duplicate *\n\
+duplicate| 2147483648|later|4 at 12\n\
+duplicate| x|later|3 at 12\n\
+duplicate| 2 3|later|2 at 16";
 
 #[test]
 fn names_and_arguments_have_their_kinds(rt: HostRuntime) -> Result<(), Fail> {
@@ -66,9 +88,8 @@ fn names_and_arguments_have_their_kinds(rt: HostRuntime) -> Result<(), Fail> {
         let text = cells.next().unwrap_or("");
         let first = cells.next() == Some("first");
         let expected = cells.next().unwrap_or("");
-        let arg = spaced(alloc, text.as_bytes())?;
-        let kind = kind_of(alloc, name.as_bytes(), &arg, first);
-        assert_eq!(rt; shown(alloc, &kind)?.as_str(), expected, "{case}");
+        let shown = shown(alloc, name.as_bytes(), text.as_bytes(), first)?;
+        assert_eq!(rt; shown.as_str(), expected, "{case}");
     }
     Ok(())
 }
@@ -225,8 +246,8 @@ fn arguments_of_each_form_are_read(rt: HostRuntime) -> Result<(), Fail> {
         for (spelled, _, form) in &STAGES {
             if name == *spelled {
                 known = true;
-                let read = arguments_as(alloc, *form, false, text);
-                assert_eq!(rt; read_shown(alloc, &read)?.as_str(), expected, "{case}");
+                let shown = read_shown(alloc, arguments_as(alloc, *form, false, text))?;
+                assert_eq!(rt; shown.as_str(), expected, "{case}");
             }
         }
         assert!(rt; known, "{case}");
@@ -235,15 +256,22 @@ fn arguments_of_each_form_are_read(rt: HostRuntime) -> Result<(), Fail> {
 }
 
 // Whether the arguments of a stage were read, as a case shows it.
-fn read_shown(alloc: Global, read: &Result<Kind, Refusal>) -> Result<String, Fail> {
+fn read_shown(alloc: Global, read: Result<Kind, Refusal>) -> Result<String, Fail> {
     match read {
-        Ok(_) => Ok(format!(in alloc; "read")?),
-        Err(Refusal::Fault(fault)) => {
+        Ok(_) => named(alloc, "read"),
+        Err(refusal) => refusal_shown(alloc, refusal),
+    }
+}
+
+// Why nothing was read, as a case shows it.
+fn refusal_shown(alloc: Global, refusal: Refusal) -> Result<String, Fail> {
+    match refusal {
+        Refusal::Fault(fault) => {
             let number = fault.kind.number();
             let left = fault.left;
             Ok(format!(in alloc; "{number} before {left}")?)
         }
-        Err(Refusal::NoMemory) => Ok(format!(in alloc; "no memory")?),
+        Refusal::NoMemory => named(alloc, "no memory"),
     }
 }
 
@@ -278,29 +306,65 @@ fn spaced(alloc: Global, bytes: &[u8]) -> Result<Arg, Fail> {
     Ok(Arg::from_parts(Vec::from_slice(alloc, bytes)?, plain, places, 1000))
 }
 
-// What was read, as a case shows it.
-fn shown(alloc: Global, read: &Result<Kind, KindFault>) -> Result<String, Fail> {
-    Ok(match read {
-        Ok(Kind::ConsoleIn { .. }) => format!(in alloc; "consolein")?,
-        Ok(Kind::ConsoleOut) => format!(in alloc; "consoleout")?,
-        Ok(Kind::Locate { range, text }) => {
-            let range = range_shown(alloc, *range)?;
-            let range = format!(in alloc; "locate {range}")?;
-            match text {
-                Some(string) => {
-                    let string = string_shown(alloc, string)?;
-                    format!(in alloc; "{range} {string}")?
-                }
-                None => range,
-            }
+// What is read of a name and an argument, as a case shows it.
+fn shown(alloc: Global, name: &[u8], text: &[u8], first: bool) -> Result<String, Fail> {
+    let arg = spaced(alloc, text)?;
+    match kind_of(alloc, name, &arg, first) {
+        Ok(kind) => kind_shown(alloc, &kind),
+        Err(fault) => fault_shown(alloc, fault),
+    }
+}
+
+fn kind_shown(alloc: Global, kind: &Kind) -> Result<String, Fail> {
+    match kind {
+        Kind::ConsoleIn { .. } => named(alloc, "consolein"),
+        Kind::ConsoleOut => named(alloc, "consoleout"),
+        Kind::Literal { text } => literal_shown(alloc, text),
+        Kind::Hole => named(alloc, "hole"),
+        Kind::Locate { range, text } => located(alloc, "locate", *range, text),
+        Kind::Nlocate { range, text } => located(alloc, "nlocate", *range, text),
+        Kind::Reverse => named(alloc, "reverse"),
+        Kind::Duplicate(times) => duplicate_shown(alloc, *times),
+        Kind::Copy => named(alloc, "copy"),
+        _ => named(alloc, "another kind"),
+    }
+}
+
+fn named(alloc: Global, name: &str) -> Result<String, Fail> {
+    Ok(String::from_str(alloc, name)?)
+}
+
+fn literal_shown(alloc: Global, text: &Rec) -> Result<String, Fail> {
+    let string = string_shown(alloc, text)?;
+    Ok(format!(in alloc; "literal {string}")?)
+}
+
+fn duplicate_shown(alloc: Global, times: Times) -> Result<String, Fail> {
+    match times {
+        Times::Only(n) => Ok(format!(in alloc; "duplicate {n}")?),
+        Times::All => named(alloc, "duplicate *"),
+    }
+}
+
+fn located(alloc: Global, name: &str, range: Range, text: &Option<Rec>) -> Result<String, Fail> {
+    let range = range_shown(alloc, range)?;
+    match text {
+        Some(string) => {
+            let string = string_shown(alloc, string)?;
+            Ok(format!(in alloc; "{name} {range} {string}")?)
         }
-        Ok(_) => format!(in alloc; "another kind")?,
-        Err(KindFault::Unknown) => format!(in alloc; "unknown")?,
-        Err(KindFault::Argument(fault)) => {
+        None => Ok(format!(in alloc; "{name} {range}")?),
+    }
+}
+
+fn fault_shown(alloc: Global, fault: KindFault) -> Result<String, Fail> {
+    match fault {
+        KindFault::Unknown => named(alloc, "unknown"),
+        KindFault::Argument(fault) => {
             let number = fault.kind.number();
             let place = fault.place;
-            format!(in alloc; "{number} at {place}")?
+            Ok(format!(in alloc; "{number} at {place}")?)
         }
-        Err(KindFault::NoMemory) => format!(in alloc; "no memory")?,
-    })
+        KindFault::NoMemory => named(alloc, "no memory"),
+    }
 }
