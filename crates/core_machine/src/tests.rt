@@ -1,14 +1,17 @@
-ghost use Rattle.std.specs.Prelude.{◌≡◌, ◌<◌, ◌≤◌, ◌^◌, length, IfOk};
-ghost use Rattle.confluence_laws.specs.Examples.{strand, filtering, link, locate};
+ghost use Rattle.std.specs.Prelude.{◌≡◌, ◌<◌, ◌≤◌, ◌^◌, ◌∷◌, [], true, false, length, IfOk};
+ghost use Rattle.pipe_model.specs.declared.kind.Kind.TheVariants.{ConsoleIn, ConsoleOut};
+ghost use Rattle.confluence_laws.specs.Examples.{strand, passing, link};
 ghost use Rattle.core_machine.specs.Machine.{started};
+ghost use Rattle.stage_steps.specs.Drivers.{IsStageOf};
+ghost use Rattle.stage_steps.specs.SharedLists.{LinesStand, lines_look, CopiesStand, copies_look};
 
 use crate::{Core, Ready, RunEnd, Turned};
 use outside::OpenGate;
 use pipe_model::{
-    Entry, Flags, Kind, Link, Links, Net, NoMemory, Ports, Range, Rec, Seen, Span, StageName,
-    Strand, Strands, Want,
+    Entry, Flags, Kind, Link, Links, Net, NoMemory, Ports, Rec, Seen, StageName, Strand, Strands,
+    Want,
 };
-use stage_steps::FirstStage;
+use stage_steps::{Copies, Listed, Order, Stage, TextLines};
 use std::alloc::Global;
 use std::test::Fail;
 
@@ -42,6 +45,65 @@ fn all_strands_are_put_in(rt: HostRuntime) -> Result<(), Fail> {
     Ok(())
 }
 
+// The stage of a CONSOLE, first in its pipeline or not.
+#[derive(Drop)]
+enum Console {
+    Reads(Listed<TextLines>),
+    Writes(Listed<Copies>),
+}
+
+impl Stage for Console {
+    ghost use Rattle.core_machine.specs.declared.tests.Console.TheVariants.{Reads, Writes};
+    ghost use Rattle.stage_steps.specs.Drivers.{ListedStands};
+    ghost use Rattle.stage_steps.specs.SharedLists.{LinesStand, lines_look, CopiesStand, copies_look};
+
+    ghost stands = { λ x s h. elim x [ Reads lines ↦ ListedStands LinesStand lines_look lines s h | Writes copies ↦ ListedStands CopiesStand copies_look copies s h ] };
+
+    fn first(&self) -> Want {
+        match self {
+            Console::Reads(stage) => stage.first(),
+            Console::Writes(stage) => stage.first(),
+        }
+    }
+
+    fn resume(&mut self, alloc: Global, seen: Seen, bytes: &[u8]) -> Result<Want, NoMemory> {
+        match self {
+            Console::Reads(stage) => stage.resume(alloc, seen, bytes),
+            Console::Writes(stage) => stage.resume(alloc, seen, bytes),
+        }
+    }
+
+    fn looks(&self) -> bool {
+        match self {
+            Console::Reads(stage) => stage.looks(),
+            Console::Writes(stage) => stage.looks(),
+        }
+    }
+
+    fn kept(&self) -> &[u8] {
+        match self {
+            Console::Reads(stage) => stage.kept(),
+            Console::Writes(stage) => stage.kept(),
+        }
+    }
+}
+
+// The stage of a CONSOLE that is first, with its bytes, before its first event. Its output is connected.
+fn reading(alloc: Global, bytes: &[u8]) -> Result<Listed<TextLines>, NoMemory>
+    ensures { IfOk result (IsStageOf LinesStand lines_look (ConsoleIn bytes.now) (true ∷ [])) }
+{
+    let lines = TextLines::new(Rec::from_slice(alloc, bytes)?);
+    Listed::new(alloc, lines, Order::WritesFirst, &[true], false)
+}
+
+// The stage of a CONSOLE that isn't first, before its first event, with its output connected or not.
+fn writing(alloc: Global, is_linked: bool) -> Result<Listed<Copies>, NoMemory>
+    ensures { IfOk result (IsStageOf CopiesStand copies_look ConsoleOut (is_linked ∷ [])) }
+{
+    let copies = Copies::new(true);
+    Listed::new(alloc, copies, Order::WritesFirst, &[is_linked], true)
+}
+
 // A strand whose stage has one strand, named by its number.
 fn strand(
     alloc: Global,
@@ -70,18 +132,19 @@ fn strand(
     })
 }
 
-fn located(alloc: Global, string: &[u8]) -> Result<Kind, NoMemory>
-    ensures { IfOk result (λ kind. kind ≡ locate string.now) }
+// The strand of a CONSOLE that is first, with its bytes.
+fn reader(alloc: Global, bytes: &[u8]) -> Result<Strand, NoMemory>
+    ensures { IfOk result (λ made. made ≡ strand 0 (ConsoleIn bytes.now) [] (true ∷ [])) }
 {
-    let range = Range {
-        span: Span::Columns,
-        first: 1,
-        last: None,
-    };
-    Ok(Kind::Locate {
-        range,
-        text: Some(Rec::from_slice(alloc, string)?),
-    })
+    let bytes = Rec::from_slice(alloc, bytes)?;
+    strand(alloc, 0, Kind::ConsoleIn { bytes }, &[], &[true])
+}
+
+// The strand of a CONSOLE that isn't first, with its output connected or not.
+fn writer(alloc: Global, number: u32, is_linked: bool) -> Result<Strand, NoMemory>
+    ensures { IfOk result (λ made. made ≡ strand number ConsoleOut (true ∷ []) (is_linked ∷ [])) }
+{
+    strand(alloc, number, Kind::ConsoleOut, &[true], &[is_linked])
 }
 
 const fn rendezvous(from: u32, to: u32) -> Link
@@ -96,41 +159,51 @@ const fn rendezvous(from: u32, to: u32) -> Link
     }
 }
 
-// A core of `console | locate /b/ | console` on three records, before its first step.
-fn filtering_core(alloc: Global, budget: u64) -> Result<Core<FirstStage>, NoMemory>
-    requires { budget ≤ 50000000 }
-    ensures { IfOk result (λ core. core ≡ started filtering budget) }
+// `console | console | console` on three records.
+fn passing_net(alloc: Global) -> Result<Net, NoMemory>
+    ensures { IfOk result (λ net. net ≡ passing) }
 {
-    let bytes = Rec::from_slice(alloc, b"ab\ncd\nb")?;
-    let reader = strand(alloc, 0, Kind::ConsoleIn { bytes }, &[], &[true])?;
-    let selector = strand(alloc, 1, located(alloc, b"b")?, &[true], &[true])?;
-    let writer = strand(alloc, 2, Kind::ConsoleOut, &[true], &[false])?;
-    let stages = vec![in alloc;
-        FirstStage::new(alloc, &reader)?,
-        FirstStage::new(alloc, &selector)?,
-        FirstStage::new(alloc, &writer)?,
-    ]?;
-    let strands = vec![in alloc; reader, selector, writer]?;
+    let first = reader(alloc, b"ab\ncd\nb")?;
+    let second = writer(alloc, 1, true)?;
+    let last = writer(alloc, 2, false)?;
+    let strands = vec![in alloc; first, second, last]?;
     let links = vec![in alloc; rendezvous(0, 1), rendezvous(1, 2)]?;
-    let net = Net {
+    Ok(Net {
         strands: Strands::from_vec(strands),
         links: Links::from_vec(links),
-    };
+    })
+}
+
+// Its core before its first step.
+fn passing_core(alloc: Global, budget: u64) -> Result<Core<Console>, NoMemory>
+    requires { budget ≤ 50000000 }
+    ensures { IfOk result (λ core. core ≡ started passing budget) }
+{
+    let net = passing_net(alloc)?;
+    let first = reading(alloc, b"ab\ncd\nb")?;
+    let second = writing(alloc, true)?;
+    let last = writing(alloc, false)?;
+    let stages = vec![in alloc;
+        Console::Reads(first),
+        Console::Writes(second),
+        Console::Writes(last),
+    ]?;
     Core::start(alloc, net, stages, budget)
 }
 
-// The records with a b are kept, and all strands end.
+// Both CONSOLEs that aren't first keep each record, and all strands end.
 #[test]
-fn a_run_keeps_what_is_selected(rt: HostRuntime) -> Result<(), Fail> {
+fn a_run_keeps_what_was_taken(rt: HostRuntime) -> Result<(), Fail> {
     let alloc = rt.alloc();
-    let mut core = filtering_core(alloc, 4_000_000)?;
+    let mut core = passing_core(alloc, 4_000_000)?;
     assert!(rt; matches!(core.want_of(1), Some(Want::Commit(-1))));
     assert_eq!(rt; core.ready_stream(1), Some(0));
     assert!(rt; !core.is_complete());
     let end = core.run_one_thread(alloc, &OpenGate)?;
     assert_eq!(rt; end, RunEnd::Complete);
-    assert_eq!(rt; core.len(), 26);
-    assert!(rt; core.kept(2) == b"ab\nb\n".as_slice());
+    assert_eq!(rt; core.len(), 29);
+    assert!(rt; core.kept(1) == b"ab\ncd\nb\n".as_slice());
+    assert!(rt; core.kept(2) == core.kept(1));
     assert_eq!(rt;
         [core.end_of(0), core.end_of(1), core.end_of(2)],
         [Some(0), Some(0), Some(0)]
@@ -145,7 +218,7 @@ fn a_run_keeps_what_is_selected(rt: HostRuntime) -> Result<(), Fail> {
 fn run_within(alloc: Global, budget: u64) -> Result<(RunEnd, u64), NoMemory>
     requires { budget ≤ 50000000 }
 {
-    let mut core = filtering_core(alloc, budget)?;
+    let mut core = passing_core(alloc, budget)?;
     let end = core.run_one_thread(alloc, &OpenGate)?;
     Ok((end, core.len()))
 }
@@ -154,15 +227,15 @@ fn run_within(alloc: Global, budget: u64) -> Result<(RunEnd, u64), NoMemory>
 fn a_budget_of_all_entries_is_enough(rt: HostRuntime) -> Result<(), Fail> {
     let alloc = rt.alloc();
     assert_eq!(rt;
-        [run_within(alloc, 26)?, run_within(alloc, 25)?],
-        [(RunEnd::Complete, 26), (RunEnd::Spent, 25)]
+        [run_within(alloc, 29)?, run_within(alloc, 28)?],
+        [(RunEnd::Complete, 29), (RunEnd::Spent, 28)]
     );
     Ok(())
 }
 
 // A strand's event, with its work. While the strand is out it may have no other.
-fn work(
-    core: &mut Core<FirstStage>,
+fn work<S: Stage>(
+    core: &mut Core<S>,
     alloc: Global,
     strand: u32,
     room: &mut Vec<u8>,
@@ -179,7 +252,7 @@ fn work(
     Ok(Some(seen))
 }
 
-fn last_entry(core: &Core<FirstStage>) -> Option<Entry> {
+fn last_entry<S: Stage>(core: &Core<S>) -> Option<Entry> {
     let count = core.len();
     if count == 0 {
         return None;
@@ -191,7 +264,7 @@ fn last_entry(core: &Core<FirstStage>) -> Option<Entry> {
 #[test]
 fn a_turn_is_made_where_it_may_be(rt: HostRuntime) -> Result<(), Fail> {
     let alloc = rt.alloc();
-    let mut core = filtering_core(alloc, 10)?;
+    let mut core = passing_core(alloc, 10)?;
     let mut none = Vec::new(alloc);
     assert!(rt; core.is_ready(0, 0) && !core.is_ready(0, 1));
     assert!(rt; matches!(core.turn(0, 1, &mut none), Turned::NotReady));

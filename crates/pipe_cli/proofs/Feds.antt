@@ -16,7 +16,7 @@ reader_at net s is = position_finds (λ (p : Strand). reads_input p.kind) net.st
 
 -- the CONSOLE that reads is built, whatever its bytes
 pub reader_built : (bytes : List ℕ) → IsBuilt (ConsoleIn bytes)
-reader_built bytes = record { stage = tt; whole = refl; ordered = refl; fileless = refl }
+reader_built bytes = record { stage = refl; whole = refl; ordered = refl; fileless = refl }
 
 module _ (net : Net) (s : ℕ) (bytes : List ℕ) (there : (p : Strand) × (slice_get net.strands s ≡ Some p) × (reads_input p.kind ≡ true)) where
   abbrev after : Net

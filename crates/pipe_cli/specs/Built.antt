@@ -11,7 +11,7 @@ use Rattle.pipe_model.specs.Shape.{Keeping}
 use Rattle.pipe_model.specs.Shape.Keeping.{Nothing, Console, File}
 use Rattle.pipe_model.specs.State.{Who, nothing_yet, strand_at}
 use Rattle.pipe_model.specs.Table.{line_of}
-use Rattle.stage_steps.specs.First.{IsFirstKind}
+use Rattle.stage_table.specs.BuiltIn.{is_built_in}
 
 -- where what a stage keeps goes
 abbrev pub keeping_of : Kind → Keeping
@@ -25,7 +25,7 @@ is_filed (File name) = true
 
 -- there is a stage of the kind, of one strand, which doesn't take what comes first and keeps no file
 pub record IsBuilt (kind : Kind) : Type 0 where
-  pub stage : IsFirstKind kind
+  pub stage : is_built_in kind ≡ true
   pub whole : parting_by (line_of kind).shape ≡ Whole
   pub ordered : meeting_by (line_of kind).shape ≡ Ordered
   pub fileless : is_filed (keeping_of kind) ≡ false

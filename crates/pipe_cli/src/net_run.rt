@@ -1,12 +1,7 @@
-ghost use Rattle.std.specs.Prelude.{◌≡◌, ◌≤◌, ◌<◌, ℕ, List, Bool, [], length, slice_get, IfOk, MatchResult, Some, Box as Boxed};
-ghost use Rattle.std.specs.declared.alloc.Global.{Global};
-ghost use Rattle.pipe_model.specs.declared.net.Strand.{Strand as StrandIs};
+ghost use Rattle.std.specs.Prelude.{◌≡◌, ◌≤◌, ◌<◌, ℕ, List, Bool, [], length, IfOk, MatchResult};
 ghost use Rattle.pipe_model.specs.Reply.{reply, console_from};
-ghost use Rattle.pipe_model.specs.State.{nothing_yet, strand_at};
 ghost use Rattle.pipe_model.specs.WellFormed.{IsWellFormed};
 ghost use Rattle.core_machine.specs.Machine.{started, state_of};
-ghost use Rattle.stage_steps.specs.declared.first.FirstStage.{FirstStage as StageIs};
-ghost use Rattle.stage_steps.specs.First.{IsFirstKind, FirstStands};
 ghost use Rattle.pipe_model.specs.Form.{is_shown};
 ghost use Rattle.pipe_cli.specs.Built.{AreBuilt, keeping_of};
 ghost use Rattle.pipe_cli.specs.Devices.{device};
@@ -18,7 +13,7 @@ use crate::write::write_all;
 use core_machine::{Core, RunEnd};
 use outside::{Gate, Sink};
 use pipe_model::{Net, NoMemory, is_shown, worst};
-use stage_steps::FirstStage;
+use stage_table::{BuiltIn, make_all};
 use std::alloc::Global;
 
 // The core of a net, after it ran to its end. An error is that its journal was full before, or want of memory.
@@ -27,7 +22,7 @@ pub(crate) fn run_net<G: Gate>(
     net: Net,
     steps: u64,
     gate: &G,
-) -> Result<Core<Box<FirstStage>>, Outcome>
+) -> Result<Core<BuiltIn>, Outcome>
     requires whole { IsWellFormed net }
     requires built { AreBuilt net }
     requires few { steps ≤ 50000000 }
@@ -44,32 +39,18 @@ pub(crate) fn run_net<G: Gate>(
 }
 
 // Its core before the first step.
-fn start_net(alloc: Global, net: Net, steps: u64) -> Result<Core<Box<FirstStage>>, NoMemory>
+fn start_net(alloc: Global, net: Net, steps: u64) -> Result<Core<BuiltIn>, NoMemory>
     requires whole { IsWellFormed net }
     requires built { AreBuilt net }
     requires few { steps ≤ 50000000 }
     ensures { IfOk result (λ core. core ≡ started net steps) }
 {
-    let stages = stages_of(alloc, &net)?;
+    let stages = make_all(alloc, &net)?;
     Core::start(alloc, net, stages, steps)
 }
 
-// A stage for each strand of a net, before its first event. They are boxed, since a core moves them with each job.
-fn stages_of(alloc: Global, net: &Net) -> Result<Vec<Box<FirstStage>>, NoMemory>
-    requires { (s : ℕ) (p : StrandIs) → strand_at net.now nothing_yet s ≡ Some p → IsFirstKind p.kind }
-    ensures count { IfOk result (λ stages. length stages.items ≡ length net.now.strands) }
-    ensures each { IfOk result (λ stages. (s : ℕ) (p : StrandIs) (stage : Boxed StageIs Global) → slice_get net.now.strands s ≡ Some p → slice_get stages.items s ≡ Some stage → FirstStands stage.value p []) }
-{
-    let strands = net.strands.as_slice();
-    let mut stages = Vec::new(alloc);
-    for k in 0..strands.len() {
-        stages.push(Box::new(alloc, FirstStage::new(alloc, &strands[k])?)?)?;
-    }
-    Ok(stages)
-}
-
 // How a run that is complete ended.
-pub(crate) fn outcome_of(core: &Core<Box<FirstStage>>) -> Outcome
+pub(crate) fn outcome_of(core: &Core<BuiltIn>) -> Outcome
     requires few { length core.now.net.strands ≤ 65536 }
     ensures { IsOutcomeOf (reply core.now.net (state_of core.now)) result }
 {
@@ -90,10 +71,7 @@ pub(crate) fn outcome_of(core: &Core<Box<FirstStage>>) -> Outcome
 }
 
 // Writes what the writing CONSOLE kept. The only error is a write fault.
-pub(crate) fn write_kept<O: Sink>(
-    output: &mut O,
-    core: &Core<Box<FirstStage>>,
-) -> Result<(), Outcome>
+pub(crate) fn write_kept<O: Sink>(output: &mut O, core: &Core<BuiltIn>) -> Result<(), Outcome>
     requires home { core.now.out ≡ [] }
     requires few { length core.now.net.strands ≤ 65536 }
     ensures { let old = device (O.written output.old) (O.faults output.old) in let new = device (O.written output.new) (O.faults output.new) in

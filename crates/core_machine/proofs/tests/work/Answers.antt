@@ -2,31 +2,30 @@
 use Rattle.std.proofs.Common.{◌≡◌, ℕ, true, List, ap, subst, sym}
 use Rattle.std.specs.Prelude.{take, IfOk, vec_capacity}
 use Rattle.stage_steps.specs.Coroutine.{CanResume, Resumes}
-use Rattle.stage_steps.specs.First.{FirstStands}
 use Rattle.core_machine.specs.Jobs.{DoneStands}
 use Rattle.core_machine.specs.Machine.{Machine, is_among}
 use Rattle.core_machine.proofs.Works.{work_runs, work_done, work_among}
 use Rattle.core_machine.proofs.tests.work.Goals as goal
 
 pub run-done-requires : goal.run-done-requires
-run-done-requires c =
+run-done-requires g c =
     let job = c.in-Work.job in
-    let runs = work_runs (λ x s h. FirstStands x s h) c.args.core.now c.turn.new.self c.args.strand 0 (vec_capacity c.args.room.now) job c.turn.new.room.items c.in-Work.ensures.turned in
-    subst (λ z. CanResume (λ x s h. FirstStands x s h) job.stage job.seen z) (sym c.deref.ensures.value) runs
+    let runs = work_runs g.S.Stage.stands c.args.core.now c.turn.new.self c.args.strand 0 (vec_capacity c.args.room.now) job c.turn.new.room.items c.in-Work.ensures.turned in
+    subst (λ z. CanResume g.S.Stage.stands job.stage job.seen z) (sym c.deref.ensures.value) runs
 
 pub finish-requires-clause-stands : goal.finish-requires-clause-stands
-finish-requires-clause-stands c =
+finish-requires-clause-stands g c =
     let job = c.in-Work.job in
     let done = c.run-done.result in
-    let resumes = subst (λ z. IfOk done.want (λ want. Resumes (λ x s h. FirstStands x s h) job.stage done.stage job.seen z want)) c.deref.ensures.value c.run-done.ensures.resumes in
-    let stands = work_done (λ x s h. FirstStands x s h) c.args.core.now c.turn.new.self c.args.strand 0 (vec_capacity c.args.room.now) job c.turn.new.room.items c.in-Work.ensures.turned done c.run-done.ensures.strand c.run-done.ensures.place resumes in
+    let resumes = subst (λ z. IfOk done.want (λ want. Resumes g.S.Stage.stands job.stage done.stage job.seen z want)) c.deref.ensures.value c.run-done.ensures.resumes in
+    let stands = work_done g.S.Stage.stands c.args.core.now c.turn.new.self c.args.strand 0 (vec_capacity c.args.room.now) job c.turn.new.room.items c.in-Work.ensures.turned done c.run-done.ensures.strand c.run-done.ensures.place resumes in
     let same : c.turn-2.new.self ≡ c.turn.new.self = c.in-NotReady.ensures.turned.2 in
-    subst (λ (z : Machine). IfOk done.want (λ want. DoneStands (λ x s h. FirstStands x s h) z.net (take done.place z.journal) done.strand done.place done.stage want)) (sym same) stands
+    subst (λ (z : Machine). IfOk done.want (λ want. DoneStands g.S.Stage.stands z.net (take done.place z.journal) done.strand done.place done.stage want)) (sym same) stands
 
 pub finish-requires-clause-among : goal.finish-requires-clause-among
-finish-requires-clause-among c =
+finish-requires-clause-among g c =
     let job = c.in-Work.job in
     let done = c.run-done.result in
-    let out = work_among (λ x s h. FirstStands x s h) c.args.core.now c.turn.new.self c.args.strand 0 (vec_capacity c.args.room.now) job c.turn.new.room.items c.in-Work.ensures.turned done c.run-done.ensures.place in
+    let out = work_among g.S.Stage.stands c.args.core.now c.turn.new.self c.args.strand 0 (vec_capacity c.args.room.now) job c.turn.new.room.items c.in-Work.ensures.turned done c.run-done.ensures.place in
     let same : c.turn-2.new.self ≡ c.turn.new.self = c.in-NotReady.ensures.turned.2 in
     subst (λ (z : Machine). is_among done.place z.out ≡ true) (sym same) out
