@@ -30,7 +30,9 @@ impl DeviceStage {
         match &strand.kind {
             Kind::ConsoleIn { bytes } => Ok(DeviceStage::Source(source(alloc, bytes, outputs)?)),
             Kind::ConsoleOut => Ok(DeviceStage::Console(console(alloc, outputs)?)),
-            Kind::Literal { text } => Ok(DeviceStage::Literal(Literals::stage(alloc, text, outputs)?)),
+            Kind::Literal { text } => Ok(DeviceStage::Literal(Literals::stage(
+                alloc, text, outputs,
+            )?)),
             Kind::Hole => Ok(DeviceStage::Hole(Holes::stage(alloc, outputs)?)),
             _ => unreachable!(),
         }

@@ -6,8 +6,8 @@ mod fresh;
 mod kinds;
 
 pub use built_in::BuiltIn;
-pub use kinds::is_built_in;
 pub use fresh::{make, make_all};
+pub use kinds::is_built_in;
 
 #[cfg(test)]
 mod tests;
