@@ -7,3 +7,6 @@ mod select;
 
 pub use select::{SelectStage, is_select};
 
+
+#[cfg(test)]
+mod tests;
