@@ -7,6 +7,5 @@ mod select;
 
 pub use select::{SelectStage, is_select};
 
-
 #[cfg(test)]
 mod tests;
