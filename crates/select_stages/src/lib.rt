@@ -9,3 +9,5 @@ mod select;
 pub use select::{SelectStage, is_select};
 pub use laws::lists;
 
+#[cfg(test)]
+mod tests;

@@ -52,9 +52,9 @@ module _ (part text : List ℕ) (rare from : ℕ) (inside : rare < length text) 
         elim sides [
           | inl early ↦ before k early at
           | inr late ↦
-            let there : k ≡ from + (k - from) = omega arith in
-            let byte = byte_at (k - from) (subst (OccursAt part text) there at) in
-            passed (k - from) there byte.0 byte.1
+              let there : k ≡ from + (k - from) = omega arith in
+              let byte = byte_at (k - from) (subst (OccursAt part text) there at) in
+              passed (k - from) there byte.0 byte.1
         ]
 
     -- the byte stands nowhere, and so the string doesn't

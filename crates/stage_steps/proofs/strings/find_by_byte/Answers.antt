@@ -15,8 +15,7 @@ returns-then-starts_with_str c =
     let place = from + c.in-Some.ahead in
     let size = length-drop (from + c.args.rare) part in
     let first = c.in-Some.ensures in
-    let at = occurs_there part c.args.text.now _ place (let h = rw (take_rest part (from + c.args.rare)) at first.0.high in omega arith) (take_rest part place) (c.starts_with_str.ensures.0 c.if-starts_with_str.true) in
-    (
+    let at = occurs_there part c.args.text.now _ place (let h = rw (take_rest part (from + c.args.rare)) at first.0.high in omega arith) (take_rest part place) (c.starts_with_str.ensures.0 c.if-starts_with_str.true) in (
       record {
         low = omega arith;
         high = let f = at.fits in omega arith;
