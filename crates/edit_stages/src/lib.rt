@@ -9,3 +9,6 @@ mod reverse;
 
 pub use edit::{EditStage, is_edit};
 pub use laws::lists;
+
+#[cfg(test)]
+mod tests;
