@@ -1,5 +1,5 @@
 -- A string is looked for by its byte at one of its places.
-use Rattle.std.proofs.Common.{◌≡◌, ℕ, ◌+◌, ◌-◌, ◌<◌, ◌≤◌, ◌==◌, ◌↔◌, ◌⊎◌, IsTrue, Bool, true, false, List, length, drop, slice_index, arith, refl, sym, subst, inl, inr, ◌∙◌, ap, Option, Some, None, is_some, IfSome}
+use Rattle.std.proofs.Common.{◌≡◌, ℕ, ◌+◌, ◌-◌, ◌<◌, ◌≤◌, ◌⊎◌, true, false, List, length, drop, slice_index, arith, refl, sym, subst, inl, inr, ◌∙◌, ap, Option, Some, None, is_some, IfSome}
 use Rattle.std.proofs.lemmas.Bool.{eqb-true, eq-eqb}
 use Rattle.std.proofs.lemmas.List.{get_or-drop, length-drop}
 use Rattle.bstr.specs.Find.{OccursAt, Nowhere, NoneBefore, Passes, IsFirstByte, FindsNeedle, is_byte}

@@ -1,4 +1,3 @@
-use Rattle.std.proofs.Common.{◌≡◌, ◌<◌, length, slice_index, ap, subst}
 use Rattle.stage_steps.proofs.Searching.{one_byte}
 use Rattle.stage_steps.proofs.strings.find_byte.Goals as goal
 
