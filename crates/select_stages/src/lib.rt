@@ -6,8 +6,8 @@ mod locate;
 mod picks;
 mod select;
 
-pub use select::{SelectStage, is_select};
 pub use laws::lists;
+pub use select::{SelectStage, is_select};
 
 #[cfg(test)]
 mod tests;

@@ -26,7 +26,13 @@ fn driven<P: Picks>(
     outputs: &[bool],
     steps: &[(Seen, &[u8], &str)],
 ) -> Result<(), Fail> {
-    let mut stage = Listed::new(alloc, Picked::new(picks), Order::WritesFirst, outputs, false)?;
+    let mut stage = Listed::new(
+        alloc,
+        Picked::new(picks),
+        Order::WritesFirst,
+        outputs,
+        false,
+    )?;
     assert!(rt; stage.looks());
     assert_eq!(rt; shown(alloc, &stage.first())?.as_str(), "commit -1");
     for (seen, bytes, want) in steps {

@@ -1,5 +1,4 @@
 pub mod Acts
-pub mod Bytes
 pub mod Cuts
 pub mod Drives
 pub mod Fields
