@@ -104,47 +104,56 @@ fn writing(alloc: Global, is_linked: bool) -> Result<Listed<Copies>, NoMemory>
     Listed::new(alloc, copies, Order::WritesFirst, &[is_linked], true)
 }
 
-// A strand whose stage has one strand, named by its number.
-fn strand(
+// The name and the ports of a strand whose stage has one strand, by its number.
+fn place(
     alloc: Global,
     number: u32,
-    kind: Kind,
     inputs: &[bool],
     outputs: &[bool],
-) -> Result<Strand, NoMemory>
+) -> Result<(StageName, Ports), NoMemory>
     requires few_inputs { length inputs.now < 2 ^ 16 }
     requires few_outputs { length outputs.now < 2 ^ 16 }
-    ensures { IfOk result (λ made. made ≡ strand number kind inputs.now outputs.now) }
+    ensures name { IfOk result (λ made. made.0 ≡ number ∷ []) }
+    ensures ports { IfOk result (λ made. made.1 ≡ record { inputs = length inputs.now; outputs = length outputs.now; has_input = inputs.now; has_output = outputs.now }) }
 {
     let mut path = Vec::new(alloc);
     path.push(number)?;
-    Ok(Strand {
-        name: StageName::from_vec(path),
-        kind,
-        part: 0,
-        unit: 0,
-        ports: Ports {
-            inputs: inputs.len() as u16,
-            outputs: outputs.len() as u16,
-            has_input: Flags::from_vec(Vec::from_slice(alloc, inputs)?),
-            has_output: Flags::from_vec(Vec::from_slice(alloc, outputs)?),
-        },
-    })
+    let ports = Ports {
+        inputs: inputs.len() as u16,
+        outputs: outputs.len() as u16,
+        has_input: Flags::from_vec(Vec::from_slice(alloc, inputs)?),
+        has_output: Flags::from_vec(Vec::from_slice(alloc, outputs)?),
+    };
+    Ok((StageName::from_vec(path), ports))
 }
 
 // The strand of a CONSOLE that is first, with its bytes.
 fn reader(alloc: Global, bytes: &[u8]) -> Result<Strand, NoMemory>
     ensures { IfOk result (λ made. made ≡ strand 0 (ConsoleIn bytes.now) [] (true ∷ [])) }
 {
+    let (name, ports) = place(alloc, 0, &[], &[true])?;
     let bytes = Rec::from_slice(alloc, bytes)?;
-    strand(alloc, 0, Kind::ConsoleIn { bytes }, &[], &[true])
+    Ok(Strand {
+        name,
+        kind: Kind::ConsoleIn { bytes },
+        part: 0,
+        unit: 0,
+        ports,
+    })
 }
 
 // The strand of a CONSOLE that isn't first, with its output connected or not.
 fn writer(alloc: Global, number: u32, is_linked: bool) -> Result<Strand, NoMemory>
     ensures { IfOk result (λ made. made ≡ strand number ConsoleOut (true ∷ []) (is_linked ∷ [])) }
 {
-    strand(alloc, number, Kind::ConsoleOut, &[true], &[is_linked])
+    let (name, ports) = place(alloc, number, &[true], &[is_linked])?;
+    Ok(Strand {
+        name,
+        kind: Kind::ConsoleOut,
+        part: 0,
+        unit: 0,
+        ports,
+    })
 }
 
 const fn rendezvous(from: u32, to: u32) -> Link
@@ -163,11 +172,11 @@ const fn rendezvous(from: u32, to: u32) -> Link
 fn passing_net(alloc: Global) -> Result<Net, NoMemory>
     ensures { IfOk result (λ net. net ≡ passing) }
 {
-    let first = reader(alloc, b"ab\ncd\nb")?;
-    let second = writer(alloc, 1, true)?;
-    let last = writer(alloc, 2, false)?;
-    let strands = vec![in alloc; first, second, last]?;
     let links = vec![in alloc; rendezvous(0, 1), rendezvous(1, 2)]?;
+    let mut strands = Vec::new(alloc);
+    strands.push(reader(alloc, b"ab\ncd\nb")?)?;
+    strands.push(writer(alloc, 1, true)?)?;
+    strands.push(writer(alloc, 2, false)?)?;
     Ok(Net {
         strands: Strands::from_vec(strands),
         links: Links::from_vec(links),

@@ -5,7 +5,7 @@ use Rattle.pipe_model.specs.declared.net.Net.{Net}
 use Rattle.pipe_model.specs.declared.net.Strand.{Strand}
 use Rattle.pipe_model.specs.Event.{Event}
 use Rattle.pipe_model.specs.WellFormed.{IsWellFormed}
-use Rattle.confluence_laws.specs.Examples.{passing}
+use Rattle.confluence_laws.specs.Examples.{passing, link as rendezvous}
 use Rattle.confluence_laws.proofs.Formed.{passing_formed}
 use Rattle.core_machine.specs.declared.tests.Console.TheVariants.{Reads, Writes}
 use Rattle.core_machine.specs.Machine.{started}
@@ -31,9 +31,12 @@ module _ {S : Type 0} (stands : S → Strand → List Event → Type 0) (a b c :
   fresh strands stages strands_are stages_are =
       subst (λ z. AreFresh stands z stages) (sym strands_are) (subst (λ z. AreFresh stands (p ∷ q ∷ r ∷ []) z) (sym stages_are) (record { count = refl; each = each_of }))
 
+queue_of : (a link : Link) → a.queue ≡ false → Some a ≡ Some link → link.queue ≡ false
+queue_of a link is at = let same : a ≡ link = cc in ap (λ (l : Link). l.queue) (sym same) ∙ is
+
 no_queue : HasNoQueue passing
-no_queue zero link at = let same : ◌≡◌ {A = Link} _ link = cc in ap (λ (l : Link). l.queue) (sym same)
-no_queue (suc zero) link at = let same : ◌≡◌ {A = Link} _ link = cc in ap (λ (l : Link). l.queue) (sym same)
+no_queue zero link at = queue_of (rendezvous 0 0 1 0) link refl at
+no_queue (suc zero) link at = queue_of (rendezvous 1 0 2 0) link refl at
 no_queue (suc (suc j)) link at = cc
 
 pub start-requires-clause-formed : goal.start-requires-clause-formed
