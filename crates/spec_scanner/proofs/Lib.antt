@@ -1,4 +1,5 @@
 pub mod Adds
+pub mod Arguments
 pub mod Bare
 pub mod Beginnings
 pub mod Bodies

@@ -21,7 +21,7 @@ mod stages;
 mod words;
 
 pub use fault::{Fault, SpecFault, least};
-pub use laws::{no_refusal, one_reading_of, one_refusal_of};
+pub use laws::{no_refusal, one_reading_of, one_refusal_of, places_rise};
 pub use piece::{Piece, PieceKind};
 pub use scanned::{Pieces, Scanned};
 pub use scanner::scan;
