@@ -12,8 +12,8 @@ use outside::Source;
 use pipe_model::{Net, Rec, Strand, reads_input};
 use std::alloc::Global;
 
-// Reads the input to its end, where a CONSOLE of the net reads it, and gives it to that. An error is a read fault, too much input or want of
-// memory.
+// Reads the input to its end, where a CONSOLE of the net reads it, and gives it to that, which will hold it together with
+// its stage. An error is a read fault, too much input or want of memory.
 pub(crate) fn take_input<I: Source>(alloc: Global, net: Net, input: &mut I) -> Result<Net, Outcome>
     requires whole { IsWellFormed net }
     requires built { AreBuilt net }
@@ -26,8 +26,11 @@ pub(crate) fn take_input<I: Source>(alloc: Global, net: Net, input: &mut I) -> R
         return Ok(net);
     };
     let bytes = read_all(alloc, input)?;
+    let Ok(rec) = Rec::shared(alloc, bytes) else {
+        return Err(Outcome::NoMemory);
+    };
     let mut net = net;
-    feed(&mut net, strand, Rec::from_vec(bytes));
+    feed(&mut net, strand, rec);
     Ok(net)
 }
 

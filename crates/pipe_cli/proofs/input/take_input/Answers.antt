@@ -11,5 +11,5 @@ returns-clause-whole g c = c.feed.ensures.whole c.requires.whole
 pub returns-clause-built : goal.returns-clause-built
 returns-clause-built g c =
     let there = reader_at c.args.net c.in-Some.strand (sym c.reader.ensures ∙ c.in-Some.is) in
-    let built = fed_built c.args.net c.in-Some.strand c.from_vec.result there c.requires.built in
+    let built = fed_built c.args.net c.in-Some.strand c.in-Ok.rec there c.requires.built in
     rw c.feed.ensures.fed built
