@@ -172,6 +172,10 @@ fn fetch<L: Lists>(
     ensures hand { IfOk result (λ _. hand.new ≡ None) }
     ensures fetches { IfOk result (λ given. Fetches L.stands outputs.now.flags.items lists.old hand.old lists.new given) }
 {
+    // Most often nothing is in hand, and a group is long to move.
+    if hand.is_none() {
+        return next_group(lists, outputs, alloc);
+    }
     match hand.take() {
         Some(group) => if outputs.takes(&group) {
             Ok(Some(group))
