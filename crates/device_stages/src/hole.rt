@@ -1,4 +1,4 @@
-use pipe_model::NoMemory;
+use pipe_model::{NoMemory, Rec};
 use stage_steps::{Group, Listed, Lists, Order};
 use std::alloc::Global;
 
@@ -21,11 +21,14 @@ impl Holes {
 }
 
 impl Lists for Holes {
+    ghost use Rattle.std.specs.Prelude.{None};
     ghost use Rattle.device_stages.specs.DeviceLists.{HolesStand, holes_look};
 
     ghost stands = { HolesStand };
 
     ghost is_looking = { holes_look };
+
+    ghost made = { λ _. None };
 
     ghost left = { λ _. 0 };
 
@@ -41,6 +44,10 @@ impl Lists for Holes {
 
     fn next(&mut self, _alloc: Global) -> Result<Option<Group>, NoMemory> {
         Ok(None)
+    }
+
+    fn hand_over(&mut self, _alloc: Global) -> Result<Rec, NoMemory> {
+        unreachable!()
     }
 
     fn halts(&self) -> bool {

@@ -40,11 +40,14 @@ impl Literals {
 }
 
 impl Lists for Literals {
+    ghost use Rattle.std.specs.Prelude.{Some};
     ghost use Rattle.device_stages.specs.DeviceLists.{LiteralsStand, literals_look, due_count};
 
     ghost stands = { LiteralsStand };
 
     ghost is_looking = { literals_look };
+
+    ghost made = { λ x. Some x.text };
 
     ghost left = { λ x. due_count x.due };
 
@@ -63,14 +66,18 @@ impl Lists for Literals {
     }
 
     #[inline(always)]
-    fn next(&mut self, alloc: Global) -> Result<Option<Group>, NoMemory> {
+    fn next(&mut self, _alloc: Global) -> Result<Option<Group>, NoMemory> {
         let group = match self.due {
             Due::Nothing => None,
-            Due::Text => Some(Group::fresh(0, self.text.copy(alloc)?)),
+            Due::Text => Some(Group::New(0)),
             Due::AtHand => Some(Group::at_hand(0)),
         };
         self.due = Due::Nothing;
         Ok(group)
+    }
+
+    fn hand_over(&mut self, alloc: Global) -> Result<Rec, NoMemory> {
+        self.text.copy(alloc)
     }
 
     #[inline(always)]

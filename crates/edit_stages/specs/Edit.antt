@@ -7,7 +7,8 @@ use Rattle.pipe_model.specs.Event.{Event}
 use Rattle.stage_steps.specs.Drivers.{ListedStands}
 use Rattle.edit_stages.specs.declared.edit.EditStage.{EditStage}
 use Rattle.edit_stages.specs.declared.edit.EditStage.TheVariants.{Duplicate, Reverse}
-use Rattle.edit_stages.specs.States.{EditedStands, DuplicatesStand}
+use Rattle.edit_stages.specs.declared.reverse.Reverses.{Reverses}
+use Rattle.edit_stages.specs.EditLists.{DuplicatesStand, duplicates_look, EditedStand, edited_look}
 
 -- the kind is one of Editing
 abbrev pub is_edit : Kind → Bool
@@ -17,5 +18,5 @@ is_edit _ = false
 
 -- the stage stands for this history of this strand
 abbrev pub EditStands : EditStage → Strand → List Event → Type 0
-EditStands (Duplicate x) s h = ListedStands (λ l t recs acts. DuplicatesStand l.copies l.due t recs acts) (λ l. false) x s h
-EditStands (Reverse x) s h = ListedStands (λ l t recs acts. EditedStands reverse l.waiting t acts) (λ l. true) x s h
+EditStands (Duplicate x) s h = ListedStands DuplicatesStand duplicates_look x s h
+EditStands (Reverse x) s h = ListedStands (EditedStand (λ (edits : Reverses). reverse)) edited_look x s h

@@ -1,2 +1,2 @@
 pub mod Edit
-pub mod States
+pub mod EditLists

@@ -1,10 +1,10 @@
-use pipe_model::{NoMemory, Out, Times};
-use stage_steps::{Group, Lists};
+use pipe_model::{NoMemory, Rec, Times};
+use stage_steps::{Group, Listed, Lists, Order, Repeat};
 use std::alloc::Global;
 
 /// What is still to be written of the record at hand.
 #[derive(Clone, Copy)]
-pub(crate) enum Due {
+enum Due {
     Nothing,
     /// The copies.
     Copies,
@@ -15,34 +15,43 @@ pub(crate) enum Due {
 /// DUPLICATE: the record, and so many copies of it. `*` has no end of copies.
 #[derive(Drop)]
 pub struct Duplicates {
-    pub(crate) copies: Times,
-    pub(crate) due: Due,
+    copies: Times,
+    due: Due,
 }
 
 impl Duplicates {
-    ghost use Rattle.std.specs.Prelude.{◌≡◌};
-    ghost use Rattle.edit_stages.specs.declared.duplicate.Due.TheVariants.{Nothing};
+    ghost use Rattle.std.specs.Prelude.{IfOk};
+    ghost use Rattle.pipe_model.specs.declared.kind.Kind.TheVariants.{Duplicate};
+    ghost use Rattle.stage_steps.specs.Drivers.{IsStageOf};
+    ghost use Rattle.edit_stages.specs.EditLists.{DuplicatesStand, duplicates_look};
 
-    /// Before the first record.
-    pub(crate) fn new(copies: Times) -> Duplicates
-        ensures { result ≡ record { copies = copies; due = Nothing } }
+    // DUPLICATE with so many copies.
+    pub(crate) fn stage(
+        alloc: Global,
+        copies: Times,
+        outputs: &[bool],
+    ) -> Result<Listed<Duplicates>, NoMemory>
+        ensures { IfOk result (IsStageOf DuplicatesStand duplicates_look (Duplicate copies) outputs.now) }
     {
-        Duplicates {
+        let lists = Duplicates {
             copies,
             due: Due::Nothing,
-        }
+        };
+        Listed::new(alloc, lists, Order::WritesFirst, outputs, false)
     }
 }
 
 impl Lists for Duplicates {
-    ghost use Rattle.std.specs.Prelude.{false};
-    ghost use Rattle.edit_stages.specs.States.{DuplicatesStand, groups_due};
+    ghost use Rattle.std.specs.Prelude.{None};
+    ghost use Rattle.edit_stages.specs.EditLists.{DuplicatesStand, duplicates_look, due_count};
 
-    ghost stands = { λ x t recs acts. DuplicatesStand x.copies x.due t recs acts };
+    ghost stands = { DuplicatesStand };
 
-    ghost is_looking = { λ _. false };
+    ghost is_looking = { duplicates_look };
 
-    ghost left = { λ x. groups_due x.due };
+    ghost made = { λ _. None };
+
+    ghost left = { λ x. due_count x.due };
 
     fn begin(&mut self) {}
 
@@ -65,17 +74,20 @@ impl Lists for Duplicates {
             Due::Nothing => Ok(None),
             Due::Copies => {
                 self.due = Due::Nothing;
-                Ok(Some(Group {
+                Ok(Some(Group::AtHand(Repeat {
                     output: 0,
-                    out: Out::Same(0),
                     times: self.copies,
-                }))
+                })))
             }
             Due::All => {
                 self.due = Due::Copies;
                 Ok(Some(Group::at_hand(0)))
             }
         }
+    }
+
+    fn hand_over(&mut self, _alloc: Global) -> Result<Rec, NoMemory> {
+        unreachable!()
     }
 
     #[inline(always)]

@@ -5,7 +5,7 @@ use crate::duplicate::Duplicates;
 use crate::edits::Edited;
 use crate::reverse::Reverses;
 use pipe_model::{Kind, NoMemory, Seen, Strand, Want};
-use stage_steps::{Listed, Order, Stage};
+use stage_steps::{Listed, Stage};
 use std::alloc::Global;
 
 /// A stage of Editing.
@@ -33,16 +33,10 @@ impl EditStage {
     {
         let outputs = strand.ports.has_output.as_slice();
         match &strand.kind {
-            Kind::Duplicate(copies) => {
-                let lists = Duplicates::new(*copies);
-                let stage = Listed::new(alloc, lists, Order::WritesFirst, outputs, false)?;
-                Ok(EditStage::Duplicate(stage))
-            }
-            Kind::Reverse => {
-                let lists = Edited::new(Reverses);
-                let stage = Listed::new(alloc, lists, Order::WritesFirst, outputs, false)?;
-                Ok(EditStage::Reverse(stage))
-            }
+            Kind::Duplicate(copies) => Ok(EditStage::Duplicate(Duplicates::stage(
+                alloc, *copies, outputs,
+            )?)),
+            Kind::Reverse => Ok(EditStage::Reverse(Edited::stage(alloc, Reverses, outputs)?)),
             _ => unreachable!(),
         }
     }
@@ -53,7 +47,7 @@ impl Stage for EditStage {
     ghost use Rattle.stage_steps.specs.Coroutine.{Resumes};
     ghost use Rattle.edit_stages.specs.Edit.{EditStands};
 
-    ghost stands = { λ x s h. EditStands x s h };
+    ghost stands = { EditStands };
 
     fn first(&self) -> Want {
         match self {
@@ -64,7 +58,7 @@ impl Stage for EditStage {
 
     // It may be told any event; what isn't answered ends it.
     fn resume(&mut self, alloc: Global, seen: Seen, bytes: &[u8]) -> Result<Want, NoMemory>
-        ensures { IfOk result (λ asked. Resumes (λ x s h. EditStands x s h) self.old self.new seen bytes.now asked) }
+        ensures { IfOk result (λ asked. Resumes EditStands self.old self.new seen bytes.now asked) }
     {
         match self {
             EditStage::Duplicate(stage) => stage.resume(alloc, seen, bytes),

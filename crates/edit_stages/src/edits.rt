@@ -1,8 +1,9 @@
 ghost use Rattle.std.specs.Prelude.{◌≡◌, ℕ, List, IfOk};
 
 use pipe_model::{NoMemory, Rec};
-use stage_steps::{Group, Lists};
+use stage_steps::{Group, Listed, Lists, Order};
 use std::alloc::Global;
+use std::mem;
 
 /// What a stage does that makes one record of each, by that record alone.
 pub trait Edits: Sized + Drop {
@@ -17,41 +18,53 @@ pub trait Edits: Sized + Drop {
 /// The lists of such a stage: one pair for each record, on output 0.
 #[derive(Drop)]
 pub struct Edited<E: Edits> {
-    pub(crate) edits: E,
-    /// What was made of the record at hand and is still to be written.
-    pub(crate) waiting: Option<Rec>,
+    edits: E,
+    /// What was made of the record at hand.
+    new: Rec,
+    /// It is still to be given.
+    due: bool,
 }
 
 impl<E: Edits> Edited<E> {
-    ghost use Rattle.std.specs.Prelude.{◌≡◌, None};
+    ghost use Rattle.std.specs.Prelude.{IfOk};
+    ghost use Rattle.pipe_model.specs.declared.kind.Kind.{Kind};
+    ghost use Rattle.stage_steps.specs.Drivers.{IsStageOf};
+    ghost use Rattle.edit_stages.specs.EditLists.{EditedStand, edited_look, IsEditing};
 
-    /// Before the first record.
-    pub(crate) fn new(edits: E) -> Edited<E>
-        ensures { result ≡ record { edits = edits; waiting = None } }
+    // The stage of the kinds that make these edits.
+    pub(crate) fn stage(
+        alloc: Global,
+        edits: E,
+        outputs: &[bool],
+    ) -> Result<Listed<Edited<E>>, NoMemory>
+        ensures { IfOk result (λ stage. (kind : Kind) → IsEditing (E.made edits) kind → IsStageOf (EditedStand E.made) edited_look kind outputs.now stage) }
     {
-        Edited {
+        let lists = Edited {
             edits,
-            waiting: None,
-        }
+            new: Rec::from_vec(Vec::new(alloc)),
+            due: false,
+        };
+        Listed::new(alloc, lists, Order::WritesFirst, outputs, false)
     }
 }
 
 impl<E: Edits> Lists for Edited<E> {
-    ghost use Rattle.std.specs.Prelude.{true};
-    ghost use Rattle.stage_steps.specs.Waiting.{how_many};
-    ghost use Rattle.edit_stages.specs.States.{EditedStands};
+    ghost use Rattle.edit_stages.specs.EditLists.{EditedStand, edited_look, new_given, new_count};
 
-    ghost stands = { λ x t recs acts. EditedStands (E.made x.edits) x.waiting t acts };
+    ghost stands = { EditedStand E.made };
 
-    ghost is_looking = { λ _. true };
+    ghost is_looking = { edited_look };
 
-    ghost left = { λ x. how_many x.waiting };
+    ghost made = { λ x. new_given x.due x.new };
+
+    ghost left = { λ x. new_count x.due };
 
     fn begin(&mut self) {}
 
     #[inline(always)]
     fn see(&mut self, alloc: Global, bytes: &[u8]) -> Result<(), NoMemory> {
-        self.waiting = Some(self.edits.edit(alloc, bytes)?);
+        self.new = self.edits.edit(alloc, bytes)?;
+        self.due = true;
         Ok(())
     }
 
@@ -61,10 +74,20 @@ impl<E: Edits> Lists for Edited<E> {
 
     #[inline(always)]
     fn next(&mut self, _alloc: Global) -> Result<Option<Group>, NoMemory> {
-        match self.waiting.take() {
-            Some(rec) => Ok(Some(Group::fresh(0, rec))),
-            None => Ok(None),
+        if self.due {
+            self.due = false;
+            Ok(Some(Group::New(0)))
+        } else {
+            Ok(None)
         }
+    }
+
+    #[inline(always)]
+    fn hand_over(&mut self, alloc: Global) -> Result<Rec, NoMemory> {
+        Ok(mem::replace(
+            &mut self.new,
+            Rec::from_vec(Vec::new(alloc)),
+        ))
     }
 
     #[inline(always)]

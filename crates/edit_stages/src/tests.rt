@@ -2,7 +2,7 @@ use crate::duplicate::Duplicates;
 use crate::edits::Edits;
 use crate::reverse::Reverses;
 use pipe_model::{Out, Seen, Times, Want};
-use stage_steps::{Listed, Order, Stage};
+use stage_steps::Stage;
 use std::alloc::{AllocError, Global};
 use std::process::Abort;
 use std::test::Fail;
@@ -26,8 +26,7 @@ fn driven(
     copies: Times,
     steps: &[(Seen, &str)],
 ) -> Result<(), Fail> {
-    let lists = Duplicates::new(copies);
-    let mut stage = Listed::new(alloc, lists, Order::WritesFirst, &[true], false)?;
+    let mut stage = Duplicates::stage(alloc, copies, &[true])?;
     assert!(rt; !stage.looks());
     for (seen, want) in steps {
         let asked = stage.resume(alloc, *seen, b"")?;

@@ -1,3 +1,3 @@
+pub mod PickLists
 pub mod Picks
 pub mod Select
-pub mod States

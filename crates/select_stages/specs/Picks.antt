@@ -1,10 +1,7 @@
 -- What a stage does that writes each record on output 0 or on output 1, and nothing at the start or at the end of input.
 use Rattle.std.specs.Prelude.{◌≡◌, ◌<◌, ℕ, Bool, true, not, List, [], ◌∷◌, ◌++◌, length}
-use Rattle.std.specs.declared.option.Option.{Option}
-use Rattle.pipe_model.specs.Row.{Act}
 use Rattle.pipe_model.specs.SelectionRows.{selected}
 use Rattle.pipe_model.specs.Shape.{Records, Stream, each_record, never, at_hand_of}
-use Rattle.stage_steps.specs.Waiting.{waiting_act}
 
 -- which records are selected, and where the stage ends: each by the records so far, the last of them at hand
 pub record Choice : Type 0 where
@@ -35,11 +32,3 @@ PicksNext stands looks x y bytes is = (choice : Choice) (recs : Records) (rec : 
 -- what it tells is what the choice says after the records so far
 abbrev pub Says : {P : Type 0} → (P → Choice → Records → Type 0) → P → Bool → (Choice → Records → Bool) → Type 0
 Says stands x is f = (choice : Choice) (recs : Records) → stands x choice recs → is ≡ f choice recs
-
--- the other value stands for the choice that is rejected
-abbrev pub RejectsStand : {P : Type 0} → (P → Choice → Records → Type 0) → P → Choice → Records → Type 0
-RejectsStand stands x choice recs = (other : Choice) × (choice ≡ rejected other) × stands x other recs
-
--- each record goes on the output that is picked, where it may wait for it
-abbrev pub PickedStands : {P : Type 0} → (P → Choice → Records → Type 0) → P → Option ℕ → Stream → Records → List Act → Type 0
-PickedStands stands x waiting t recs acts = (choice : Choice) × (t ≡ chosen choice) × stands x choice recs × (acts ≡ waiting_act waiting (at_hand_of recs))

@@ -1,17 +1,44 @@
+ghost use Rattle.std.specs.Prelude.{◌≡◌, IfOk};
+
 use crate::picks::Picks;
-use pipe_model::Range;
+use pipe_model::{NoMemory, Range, Rec};
 use stage_steps::{Sought, part_of};
+use std::alloc::Global;
+
+// The string of an argument that may be there.
+fn sought(alloc: Global, text: &Option<Rec>) -> Result<Option<Sought>, NoMemory>
+    ensures { IfOk result (λ sought. sought ≡ text.now) }
+{
+    match text {
+        None => Ok(None),
+        Some(text) => Ok(Some(Sought::new(text.copy(alloc)?))),
+    }
+}
 
 /// LOCATE selects the records in whose range the string stands, and without a string those whose range isn't empty.
 #[derive(Drop)]
 pub struct Locates {
-    pub(crate) range: Range,
-    pub(crate) sought: Option<Sought>,
+    range: Range,
+    sought: Option<Sought>,
 }
 
 impl Locates {
-    ghost use Rattle.std.specs.Prelude.{◌≡◌};
+    ghost use Rattle.std.specs.Prelude.{◌≡◌, IfOk};
     ghost use Rattle.pipe_model.specs.Ranges.{locates};
+
+    // LOCATE of this range and this string.
+    pub(crate) fn new(
+        alloc: Global,
+        range: Range,
+        text: &Option<Rec>,
+    ) -> Result<Locates, NoMemory>
+        ensures { IfOk result (λ it. it ≡ record { range = range; sought = text.now }) }
+    {
+        Ok(Locates {
+            range,
+            sought: sought(alloc, text)?,
+        })
+    }
 
     // Whether the string stands in the range of a record, or without a string whether that isn't empty.
     #[inline(always)]
@@ -27,12 +54,11 @@ impl Locates {
 }
 
 impl Picks for Locates {
-    ghost use Rattle.std.specs.Prelude.{true};
-    ghost use Rattle.select_stages.specs.States.{LocatesStand};
+    ghost use Rattle.select_stages.specs.PickLists.{LocatesStand, locates_look};
 
-    ghost stands = { λ x choice recs. LocatesStand x.range x.sought choice };
+    ghost stands = { LocatesStand };
 
-    ghost is_looking = { λ _. true };
+    ghost is_looking = { locates_look };
 
     #[inline(always)]
     fn pick(&mut self, bytes: &[u8]) -> bool {

@@ -2,8 +2,8 @@ ghost use Rattle.std.specs.Prelude.{◌≡◌, Bool, if◌then◌else◌};
 ghost use Rattle.pipe_model.specs.Shape.{Records};
 ghost use Rattle.select_stages.specs.Picks.{Choice, PicksNext, Says};
 
-use pipe_model::NoMemory;
-use stage_steps::{Group, Lists, take_waiting};
+use pipe_model::{NoMemory, Rec};
+use stage_steps::{Group, Listed, Lists, Order, take_waiting};
 use std::alloc::Global;
 
 /// What a stage does that writes each record on output 0, where it selects it, or else on output 1: a value that has
@@ -40,11 +40,11 @@ pub struct Rejects<P: Picks> {
 }
 
 impl<P: Picks> Picks for Rejects<P> {
-    ghost use Rattle.select_stages.specs.Picks.{RejectsStand};
+    ghost use Rattle.select_stages.specs.PickLists.{RejectsStand, rejects_look};
 
-    ghost stands = { λ x choice recs. RejectsStand P.stands x.picks choice recs };
+    ghost stands = { RejectsStand P.stands };
 
-    ghost is_looking = { λ x. P.is_looking x.picks };
+    ghost is_looking = { rejects_look P.is_looking };
 
     #[inline(always)]
     fn pick(&mut self, bytes: &[u8]) -> bool {
@@ -69,22 +69,32 @@ impl<P: Picks> Picks for Rejects<P> {
 /// The lists of such a stage: one pair for each record.
 #[derive(Drop)]
 pub struct Picked<P: Picks> {
-    pub(crate) picks: P,
+    picks: P,
     /// The output on which the record at hand is still to be written.
-    pub(crate) waiting: Option<u16>,
+    waiting: Option<u16>,
 }
 
 impl<P: Picks> Picked<P> {
-    ghost use Rattle.std.specs.Prelude.{◌≡◌, None};
+    ghost use Rattle.std.specs.Prelude.{IfOk, []};
+    ghost use Rattle.pipe_model.specs.declared.kind.Kind.{Kind};
+    ghost use Rattle.stage_steps.specs.Drivers.{IsStageOf};
+    ghost use Rattle.select_stages.specs.Picks.{Choice};
+    ghost use Rattle.select_stages.specs.PickLists.{PickedStand, picked_look, IsChoosing};
 
-    /// Before the first record.
-    pub(crate) fn new(picks: P) -> Picked<P>
-        ensures { result ≡ record { picks = picks; waiting = None } }
+    // The stage of the kinds that choose their records so, before the first record.
+    pub(crate) fn stage(
+        alloc: Global,
+        picks: P,
+        outputs: &[bool],
+    ) -> Result<Listed<Picked<P>>, NoMemory>
+        ensures { IfOk result (λ stage. (kind : Kind) (choice : Choice) → IsChoosing choice (P.is_looking picks) kind → P.stands picks choice [] →
+            IsStageOf (PickedStand P.stands) (picked_look P.is_looking) kind outputs.now stage) }
     {
-        Picked {
+        let lists = Picked {
             picks,
             waiting: None,
-        }
+        };
+        Listed::new(alloc, lists, Order::WritesFirst, outputs, false)
     }
 }
 
@@ -97,12 +107,15 @@ fn output(selected: bool) -> u16
 }
 
 impl<P: Picks> Lists for Picked<P> {
+    ghost use Rattle.std.specs.Prelude.{None};
     ghost use Rattle.stage_steps.specs.Waiting.{how_many};
-    ghost use Rattle.select_stages.specs.Picks.{PickedStands};
+    ghost use Rattle.select_stages.specs.PickLists.{PickedStand, picked_look};
 
-    ghost stands = { λ x t recs acts. PickedStands P.stands x.picks x.waiting t recs acts };
+    ghost stands = { PickedStand P.stands };
 
-    ghost is_looking = { λ x. P.is_looking x.picks };
+    ghost is_looking = { picked_look P.is_looking };
+
+    ghost made = { λ _. None };
 
     ghost left = { λ x. how_many x.waiting };
 
@@ -121,6 +134,10 @@ impl<P: Picks> Lists for Picked<P> {
     #[inline(always)]
     fn next(&mut self, _alloc: Global) -> Result<Option<Group>, NoMemory> {
         Ok(take_waiting(&mut self.waiting))
+    }
+
+    fn hand_over(&mut self, _alloc: Global) -> Result<Rec, NoMemory> {
+        unreachable!()
     }
 
     #[inline(always)]

@@ -1,10 +1,10 @@
-ghost use Rattle.std.specs.Prelude.{◌≡◌, IfOk};
+ghost use Rattle.std.specs.Prelude.{◌≡◌};
 ghost use Rattle.select_stages.specs.Select.{is_select};
 
 use crate::locate::Locates;
 use crate::picks::{Picked, Rejects};
-use pipe_model::{Kind, NoMemory, Range, Rec, Seen, Strand, Want};
-use stage_steps::{Listed, Order, Sought, Stage};
+use pipe_model::{Kind, NoMemory, Seen, Strand, Want};
+use stage_steps::{Listed, Stage};
 use std::alloc::Global;
 
 /// A stage of Selection.
@@ -21,19 +21,6 @@ pub fn is_select(kind: &Kind) -> bool
     matches!(kind, Kind::Locate { .. } | Kind::Nlocate { .. })
 }
 
-// The string of an argument that may be there.
-fn sought(alloc: Global, text: &Option<Rec>) -> Result<Option<Sought>, NoMemory>
-    ensures { IfOk result (λ sought. sought ≡ text.now) }
-{
-    match text {
-        None => Ok(None),
-        Some(text) => {
-            let copy = Rec::from_slice(alloc, text.bytes())?;
-            Ok(Some(Sought::new(copy)))
-        }
-    }
-}
-
 impl SelectStage {
     ghost use Rattle.std.specs.Prelude.{◌≡◌, [], true, IfOk};
     ghost use Rattle.select_stages.specs.Select.{is_select, SelectStands};
@@ -46,22 +33,12 @@ impl SelectStage {
         let outputs = strand.ports.has_output.as_slice();
         match &strand.kind {
             Kind::Locate { range, text } => {
-                let locates = Locates {
-                    range: *range,
-                    sought: sought(alloc, text)?,
-                };
-                let picked = Picked::new(locates);
-                let stage = Listed::new(alloc, picked, Order::WritesFirst, outputs, false)?;
-                Ok(SelectStage::Locate(stage))
+                let picks = Locates::new(alloc, *range, text)?;
+                Ok(SelectStage::Locate(Picked::stage(alloc, picks, outputs)?))
             }
             Kind::Nlocate { range, text } => {
-                let locates = Locates {
-                    range: *range,
-                    sought: sought(alloc, text)?,
-                };
-                let picked = Picked::new(Rejects { picks: locates });
-                let stage = Listed::new(alloc, picked, Order::WritesFirst, outputs, false)?;
-                Ok(SelectStage::Nlocate(stage))
+                let picks = Locates::new(alloc, *range, text)?;
+                Ok(SelectStage::Nlocate(Picked::stage(alloc, Rejects { picks }, outputs)?))
             }
             _ => unreachable!(),
         }
@@ -73,7 +50,7 @@ impl Stage for SelectStage {
     ghost use Rattle.stage_steps.specs.Coroutine.{Resumes};
     ghost use Rattle.select_stages.specs.Select.{SelectStands};
 
-    ghost stands = { λ x s h. SelectStands x s h };
+    ghost stands = { SelectStands };
 
     fn first(&self) -> Want {
         match self {
@@ -84,7 +61,7 @@ impl Stage for SelectStage {
 
     // It may be told any event; what isn't answered ends it.
     fn resume(&mut self, alloc: Global, seen: Seen, bytes: &[u8]) -> Result<Want, NoMemory>
-        ensures { IfOk result (λ asked. Resumes (λ x s h. SelectStands x s h) self.old self.new seen bytes.now asked) }
+        ensures { IfOk result (λ asked. Resumes SelectStands self.old self.new seen bytes.now asked) }
     {
         match self {
             SelectStage::Locate(stage) => stage.resume(alloc, seen, bytes),

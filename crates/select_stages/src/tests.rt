@@ -1,7 +1,7 @@
 use crate::locate::Locates;
 use crate::picks::{Picked, Picks, Rejects};
 use pipe_model::{NoMemory, Out, Range, Rec, Seen, Span, Want};
-use stage_steps::{Listed, Order, Sought, Stage};
+use stage_steps::Stage;
 use std::alloc::{AllocError, Global};
 use std::process::Abort;
 use std::test::Fail;
@@ -26,13 +26,7 @@ fn driven<P: Picks>(
     outputs: &[bool],
     steps: &[(Seen, &[u8], &str)],
 ) -> Result<(), Fail> {
-    let mut stage = Listed::new(
-        alloc,
-        Picked::new(picks),
-        Order::WritesFirst,
-        outputs,
-        false,
-    )?;
+    let mut stage = Picked::stage(alloc, picks, outputs)?;
     assert!(rt; stage.looks());
     assert_eq!(rt; shown(alloc, &stage.first())?.as_str(), "commit -1");
     for (seen, bytes, want) in steps {
@@ -52,12 +46,12 @@ fn locating(
     string: &[u8],
 ) -> Result<Locates, NoMemory> {
     let range = Range { span, first, last };
-    let sought = if string.is_empty() {
+    let text = if string.is_empty() {
         None
     } else {
-        Some(Sought::new(Rec::from_slice(alloc, string)?))
+        Some(Rec::from_slice(alloc, string)?)
     };
-    Ok(Locates { range, sought })
+    Locates::new(alloc, range, &text)
 }
 
 #[test]

@@ -1,23 +1,25 @@
 -- Acts that can be done, and the first of them.
-use Rattle.std.proofs.Common.{◌≡◌, ℕ, zero, suc, ◌-◌, Bool, true, false, cond, ◌&&◌, not, ◌==◌, List, [], ◌∷◌, ◌++◌, refl, sym, ◌∙◌, ap, subst, arith, Some, None, Option, pos}
-use Rattle.std.specs.Prelude.{filter, replicate, option_map}
+use Rattle.std.proofs.Common.{◌≡◌, ℕ, zero, suc, ◌-◌, Bool, true, false, cond, ◌&&◌, not, ◌==◌, List, [], ◌∷◌, ◌++◌, refl, sym, ◌∙◌, ap, arith, Some, None, Option, pos}
+use Rattle.std.specs.Prelude.{filter, replicate, option_map, unwrap_or}
 use Rattle.std.proofs.lemmas.Bool.Decides.{nat_tests}
 use Rattle.std.proofs.lemmas.List.Elements.{filter-append}
 use Rattle.pipe_model.specs.declared.kind.Times.{Times}
 use Rattle.pipe_model.specs.declared.kind.Times.TheVariants.{Only, All}
-use Rattle.pipe_model.specs.Event.{Event, Want}
+use Rattle.pipe_model.specs.Event.{Want}
 use Rattle.pipe_model.specs.Event.Event.{Put, Refused}
 use Rattle.pipe_model.specs.Members.{flag_at}
 use Rattle.pipe_model.specs.Row.{Pair, Act, Goal, Row}
 use Rattle.pipe_model.specs.Row.Act.{Writes, Repeats, Takes}
 use Rattle.pipe_model.specs.Shape.{writes}
-use Rattle.pipe_model.specs.Next.{Phase, Past, is_open, is_live, is_refused, want_in}
+use Rattle.pipe_model.specs.Next.{Past, is_live, is_refused, want_in}
 use Rattle.pipe_model.proofs.Pasts.{after, after_refusal}
 use Rattle.pipe_model.specs.Next.Phase.{Doing}
 use Rattle.stage_steps.specs.declared.group.Group.{Group}
+use Rattle.stage_steps.specs.declared.group.Group.TheVariants.{AtHand, New}
+use Rattle.stage_steps.specs.declared.group.Repeat.{Repeat}
 use Rattle.stage_steps.specs.declared.place.Follow.{Follow}
 use Rattle.stage_steps.specs.declared.place.Follow.TheVariants.{Take, Look, End}
-use Rattle.stage_steps.specs.Group.{record_of, acts_by, group_acts, held_acts, has_more, is_due, less, less_one}
+use Rattle.stage_steps.specs.Group.{acts_by, group_acts, held_acts, has_more, is_due, less, less_one}
 use Rattle.stage_steps.specs.Outputs.{open_from, can_do, live}
 use Rattle.stage_steps.specs.Listed.{first_write, when_written, and_behind}
 use Rattle.stage_steps.proofs.Flags.{flag_open, fewer_open, shut}
@@ -111,14 +113,14 @@ cons_behind End a acts = refl
 
 -- Groups
 
--- what is left of a group that was written once
+-- what is left when one was written
 abbrev left_by : Option Times → ℕ → List ℕ → List Act
 left_by None o rec = []
 left_by (Some times) o rec = acts_by times o rec
 
-left_same : (g : Group) (rec : List ℕ) (times : Option Times) → held_acts rec (option_map (λ n. record g { times = n }) times) ≡ left_by times g.output (record_of rec g.out)
-left_same g rec None = refl
-left_same g rec (Some times) = refl
+left_same : (r : Repeat) (rec : List ℕ) (times : Option Times) → held_acts rec (option_map (λ n. record r { times = n }) times) ≡ left_by times r.output rec
+left_same r rec None = refl
+left_same r rec (Some times) = refl
 
 left_writes : (n o : ℕ) (rec : List ℕ) → writes (replicate n (o, rec)) ≡ left_by (less (Only (suc n))) o rec
 left_writes zero o rec = refl
@@ -142,14 +144,27 @@ comes_by All o rec flags follow rest opened more =
     ap (live flags) (cons_behind follow (Repeats o rec) rest) ∙ ap (λ b. cond b (Repeats o rec ∷ others) others) opened in
     (ap first_write is, ap when_written is ∙ sym is)
 
+-- what is left of a group that was written once
+abbrev pub left_of : Group → Option Repeat
+left_of (AtHand r) = less_one r
+left_of (New o) = None
+
+-- the pair that a group writes
+abbrev pub pair_of : List ℕ → Option (List ℕ) → Group → Pair
+pair_of rec made (AtHand r) = (r.output, rec)
+pair_of rec made (New o) = (o, unwrap_or made [])
+
 -- a group that is due comes first, and then what is left of it
-pub comes : (g : Group) (rec : List ℕ) (flags : List Bool) (follow : Follow) (rest : List Act) → is_due flags g ≡ true →
-    (first_write (live flags (and_behind follow (group_acts rec g ++ rest))) ≡ Some (g.output, record_of rec g.out))
-    × (when_written (live flags (and_behind follow (group_acts rec g ++ rest))) ≡ live flags (and_behind follow (held_acts rec (less_one g) ++ rest)))
-comes g rec flags follow rest due =
-    let is = both (flag_at flags g.output) (has_more g.times) due in
-    let first = comes_by g.times g.output (record_of rec g.out) flags follow rest is.0 is.1 in
-    (first.0, first.1 ∙ ap (λ l. live flags (and_behind follow (l ++ rest))) (sym (left_same g rec (less g.times))))
+pub comes : (g : Group) (rec : List ℕ) (made : Option (List ℕ)) (flags : List Bool) (follow : Follow) (rest : List Act) → is_due flags g ≡ true →
+    (first_write (live flags (and_behind follow (group_acts rec made g ++ rest))) ≡ Some (pair_of rec made g))
+    × (when_written (live flags (and_behind follow (group_acts rec made g ++ rest))) ≡ live flags (and_behind follow (held_acts rec (left_of g) ++ rest)))
+comes (AtHand r) rec made flags follow rest due =
+    let is = both (flag_at flags r.output) (has_more r.times) due in
+    let first = comes_by r.times r.output rec flags follow rest is.0 is.1 in
+    (first.0, first.1 ∙ ap (λ l. live flags (and_behind follow (l ++ rest))) (sym (left_same r rec (less r.times))))
+comes (New o) rec made flags follow rest due =
+    let first = comes_by (Only 1) o (unwrap_or made []) flags follow rest due refl in
+    (first.0, first.1)
 
 none_by : (n o : ℕ) (rec : List ℕ) (flags : List Bool) (rest : List Act) → flag_at flags o ≡ false → live flags (writes (replicate n (o, rec)) ++ rest) ≡ live flags rest
 none_by zero o rec flags rest closed = refl
@@ -167,5 +182,6 @@ not_due_by All o rec flags rest false closed due = ap (λ b. cond b (Repeats o r
 not_due_by All o rec flags rest true closed due = cc
 
 -- a group that isn't due is passed over
-pub not_due : (g : Group) (rec : List ℕ) (flags : List Bool) (rest : List Act) → is_due flags g ≡ false → live flags (group_acts rec g ++ rest) ≡ live flags rest
-not_due g rec flags rest due = not_due_by g.times g.output (record_of rec g.out) flags rest (flag_at flags g.output) refl due
+pub not_due : (g : Group) (rec : List ℕ) (made : Option (List ℕ)) (flags : List Bool) (rest : List Act) → is_due flags g ≡ false → live flags (group_acts rec made g ++ rest) ≡ live flags rest
+not_due (AtHand r) rec made flags rest due = not_due_by r.times r.output rec flags rest (flag_at flags r.output) refl due
+not_due (New o) rec made flags rest due = none_by 1 o (unwrap_or made []) flags rest due

@@ -5,19 +5,17 @@ use Rattle.std.proofs.lemmas.Bool.Decides.{Decides-int_eq}
 use Rattle.pipe_model.specs.declared.net.Strand.{Strand}
 use Rattle.pipe_model.specs.declared.step.Seen.{Seen}
 use Rattle.pipe_model.specs.declared.step.Want.{Want as Asked}
-use Rattle.pipe_model.specs.Event.{Event, Want, answers, has_ended, taken_from}
+use Rattle.pipe_model.specs.Event.{Event, Want, answers, has_ended}
 use Rattle.pipe_model.specs.Event.Event.{Ended}
-use Rattle.pipe_model.specs.Records.{text}
 use Rattle.pipe_model.specs.Row.{Act}
-use Rattle.pipe_model.specs.Row.Goal.{Asks as Asking, Ends}
+use Rattle.pipe_model.specs.Row.Goal.{Asks as Asking}
 use Rattle.pipe_model.specs.Row.Act.{Takes}
-use Rattle.pipe_model.specs.Shape.{Records, Stream, Order as RowOrder, Keeping, records_of, next_record}
+use Rattle.pipe_model.specs.Shape.{Records, Stream, Order as RowOrder, records_of, next_record}
 use Rattle.pipe_model.specs.Table.{form}
 use Rattle.pipe_model.specs.Next.{Past, past_by, want_in, wanted_by, next}
-use Rattle.pipe_model.proofs.Pasts.{after}
 use Rattle.pipe_model.specs.Next.Phase.{Doing}
 use Rattle.pipe_model.specs.Next.Phase.{Starting as Reaching}
-use Rattle.stage_steps.specs.declared.group.Group.{Group}
+use Rattle.stage_steps.specs.declared.group.Repeat.{Repeat}
 use Rattle.stage_steps.specs.declared.outputs.Outputs.{Outputs}
 use Rattle.stage_steps.specs.declared.place.Place.{Place}
 use Rattle.stage_steps.specs.declared.place.Place.TheVariants.{Starting, Committing, Looking, Writing, Taking, Ending}
@@ -25,9 +23,9 @@ use Rattle.stage_steps.specs.declared.walk.Walk.{Walk}
 use Rattle.stage_steps.specs.Coroutine.{meaning, told, bytes_with, last_seen, owed, IsTold}
 use Rattle.stage_steps.specs.KeptText.{KeptText}
 use Rattle.stage_steps.specs.Kept.{kept_after}
-use Rattle.stage_steps.specs.Listed.{list_row, goal_behind, PlaceIs, AllIs, KeptIs, WalkIs, ListedIs}
+use Rattle.stage_steps.specs.Listed.{list_row, goal_behind, PlaceIs, AllIs, KeptIs, ListedIs}
 use Rattle.stage_steps.specs.Outputs.{open_after, open_from, live, none_left}
-use Rattle.stage_steps.specs.Places.{order_of, want_at}
+use Rattle.stage_steps.specs.Places.{order_of}
 use Rattle.stage_steps.specs.Walk.{Hears, Asks}
 use Rattle.stage_steps.proofs.Acts.{want_first}
 use Rattle.stage_steps.proofs.Walks.{After, by_place, by_want}
@@ -46,7 +44,7 @@ some_is f None = refl
 some_is f (Some k) = refl
 
 -- where it ends with a code, it is in the place where it is to end with it
-ends_at : {L : Type 0} (stands : L → Stream → Records → List Act → Type 0) (order : RowOrder) (t : Stream) (x : L) (f : Place) (hand : Option Group) (flags : List Bool) (p : Past) (code : ℤ) →
+ends_at : {L : Type 0} (stands : L → Stream → Records → List Act → Type 0) (order : RowOrder) (t : Stream) (x : L) (f : Place) (hand : Option Repeat) (flags : List Bool) (p : Past) (code : ℤ) →
     PlaceIs stands order t true x f hand flags p → answers (want_in p.phase) (Ended code) ≡ true → f ≡ Ending code
 ends_at stands order t x Starting hand flags p code is fits = let z : answers (want_in (Reaching (negsuc 0))) (Ended code) ≡ true = subst (λ f. answers (want_in f) (Ended code) ≡ true) is.3 fits in cc
 ends_at stands order t x Committing hand flags p code is fits = let z : answers (want_in (Reaching (pos 0))) (Ended code) ≡ true = subst (λ f. answers (want_in f) (Ended code) ≡ true) is.3 fits in cc
@@ -59,12 +57,12 @@ ends_at stands order t x Taking hand flags p code is fits =
     let z : answers (want_in (Doing (Takes 0 ∷ live flags is.0) (next_record t (records_of p.known.seen)))) (Ended code) ≡ true = subst (λ f. answers (want_in f) (Ended code) ≡ true) is.4 fits in cc
 ends_at stands order t x (Ending code') hand flags p code is fits = ap Ending (sym ((Decides-int_eq code code').0 (subst (λ f. answers (want_in f) (Ended code) ≡ true) is fits)))
 
-module _ {L : Type 0} (stands : L → Stream → Records → List Act → Type 0) (looks : Bool) (x y z : L) (seen : Seen) (bytes : List ℕ) (w : Walk) (kept' : Option KeptText) (outputs' : Outputs)
-    (place1 place2 : Place) (hand' : Option Group) (asked : Asked) (s : Strand) (h : List Event) (e : Event)
+module _ {L : Type 0} (stands : L → Stream → Records → List Act → Type 0) (made : L → Option (List ℕ)) (looks : Bool) (x y z : L) (seen : Seen) (bytes : List ℕ) (w : Walk) (kept' : Option KeptText) (outputs' : Outputs)
+    (place1 place2 : Place) (hand' : Option Repeat) (asked : Asked) (s : Strand) (h : List Event) (e : Event)
     (is : ListedIs stands looks x w s h) (answer : answers (next s h) e ≡ true) (seen_is : told e ≡ seen) (came : bytes_with (form s).looks e ≡ bytes) (room : length h < 50000000)
     (kept_is : kept' ≡ option_map (kept_after seen bytes) w.kept) (flags_is : outputs'.flags.items ≡ open_after seen w.outputs.flags.items) (connected_is : outputs'.connected ≡ w.outputs.connected)
     (hears : Hears stands looks w.order (is_none kept' && none_left outputs'.connected outputs'.flags.items) x w.place seen bytes y place1)
-    (asks : Asks stands outputs'.flags.items y w.hand place1 z hand' place2 asked) where
+    (asks : Asks stands made outputs'.flags.items y w.hand place1 z hand' place2 asked) where
   abbrev outputs : List Bool
   outputs = s.ports.has_output
 
@@ -108,14 +106,14 @@ module _ {L : Type 0} (stands : L → Stream → Records → List Act → Type 0
   gone : goes
   gone = by_place stands looks is.keeps w.order is.stream outputs h bytes (is_none kept' && none_left outputs'.connected outputs'.flags.items) x y w.hand place1 old is.walk_is.sight_is is.walk_is.few w.place e was room ends_is fits bytes_are heard
 
-  asked_it : Asks stands flags y w.hand place1 z hand' place2 asked
-  asked_it = subst (λ l. Asks stands l y w.hand place1 z hand' place2 asked) flags_are asks
+  asked_it : Asks stands made flags y w.hand place1 z hand' place2 asked
+  asked_it = subst (λ l. Asks stands made l y w.hand place1 z hand' place2 asked) flags_are asks
 
   -- what is so while the strand goes on
   wants : has_ended (e ∷ h) ≡ false →
       PlaceIs stands (order_of w.order) is.stream true z place2 hand' flags new × (Some (meaning asked (last_seen (e ∷ h))) ≡ want_in new.phase) × ((all : List ℕ) → AllIs place1 all (e ∷ h) → AllIs place2 all (e ∷ h))
   wants goes_on =
-      by_want stands (order_of w.order) is.stream outputs (e ∷ h) y z w.hand hand' place2 flags asked new place1 gone.walk.sight_is (gone.walk.place_is goes_on) asked_it
+      by_want stands made (order_of w.order) is.stream outputs (e ∷ h) y z w.hand hand' place2 flags asked new place1 gone.walk.sight_is (gone.walk.place_is goes_on) asked_it
 
   wants_next : has_ended (e ∷ h) ≡ false → Some (meaning asked (last_seen (e ∷ h))) ≡ next s (e ∷ h)
   wants_next goes_on =
@@ -128,7 +126,7 @@ module _ {L : Type 0} (stands : L → Stream → Records → List Act → Type 0
       let here : Hears stands looks w.order (is_none kept' && none_left outputs'.connected outputs'.flags.items) x (Ending code) (told (Ended code)) bytes y place1 =
       subst (λ f. Hears stands looks w.order (is_none kept' && none_left outputs'.connected outputs'.flags.items) x f (told (Ended code)) bytes y place1) at
       (subst (λ v. Hears stands looks w.order (is_none kept' && none_left outputs'.connected outputs'.flags.items) x w.place (told v) bytes y place1) it heard) in
-      let over : Asks stands flags y w.hand (Ending code) z hand' place2 asked = subst (λ f. Asks stands flags y w.hand f z hand' place2 asked) here.1 asked_it in
+      let over : Asks stands made flags y w.hand (Ending code) z hand' place2 asked = subst (λ f. Asks stands made flags y w.hand f z hand' place2 asked) here.1 asked_it in
       (over.2, over.3)
 
   abbrev walk : Walk
@@ -174,7 +172,7 @@ module _ {L : Type 0} (stands : L → Stream → Records → List Act → Type 0
         ap (λ a. Some (meaning a (last_seen (e ∷ h)))) at.1,
       )
 
-module _ {L : Type 0} (stands : L → Stream → Records → List Act → Type 0) (looks : Bool) (x y z : L) (seen : Seen) (bytes : List ℕ) (w : Walk) (kept' : Option KeptText) (outputs' : Outputs)
+module _ {L : Type 0} (stands : L → Stream → Records → List Act → Type 0) (made : L → Option (List ℕ)) (looks : Bool) (x y z : L) (seen : Seen) (bytes : List ℕ) (w : Walk) (kept' : Option KeptText) (outputs' : Outputs)
     (place1 : Place) (v : Walk) (looks' : Bool) (asked : Asked) (s : Strand) (h : List Event) where
   abbrev Stepped : Event → Type 0
   Stepped e = ListedIs stands looks z (record { order = w.order; place = v.place; hand = v.hand; outputs = outputs'; kept = kept' }) s (e ∷ h) × (Some (meaning asked (last_seen (e ∷ h))) ≡ owed s (e ∷ h))
@@ -182,17 +180,17 @@ module _ {L : Type 0} (stands : L → Stream → Records → List Act → Type 0
   by_event : (e : Event) → IsTold (λ v s h. ListedIs stands looks v w s h) x seen bytes s h e →
       kept' ≡ option_map (kept_after seen bytes) w.kept → outputs'.flags.items ≡ open_after seen w.outputs.flags.items → outputs'.connected ≡ w.outputs.connected →
       Hears stands looks w.order (is_none kept' && none_left outputs'.connected outputs'.flags.items) x w.place seen bytes y place1 →
-      Asks stands outputs'.flags.items y w.hand place1 z v.hand v.place asked → Stepped e
+      Asks stands made outputs'.flags.items y w.hand place1 z v.hand v.place asked → Stepped e
   by_event (Ended code) t kept_is flags_is connected_is hears asks =
-      ends_here stands looks x y z seen bytes w kept' outputs' place1 v.place v.hand asked s h (Ended code) t.stood t.answer t.seen_is t.bytes_are t.room kept_is flags_is connected_is hears asks code refl
+      ends_here stands made looks x y z seen bytes w kept' outputs' place1 v.place v.hand asked s h (Ended code) t.stood t.answer t.seen_is t.bytes_are t.room kept_is flags_is connected_is hears asks code refl
   by_event e t kept_is flags_is connected_is hears asks =
-      goes_on stands looks x y z seen bytes w kept' outputs' place1 v.place v.hand asked s h e t.stood t.answer t.seen_is t.bytes_are t.room kept_is flags_is connected_is hears asks (going s h e t.answer).0
+      goes_on stands made looks x y z seen bytes w kept' outputs' place1 v.place v.hand asked s h e t.stood t.answer t.seen_is t.bytes_are t.room kept_is flags_is connected_is hears asks (going s h e t.answer).0
 
   -- the driver's one step, from what its parts do
   pub steps : (e : Event) → looks' ≡ looks → v ≡ record { order = w.order; place = v.place; hand = v.hand; outputs = outputs'; kept = kept' } → IsTold (λ v s h. ListedIs stands looks v w s h) x seen bytes s h e →
       kept' ≡ option_map (kept_after seen bytes) w.kept → outputs'.flags.items ≡ open_after seen w.outputs.flags.items → outputs'.connected ≡ w.outputs.connected →
       Hears stands looks w.order (is_none kept' && none_left outputs'.connected outputs'.flags.items) x w.place seen bytes y place1 →
-      Asks stands outputs'.flags.items y w.hand place1 z v.hand v.place asked →
+      Asks stands made outputs'.flags.items y w.hand place1 z v.hand v.place asked →
       ListedIs stands looks' z v s (e ∷ h) × (Some (meaning asked (last_seen (e ∷ h))) ≡ owed s (e ∷ h))
   steps e same others t kept_is flags_is connected_is hears asks =
       let done = by_event e t kept_is flags_is connected_is hears asks in

@@ -1,5 +1,5 @@
 -- A fresh driver of lists is the stage of each strand whose kind has these lists.
-use Rattle.std.proofs.Common.{◌≡◌, ℕ, Bool, true, List, [], length, map, drop, refl, sym, ◌∙◌, ap, subst, arith, Some}
+use Rattle.std.proofs.Common.{◌≡◌, ℕ, Bool, true, List, [], length, map, refl, sym, ◌∙◌, ap, subst, arith, Some}
 use Rattle.std.proofs.lemmas.List.{drop_all}
 use Rattle.pipe_model.specs.declared.kind.Kind.{Kind}
 use Rattle.pipe_model.specs.declared.net.Strand.{Strand}

@@ -1,5 +1,5 @@
 -- A strand whose shape is made of lists has the past of these lists.
-use Rattle.std.proofs.Common.{◌≡◌, ℕ, Bool, true, false, cond, ◌==◌, List, [], ◌∷◌, refl, sym, ◌∙◌, ap, subst, Some, None, Option, ℤ, pos, negsuc}
+use Rattle.std.proofs.Common.{◌≡◌, ℕ, Bool, true, false, cond, ◌==◌, List, [], ◌∷◌, refl, sym, ◌∙◌, ap, subst, Some, None, ℤ, pos, negsuc}
 use Rattle.std.specs.Ordering.{int_eq}
 use Rattle.pipe_model.specs.declared.net.Strand.{Strand}
 use Rattle.pipe_model.specs.Event.{Event, taken_from}
@@ -9,10 +9,10 @@ use Rattle.pipe_model.specs.Records.{text}
 use Rattle.pipe_model.specs.Row.{Pair, Act, Row}
 use Rattle.pipe_model.specs.Row.Act.{Writes, Repeats, Takes}
 use Rattle.pipe_model.specs.Row.Goal.{Asks, Ends}
-use Rattle.pipe_model.specs.Shape.{Keeping, Shape, source, row, listed, dam_plan, writes, list_plan, row_of, each_record, copied}
-use Rattle.pipe_model.specs.Shape.Order.{WritesFirst, TakesFirst}
+use Rattle.pipe_model.specs.Shape.{Shape, source, row, listed, dam_plan, writes, list_plan, row_of, each_record, copied}
+use Rattle.pipe_model.specs.Shape.Order.{WritesFirst}
 use Rattle.pipe_model.specs.Shape.Keeping.{Nothing, Console, File}
-use Rattle.pipe_model.specs.Shape.Shape.{Absent, Sources, Lists, Sinks, Firsts, Turns, Rounds, Gates, Dams, Queues}
+use Rattle.pipe_model.specs.Shape.Shape.{Sources, Lists, Sinks, Dams, Queues}
 use Rattle.pipe_model.specs.Next.{Phase, Past, past_by, begins_plan, doing, is_refused}
 use Rattle.pipe_model.proofs.Pasts.{after}
 use Rattle.pipe_model.specs.Next.Phase.{Starting, Doing, Lost}

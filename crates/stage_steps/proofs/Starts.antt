@@ -1,9 +1,9 @@
 -- A driver before the first event.
-use Rattle.std.proofs.Common.{◌≡◌, ◌≤◌, ℕ, suc, Bool, true, false, cond, ◌&&◌, List, [], ◌∷◌, refl, sym, ◌∙◌, ap, subst, arith, Some, None, Option, is_some}
+use Rattle.std.proofs.Common.{◌≡◌, ℕ, suc, Bool, true, false, cond, ◌&&◌, List, [], ◌∷◌, refl, sym, ◌∙◌, ap, subst, arith, Some, None, Option, is_some}
 use Rattle.std.specs.List.{list_any}
 use Rattle.pipe_model.specs.declared.net.Strand.{Strand}
 use Rattle.pipe_model.specs.Row.{Act}
-use Rattle.pipe_model.specs.Shape.{Records, Stream, Keeping}
+use Rattle.pipe_model.specs.Shape.{Records, Stream}
 use Rattle.pipe_model.specs.Table.{line_of, form}
 use Rattle.stage_steps.specs.declared.order.Order.{Order}
 use Rattle.stage_steps.specs.declared.outputs.Outputs.{Outputs}
@@ -12,7 +12,7 @@ use Rattle.stage_steps.specs.KeptText.{KeptText}
 use Rattle.stage_steps.specs.Kept.{nothing_kept}
 use Rattle.stage_steps.specs.Outputs.{open_from}
 use Rattle.stage_steps.specs.Places.{order_of}
-use Rattle.stage_steps.specs.Listed.{Listing, KeptIs, ListedIs}
+use Rattle.stage_steps.specs.Listed.{KeptIs, ListedIs}
 use Rattle.stage_steps.specs.Drivers.{Fits}
 use Rattle.stage_steps.proofs.Flags.{and_true}
 use Rattle.stage_steps.proofs.Sources.{Keeps, past_of_lists, kept_of_lists}

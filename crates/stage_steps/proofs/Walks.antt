@@ -1,44 +1,42 @@
 -- A walk of pairs, one event on.
-use Rattle.std.proofs.Common.{◌≡◌, ◌≤◌, ◌<◌, ℕ, zero, suc, ◌+◌, Bool, true, false, cond, ◌&&◌, not, ◌==◌, List, [], ◌∷◌, ◌++◌, length, map, refl, sym, ◌∙◌, ap, subst, arith, Some, None, Option, ℤ, pos, negsuc, append_assoc}
+use Rattle.std.proofs.Common.{◌≡◌, ◌≤◌, ◌<◌, ℕ, suc, ◌+◌, Bool, true, false, cond, ◌&&◌, not, List, [], ◌∷◌, ◌++◌, length, refl, sym, ◌∙◌, ap, subst, arith, Some, None, Option, ℤ, pos, negsuc, append_assoc}
 use Rattle.std.proofs.lemmas.List.{map-append, length-append}
 use Rattle.std.specs.Prelude.{filter}
 use Rattle.std.specs.List.{list_any}
 use Rattle.std.specs.Ordering.{int_eq}
-use Rattle.std.proofs.lemmas.Bool.Decides.{Decides-int_eq}
-use Rattle.pipe_model.specs.declared.step.Seen.{Seen}
 use Rattle.pipe_model.specs.declared.step.Want.{Want as Asked}
-use Rattle.pipe_model.specs.Event.{Event, Want, answers, has_ended, last_seen_on, taken_from}
+use Rattle.pipe_model.specs.Event.{Event, Want, answers, last_seen_on, taken_from}
 use Rattle.pipe_model.specs.Event.Event.{Up, Saw, SawEnd, Took, Put, Refused, Ended}
 use Rattle.pipe_model.specs.Records.{text}
-use Rattle.pipe_model.specs.Row.{Pair, Act, Goal, Known, Row}
-use Rattle.pipe_model.specs.Row.Act.{Writes, Takes}
+use Rattle.pipe_model.specs.Row.{Pair, Act, Goal, Known}
+use Rattle.pipe_model.specs.Row.Act.{Takes}
 use Rattle.pipe_model.specs.Row.Goal.{Asks as Asking, Ends}
 use Rattle.pipe_model.specs.Shape.{Records, Stream, Order as RowOrder, records_of, writes, acts_of, in_order, next_record, list_plan, last_pairs, at_hand_of, ends}
 use Rattle.pipe_model.specs.Shape.Order.{WritesFirst as RowWritesFirst, TakesFirst as RowTakesFirst}
-use Rattle.pipe_model.specs.Next.{Phase, Past, nothing_known, begins_plan, hears, want_in, is_live, is_refused}
+use Rattle.pipe_model.specs.Next.{Past, nothing_known, begins_plan, hears, want_in, is_live, is_refused}
 use Rattle.pipe_model.proofs.Pasts.{after}
 use Rattle.pipe_model.specs.Next.Phase.{Doing}
 use Rattle.pipe_model.specs.Next.Phase.{Starting as Reaching}
 use Rattle.stage_steps.specs.declared.group.Group.{Group}
+use Rattle.stage_steps.specs.declared.group.Group.TheVariants.{AtHand, New}
+use Rattle.stage_steps.specs.declared.group.Repeat.{Repeat}
 use Rattle.stage_steps.specs.declared.order.Order.{Order}
 use Rattle.stage_steps.specs.declared.order.Order.TheVariants.{WritesFirst, TakesFirst}
 use Rattle.stage_steps.specs.declared.place.Follow.{Follow}
 use Rattle.stage_steps.specs.declared.place.Follow.TheVariants.{Take, Look, End}
 use Rattle.stage_steps.specs.declared.place.Place.{Place}
 use Rattle.stage_steps.specs.declared.place.Place.TheVariants.{Starting, Committing, Looking, Writing, Taking, Ending}
-use Rattle.pipe_model.specs.declared.step.Out.{Out}
-use Rattle.pipe_model.specs.declared.step.Out.TheVariants.{Same, Fresh}
-use Rattle.stage_steps.specs.Coroutine.{meaning, told, bytes_with, last_seen, written}
-use Rattle.stage_steps.specs.Group.{group_acts, held_acts, record_of, is_due, less_one, plain}
+use Rattle.stage_steps.specs.Coroutine.{meaning, told, bytes_with, last_seen}
+use Rattle.stage_steps.specs.Group.{group_acts, held_acts, is_due}
 use Rattle.stage_steps.specs.KeptText.{KeptText}
 use Rattle.stage_steps.specs.Kept.{kept_after}
-use Rattle.stage_steps.specs.Lists.{Begins, Sees, Finishes, Tells}
-use Rattle.stage_steps.specs.Listed.{list_row, first_write, when_written, and_behind, goal_behind, IsDoing, IsBeforeTake, PlaceIs, AllIs, WalkIs}
+use Rattle.stage_steps.specs.Lists.{Sees, Finishes, Tells}
+use Rattle.stage_steps.specs.Listed.{list_row, first_write, when_written, and_behind, goal_behind, IsBeforeTake, PlaceIs, AllIs, WalkIs}
 use Rattle.stage_steps.specs.Outputs.{open_after, open_from, live, none_left}
 use Rattle.stage_steps.specs.Places.{order_of, want_at, place_with, sight_place, look_place, taken_place, place_behind}
-use Rattle.stage_steps.specs.Walk.{IsBegun, Hears, Fetches, Turns, Asks}
+use Rattle.stage_steps.specs.Walk.{IsBegun, Hears, Fetches, Puts, Turns, Asks}
 use Rattle.stage_steps.proofs.Flags.{closed_open, refused_is}
-use Rattle.stage_steps.proofs.Acts.{same_number, live_is, live_refused, want_first, after_put, after_refused, live_behind, comes}
+use Rattle.stage_steps.proofs.Acts.{same_number, live_is, live_refused, want_first, after_put, after_refused, live_behind, left_of, pair_of, comes}
 
 -- Records
 
@@ -70,7 +68,7 @@ none_before RowWritesFirst = refl
 none_before RowTakesFirst = tt
 
 -- the next record, or the end
-look_by : {L : Type 0} (stands : L → Stream → Records → List Act → Type 0) (order : RowOrder) (t : Stream) (has_asked : Bool) (x : L) (hand : Option Group) (flags : List Bool) (p : Past) →
+look_by : {L : Type 0} (stands : L → Stream → Records → List Act → Type 0) (order : RowOrder) (t : Stream) (has_asked : Bool) (x : L) (hand : Option Repeat) (flags : List Bool) (p : Past) →
     stands x t (records_of p.known.seen) [] → hand ≡ None → p.phase ≡ Doing [] (next_record t (records_of p.known.seen)) →
     PlaceIs stands order t has_asked x (look_place t (records_of p.known.seen)) hand flags p
 look_by stands order t has_asked x hand flags p stood none is =
@@ -80,7 +78,7 @@ look_by stands order t has_asked x hand flags p stood none is =
 -- One event
 
 module _ {L : Type 0} (stands : L → Stream → Records → List Act → Type 0) (looks keeps : Bool) (order : Order) (t : Stream) (outputs : List Bool) (h : List Event) (bytes : List ℕ)
-    (x y : L) (hand : Option Group) (place' : Place) (p : Past) where
+    (x y : L) (hand : Option Repeat) (place' : Place) (p : Past) where
   -- what is so after an event
   pub record After (f : Place) (e : Event) (q : Past) : Type 0 where
     pub walk : WalkIs stands (order_of order) t false outputs y place' hand (open_after (told e) (open_from 0 outputs p.refused)) (e ∷ h) q
@@ -88,7 +86,7 @@ module _ {L : Type 0} (stands : L → Stream → Records → List Act → Type 0
     pub taken : (kept : KeptText) → AllIs f kept.all h → kept.taken ≡ text (taken_from 0 h) → (kept_after (told e) bytes kept).taken ≡ text (taken_from 0 (e ∷ h))
 
 module _ {L : Type 0} (stands : L → Stream → Records → List Act → Type 0) (looks keeps : Bool) (order : Order) (t : Stream) (outputs : List Bool) (h : List Event) (bytes : List ℕ)
-    (ends_it : Bool) (x y : L) (hand : Option Group) (place' : Place) (p : Past) (sight_is : last_seen_on 0 h ≡ at_hand_of (records_of p.known.seen)) (few : length (records_of p.known.seen) ≤ length h) where
+    (ends_it : Bool) (x y : L) (hand : Option Repeat) (place' : Place) (p : Past) (sight_is : last_seen_on 0 h ≡ at_hand_of (records_of p.known.seen)) (few : length (records_of p.known.seen) ≤ length h) where
   abbrev Next : Place → Event → Past → Type 0
   Next f e q = After stands looks keeps order t outputs h bytes x y hand place' p f e q
 
@@ -325,12 +323,8 @@ module _ {L : Type 0} (stands : L → Stream → Records → List Act → Type 0
 
 -- Asking
 
-written_plain : (out : Out) (rec : List ℕ) (h : List Event) → last_seen_on 0 h ≡ rec → written (plain out) (last_seen h) ≡ record_of rec out
-written_plain (Same i) rec h is = is
-written_plain (Fresh bytes) rec h is = refl
-
-module _ {L : Type 0} (stands : L → Stream → Records → List Act → Type 0) (order : RowOrder) (t : Stream) (outputs : List Bool) (h : List Event)
-    (x y : L) (hand hand' : Option Group) (place' : Place) (flags : List Bool) (asked : Asked) (p : Past) where
+module _ {L : Type 0} (stands : L → Stream → Records → List Act → Type 0) (made : L → Option (List ℕ)) (order : RowOrder) (t : Stream) (outputs : List Bool) (h : List Event)
+    (x y : L) (hand hand' : Option Repeat) (place' : Place) (flags : List Bool) (asked : Asked) (p : Past) where
   -- what is so when it has asked
   abbrev pub HasAsked : Place → Type 0
   HasAsked from = PlaceIs stands order t true y place' hand' flags p × (Some (meaning asked (last_seen h)) ≡ want_in p.phase) × ((all : List ℕ) → AllIs from all h → AllIs place' all h)
@@ -364,37 +358,46 @@ module _ {L : Type 0} (stands : L → Stream → Records → List Act → Type 0
       (λ all kept. (elim (t.stops (records_of p.known.seen)) as (λ b. AllIs (cond b (Ending (t.code (records_of p.known.seen))) Looking) all h) [ true ↦ tt | false ↦ kept ]))
   behind End stood none place_is asks is = turns End (Ending (t.code (records_of p.known.seen))) none place_is asks is (ap want_in (sym is)) (λ all kept. tt)
 
-  one : (follow : Follow) (g : Group) (rest before : List Act) → last_seen_on 0 h ≡ at_hand_of (records_of p.known.seen) → is_due flags g ≡ true → stands y t (records_of p.known.seen) rest →
-      hand' ≡ less_one g → place' ≡ Writing follow → asked ≡ Asked.Write g.output (plain g.out) → live flags before ≡ live flags (group_acts (at_hand_of (records_of p.known.seen)) g ++ rest) →
+  -- what a group writes is asked for, by lists that stand for the same as those that gave it
+  one : (follow : Follow) (given : L) (g : Group) (rest before : List Act) → last_seen_on 0 h ≡ at_hand_of (records_of p.known.seen) → is_due flags g ≡ true → stands given t (records_of p.known.seen) rest →
+      Puts stands made given g y hand' asked → place' ≡ Writing follow → live flags before ≡ live flags (group_acts (at_hand_of (records_of p.known.seen)) (made given) g ++ rest) →
       p.phase ≡ Doing (live flags (and_behind follow before)) (goal_behind follow t (records_of p.known.seen)) → HasAsked (Writing follow)
-  one follow g rest before sight due stood hand_is place_is asks same is =
+  one follow given g rest before sight due stood puts place_is same is =
       let rec = at_hand_of (records_of p.known.seen) in
       let goal = goal_behind follow t (records_of p.known.seen) in
-      let first = comes g rec flags follow rest due in
-      let acts : live flags (and_behind follow before) ≡ live flags (and_behind follow (group_acts rec g ++ rest)) = live_behind flags follow before ∙ ap (and_behind follow) same ∙ sym (live_behind flags follow (group_acts rec g ++ rest)) in
-      let phase : p.phase ≡ Doing (live flags (and_behind follow (group_acts rec g ++ rest))) goal = is ∙ ap (λ l. Doing l goal) acts in (
+      let pair = pair_of rec (made given) g in
+      let first = comes g rec (made given) flags follow rest due in
+      let done = live flags (and_behind follow (group_acts rec (made given) g ++ rest)) in
+      let acts : live flags (and_behind follow before) ≡ done = live_behind flags follow before ∙ ap (and_behind follow) same ∙ sym (live_behind flags follow (group_acts rec (made given) g ++ rest)) in
+      let phase : p.phase ≡ Doing done goal = is ∙ ap (λ l. Doing l goal) acts in
+      let put = is_put given g rest sight puts stood in (
         subst (λ f. PlaceIs stands order t true y f hand' flags p) (sym place_is)
-            (rest, stood, (live flags (and_behind follow (group_acts rec g ++ rest)), (g.output, record_of rec g.out), phase, first.0, first.1 ∙ ap (λ z. live flags (and_behind follow (held_acts rec z ++ rest))) (sym hand_is))),
-        ap (λ a. Some (meaning a (last_seen h))) asks ∙ ap (λ r. Some (Want.Write g.output r)) (written_plain g.out rec h sight)
-            ∙ sym (want_first (live flags (and_behind follow (group_acts rec g ++ rest))) goal (g.output, record_of rec g.out) first.0) ∙ ap want_in (sym phase),
+            (rest, put.0, (done, pair, phase, first.0, first.1 ∙ ap (λ z. live flags (and_behind follow (held_acts rec z ++ rest))) (sym put.1))),
+        put.2 ∙ sym (want_first done goal pair first.0) ∙ ap want_in (sym phase),
         λ all kept. subst (λ f. AllIs f all h) (sym place_is) kept,
       )
+    where
+      is_put : (given : L) (g : Group) (rest : List Act) → last_seen_on 0 h ≡ at_hand_of (records_of p.known.seen) → Puts stands made given g y hand' asked → stands given t (records_of p.known.seen) rest →
+          stands y t (records_of p.known.seen) rest × (hand' ≡ left_of g) × (Some (meaning asked (last_seen h)) ≡ Some (Want.Write (pair_of (at_hand_of (records_of p.known.seen)) (made given) g).0 (pair_of (at_hand_of (records_of p.known.seen)) (made given) g).1))
+      is_put given (AtHand r) rest sight puts stood =
+          (subst (λ z. stands z t (records_of p.known.seen) rest) (sym puts.0) stood, puts.1, ap (λ a. Some (meaning a (last_seen h))) puts.2 ∙ ap (λ rec. Some (Want.Write r.output rec)) sight)
+      is_put given (New o) rest sight puts stood = (puts.0 t (records_of p.known.seen) rest stood, puts.1, ap (λ a. Some (meaning a (last_seen h))) puts.2)
 
-  asks_at : (follow : Follow) (given : Option Group) → last_seen_on 0 h ≡ at_hand_of (records_of p.known.seen) → PlaceIs stands order t false x (Writing follow) hand flags p → Fetches stands flags x hand y given → Turns stands follow y given hand' place' asked → HasAsked (Writing follow)
-  asks_at follow None sight is fetches turn =
+  asks_at : (follow : Follow) (given : L) (group : Option Group) → last_seen_on 0 h ≡ at_hand_of (records_of p.known.seen) → PlaceIs stands order t false x (Writing follow) hand flags p → Fetches stands made flags x hand given group → Turns stands made follow given group y hand' place' asked → HasAsked (Writing follow)
+  asks_at follow given None sight is fetches turn =
       let rec = at_hand_of (records_of p.known.seen) in
       let f = fetches t (records_of p.known.seen) is.0 is.1 in
-      behind follow f.1 turn.0 (turn.1 t (records_of p.known.seen) [] f.1) turn.2
+      behind follow (subst (λ z. stands z t (records_of p.known.seen) []) (sym turn.0) f.1) turn.1 (turn.2 t (records_of p.known.seen) [] f.1) turn.3
       (is.2 ∙ ap (λ l. Doing l (goal_behind follow t (records_of p.known.seen))) (live_behind flags follow (held_acts rec hand ++ is.0) ∙ ap (and_behind follow) f.0))
-  asks_at follow (Some g) sight is fetches turn =
-      let f = fetches.1 t (records_of p.known.seen) is.0 is.1 in
-      one follow g f.0 (held_acts (at_hand_of (records_of p.known.seen)) hand ++ is.0) sight fetches.0 f.2 turn.0 turn.1 turn.2 f.1 is.2
+  asks_at follow given (Some g) sight is fetches turn =
+      let f = fetches.2 t (records_of p.known.seen) is.0 is.1 in
+      one follow given g f.0 (held_acts (at_hand_of (records_of p.known.seen)) hand ++ is.0) sight fetches.0 f.2 turn.0 turn.1 f.1 is.2
 
   -- it asks for what is wanted
-  pub by_want : (from : Place) → last_seen_on 0 h ≡ at_hand_of (records_of p.known.seen) → PlaceIs stands order t false x from hand flags p → Asks stands flags x hand from y hand' place' asked → HasAsked from
+  pub by_want : (from : Place) → last_seen_on 0 h ≡ at_hand_of (records_of p.known.seen) → PlaceIs stands order t false x from hand flags p → Asks stands made flags x hand from y hand' place' asked → HasAsked from
   by_want Starting sight is asks = plainly Starting asks is (ap want_in (sym is.3))
   by_want Committing sight is asks = plainly Committing asks is (ap want_in (sym is.3))
   by_want Looking sight is asks = plainly Looking asks is (ap want_in (sym is.2))
-  by_want (Writing follow) sight is asks = asks_at follow asks.0 sight is asks.1 asks.2
+  by_want (Writing follow) sight is asks = asks_at follow asks.0 asks.1 sight is asks.2 asks.3
   by_want Taking sight is asks = plainly Taking asks is (ap want_in (sym is.4))
   by_want (Ending code) sight is asks = plainly (Ending code) asks is (ap want_in (sym is))

@@ -10,7 +10,7 @@ use Rattle.pipe_model.specs.Records.{text}
 use Rattle.pipe_model.specs.Row.{Pair, Act, Goal, Row}
 use Rattle.pipe_model.specs.Row.Act.{Writes, Repeats, Takes}
 use Rattle.pipe_model.specs.Row.Goal.{Asks, Ends}
-use Rattle.pipe_model.specs.Shape.{Records, Stream, Order as RowOrder, Keeping, Shape, writes, listed, next_record, at_hand_of, records_of, each_record, copied}
+use Rattle.pipe_model.specs.Shape.{Records, Stream, Order as RowOrder, Keeping, Shape, listed, next_record, at_hand_of, records_of, each_record, copied}
 use Rattle.pipe_model.specs.Shape.Order.{WritesFirst, TakesFirst}
 use Rattle.pipe_model.specs.Shape.Keeping.{Nothing}
 use Rattle.pipe_model.specs.Shape.Shape.{Sources, Lists, Sinks, Dams, Queues}
@@ -18,9 +18,9 @@ use Rattle.pipe_model.specs.Table.{form}
 use Rattle.pipe_model.specs.Next.{Phase, Past, past_by, nothing_known}
 use Rattle.pipe_model.specs.Next.Phase.{Doing}
 use Rattle.pipe_model.specs.Next.Phase.{Starting as Reaching}
-use Rattle.stage_steps.specs.declared.group.Group.{Group}
+use Rattle.stage_steps.specs.declared.group.Repeat.{Repeat}
 use Rattle.stage_steps.specs.declared.place.Follow.{Follow}
-use Rattle.stage_steps.specs.declared.place.Follow.TheVariants.{Take, Look, End}
+use Rattle.stage_steps.specs.declared.place.Follow.TheVariants.{Take, End}
 use Rattle.stage_steps.specs.declared.place.Place.{Place}
 use Rattle.stage_steps.specs.declared.place.Place.TheVariants.{Starting, Committing, Looking, Writing, Taking, Ending}
 use Rattle.stage_steps.specs.declared.walk.Walk.{Walk}
@@ -92,7 +92,7 @@ IsBeforeTake WritesFirst acts = acts ≡ []
 IsBeforeTake TakesFirst acts = Unit {0}
 
 -- the walk's place, before it asks or when it has asked
-abbrev pub PlaceIs : {L : Type 0} → (L → Stream → Records → List Act → Type 0) → RowOrder → Stream → Bool → L → Place → Option Group → List Bool → Past → Type 0
+abbrev pub PlaceIs : {L : Type 0} → (L → Stream → Records → List Act → Type 0) → RowOrder → Stream → Bool → L → Place → Option Repeat → List Bool → Past → Type 0
 PlaceIs stands order t has_asked x Starting hand flags p = stands x t [] [] × (hand ≡ None) × (p.known ≡ nothing_known) × (p.phase ≡ Reaching (negsuc 0))
 PlaceIs stands order t has_asked x Committing hand flags p = stands x t [] [] × (hand ≡ None) × (p.known ≡ nothing_known) × (p.phase ≡ Reaching (pos 0))
 PlaceIs stands order t has_asked x Looking hand flags p = stands x t (records_of p.known.seen) [] × (hand ≡ None) × (p.phase ≡ Doing [] (Asks (Read 0)))
@@ -119,7 +119,7 @@ KeptIs place (Some kept) keeping h = ((g : List Event) → kept_by keeping g ≡
 
 -- the walk stands for the past of a history
 pub record WalkIs {L : Type 0} (stands : L → Stream → Records → List Act → Type 0) (order : RowOrder) (t : Stream) (has_asked : Bool) (outputs : List Bool)
-    (x : L) (place : Place) (hand : Option Group) (flags : List Bool) (h : List Event) (p : Past) : Type 0 where
+    (x : L) (place : Place) (hand : Option Repeat) (flags : List Bool) (h : List Event) (p : Past) : Type 0 where
   pub flags_are : flags ≡ open_from 0 outputs p.refused
   pub sight_is : last_seen_on 0 h ≡ at_hand_of (records_of p.known.seen)
   pub few : length (records_of p.known.seen) ≤ length h

@@ -5,7 +5,7 @@ use Rattle.std.specs.declared.option.Option.TheVariants.{Some, None}
 use Rattle.pipe_model.specs.Row.{Act}
 use Rattle.pipe_model.specs.Shape.{Records, Stream, writes, acts_of, last_pairs, at_hand_of}
 use Rattle.stage_steps.specs.declared.group.Group.{Group}
-use Rattle.stage_steps.specs.Group.{group_acts}
+use Rattle.stage_steps.specs.Group.{group_acts, IsHeld}
 
 -- it gives the pairs at the start
 abbrev pub Begins : {L : Type 0} → (L → Stream → Records → List Act → Type 0) → L → L → Type 0
@@ -21,10 +21,14 @@ abbrev pub Finishes : {L : Type 0} → (L → Stream → Records → List Act �
 Finishes stands x y = (t : Stream) (recs : Records) → stands x t recs [] → stands y t recs (writes (last_pairs t.last recs))
 
 -- the first group of what is left, or none where nothing is left
-abbrev pub GivesNext : {L : Type 0} → (L → Stream → Records → List Act → Type 0) → L → L → Option Group → Type 0
-GivesNext stands x y None = (t : Stream) (recs : Records) (acts : List Act) → stands x t recs acts → (acts ≡ []) × stands y t recs []
-GivesNext stands x y (Some g) = (t : Stream) (recs : Records) (acts : List Act) → stands x t recs acts →
-    (rest : List Act) × (acts ≡ group_acts (at_hand_of recs) g ++ rest) × stands y t recs rest
+abbrev pub GivesNext : {L : Type 0} → (L → Stream → Records → List Act → Type 0) → (L → Option (List ℕ)) → L → L → Option Group → Type 0
+GivesNext stands made x y None = (t : Stream) (recs : Records) (acts : List Act) → stands x t recs acts → (acts ≡ []) × stands y t recs []
+GivesNext stands made x y (Some g) = IsHeld (made y) g × ((t : Stream) (recs : Records) (acts : List Act) → stands x t recs acts →
+    (rest : List Act) × (acts ≡ group_acts (at_hand_of recs) (made y) g ++ rest) × stands y t recs rest)
+
+-- it stands for the same as before
+abbrev pub StandsOn : {L : Type 0} → (L → Stream → Records → List Act → Type 0) → L → L → Type 0
+StandsOn stands x y = (t : Stream) (recs : Records) (acts : List Act) → stands x t recs acts → stands y t recs acts
 
 -- what it tells is what the stream says after the records so far
 abbrev pub Tells : {L A : Type 0} → (L → Stream → Records → List Act → Type 0) → L → A → (Stream → Records → A) → Type 0

@@ -1,5 +1,5 @@
 -- Where a walk of pairs stands, and what is asked for there.
-use Rattle.std.specs.Prelude.{if◌then◌else◌, ℤ, pos, negsuc}
+use Rattle.std.specs.Prelude.{if◌then◌else◌, pos, negsuc}
 use Rattle.pipe_model.specs.declared.step.Want.{Want}
 use Rattle.pipe_model.specs.declared.step.Want.TheVariants.{Commit, Read, Take, Done}
 use Rattle.pipe_model.specs.Shape.{Records, Stream, Order as RowOrder}

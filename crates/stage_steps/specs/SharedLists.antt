@@ -1,5 +1,5 @@
 -- What the lists that several stages are made of stand for.
-use Rattle.std.specs.Prelude.{◌≡◌, ℕ, Bool, false, List, map, drop, length}
+use Rattle.std.specs.Prelude.{◌≡◌, ℕ, Bool, false, List, map, drop, take, length}
 use Rattle.std.specs.declared.option.Option.TheVariants.{None}
 use Rattle.pipe_model.specs.Records.{lines}
 use Rattle.pipe_model.specs.Row.{Act}
@@ -11,11 +11,15 @@ use Rattle.stage_steps.specs.Waiting.{waiting_act}
 
 -- the lines of a text, before the first of them is asked for
 abbrev pub fresh_lines : List ℕ → TextLines
-fresh_lines bytes = record { bytes = bytes; at = length bytes }
+fresh_lines bytes = record { bytes = bytes; at = length bytes; from = 0; size = 0 }
 
 -- the lines of a text, of which those from a place on are left
 abbrev pub LinesStand : TextLines → Stream → Records → List Act → Type 0
 LinesStand x t recs acts = (t ≡ only_before (map (λ rec. (0, rec)) (lines x.bytes))) × (acts ≡ writes (map (λ rec. (0, rec)) (lines (drop x.at x.bytes))))
+
+-- the line that was given last
+abbrev pub line_given : TextLines → List ℕ
+line_given x = take x.size (drop x.from x.bytes)
 
 -- lines are made without a look at records
 abbrev pub lines_look : TextLines → Bool

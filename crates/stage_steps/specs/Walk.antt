@@ -1,8 +1,9 @@
 -- How a walk of pairs goes on: where it stands after an event, and what it asks for then.
-use Rattle.std.specs.Prelude.{◌≡◌, ℕ, Bool, true, false, ◌&&◌, if◌then◌else◌, List, [], ◌∷◌, ◌++◌, pos}
+use Rattle.std.specs.Prelude.{◌≡◌, ℕ, Bool, true, false, if◌then◌else◌, List, [], ◌++◌, pos, unwrap_or}
 use Rattle.std.specs.Ordering.{int_eq}
 use Rattle.std.specs.declared.option.Option.{Option}
 use Rattle.std.specs.declared.option.Option.TheVariants.{Some, None}
+use Rattle.pipe_model.specs.declared.step.Out.TheVariants.{Same, Fresh}
 use Rattle.pipe_model.specs.declared.step.Seen.{Seen}
 use Rattle.pipe_model.specs.declared.step.Seen.TheVariants.{Up, Saw, SawEnd, Took, Put, Refused, Ended}
 use Rattle.pipe_model.specs.declared.step.Want.{Want}
@@ -10,13 +11,15 @@ use Rattle.pipe_model.specs.declared.step.Want.TheVariants.{Write}
 use Rattle.pipe_model.specs.Row.{Act}
 use Rattle.pipe_model.specs.Shape.{Records, Stream, at_hand_of}
 use Rattle.stage_steps.specs.declared.group.Group.{Group}
+use Rattle.stage_steps.specs.declared.group.Group.TheVariants.{AtHand, New}
+use Rattle.stage_steps.specs.declared.group.Repeat.{Repeat}
 use Rattle.stage_steps.specs.declared.order.Order.{Order}
 use Rattle.stage_steps.specs.declared.place.Follow.{Follow}
 use Rattle.stage_steps.specs.declared.place.Follow.TheVariants.{Look, End}
 use Rattle.stage_steps.specs.declared.place.Place.{Place}
 use Rattle.stage_steps.specs.declared.place.Place.TheVariants.{Starting, Committing, Looking, Writing, Taking, Ending}
-use Rattle.stage_steps.specs.Group.{group_acts, held_acts, is_due, less_one, plain}
-use Rattle.stage_steps.specs.Lists.{Begins, Sees, Finishes, Tells}
+use Rattle.stage_steps.specs.Group.{group_acts, held_acts, is_due, less_one, IsHeld}
+use Rattle.stage_steps.specs.Lists.{Begins, Sees, Finishes, StandsOn, Tells}
 use Rattle.stage_steps.specs.Outputs.{live}
 use Rattle.stage_steps.specs.Places.{want_at, sight_place, taken_place, place_behind}
 
@@ -37,19 +40,24 @@ Hears stands looks order gives_up x Taking (Took i) bytes y place = (y ≡ x) ×
 Hears stands looks order gives_up x (Ending code) (Ended code') bytes y place = (y ≡ x) × (place ≡ Ending code)
 Hears stands looks order gives_up x _ _ bytes y place = Unit {0}
 
--- the group that comes next of those whose output is open, the one in hand first, or none where nothing is left
-abbrev pub Fetches : {L : Type 0} → (L → Stream → Records → List Act → Type 0) → List Bool → L → Option Group → L → Option Group → Type 0
-Fetches stands flags x hand y None = (t : Stream) (recs : Records) (acts : List Act) → stands x t recs acts →
+-- the group that comes next of those whose output is open, the record in hand first, or none where nothing is left
+abbrev pub Fetches : {L : Type 0} → (L → Stream → Records → List Act → Type 0) → (L → Option (List ℕ)) → List Bool → L → Option Repeat → L → Option Group → Type 0
+Fetches stands made flags x hand y None = (t : Stream) (recs : Records) (acts : List Act) → stands x t recs acts →
     (live flags (held_acts (at_hand_of recs) hand ++ acts) ≡ []) × stands y t recs []
-Fetches stands flags x hand y (Some g) = (is_due flags g ≡ true) × ((t : Stream) (recs : Records) (acts : List Act) → stands x t recs acts →
-    (rest : List Act) × (live flags (held_acts (at_hand_of recs) hand ++ acts) ≡ live flags (group_acts (at_hand_of recs) g ++ rest)) × stands y t recs rest)
+Fetches stands made flags x hand y (Some g) = (is_due flags g ≡ true) × IsHeld (made y) g × ((t : Stream) (recs : Records) (acts : List Act) → stands x t recs acts →
+    (rest : List Act) × (live flags (held_acts (at_hand_of recs) hand ++ acts) ≡ live flags (group_acts (at_hand_of recs) (made y) g ++ rest)) × stands y t recs rest)
 
--- one of the group is asked for, and the others stay in hand; or where there is none the walk goes on
-abbrev pub Turns : {L : Type 0} → (L → Stream → Records → List Act → Type 0) → Follow → L → Option Group → Option Group → Place → Want → Type 0
-Turns stands follow y (Some g) hand place asked = (hand ≡ less_one g) × (place ≡ Writing follow) × (asked ≡ Write g.output (plain g.out))
-Turns stands follow y None hand place asked = (hand ≡ None) × Tells stands y place (place_behind follow) × (asked ≡ want_at place)
+-- one of the group is asked for, and the others of a record at hand stay there
+abbrev pub Puts : {L : Type 0} → (L → Stream → Records → List Act → Type 0) → (L → Option (List ℕ)) → L → Group → L → Option Repeat → Want → Type 0
+Puts stands made y (AtHand r) z hand asked = (z ≡ y) × (hand ≡ less_one r) × (asked ≡ Write r.output (Same 0))
+Puts stands made y (New o) z hand asked = StandsOn stands y z × (hand ≡ None) × (asked ≡ Write o (Fresh (unwrap_or (made y) [])))
+
+-- a group is written, or where there is none the walk goes on
+abbrev pub Turns : {L : Type 0} → (L → Stream → Records → List Act → Type 0) → (L → Option (List ℕ)) → Follow → L → Option Group → L → Option Repeat → Place → Want → Type 0
+Turns stands made follow y (Some g) z hand place asked = Puts stands made y g z hand asked × (place ≡ Writing follow)
+Turns stands made follow y None z hand place asked = (z ≡ y) × (hand ≡ None) × Tells stands y place (place_behind follow) × (asked ≡ want_at place)
 
 -- what is asked for in a place, and what is so then
-abbrev pub Asks : {L : Type 0} → (L → Stream → Records → List Act → Type 0) → List Bool → L → Option Group → Place → L → Option Group → Place → Want → Type 0
-Asks stands flags x hand (Writing follow) y hand' place asked = (given : Option Group) × Fetches stands flags x hand y given × Turns stands follow y given hand' place asked
-Asks stands flags x hand from y hand' place asked = (y ≡ x) × (hand' ≡ hand) × (place ≡ from) × (asked ≡ want_at from)
+abbrev pub Asks : {L : Type 0} → (L → Stream → Records → List Act → Type 0) → (L → Option (List ℕ)) → List Bool → L → Option Repeat → Place → L → Option Repeat → Place → Want → Type 0
+Asks {L} stands made flags x hand (Writing follow) z hand' place asked = (y : L) × (given : Option Group) × Fetches stands made flags x hand y given × Turns stands made follow y given z hand' place asked
+Asks stands made flags x hand from z hand' place asked = (z ≡ x) × (hand' ≡ hand) × (place ≡ from) × (asked ≡ want_at from)

@@ -1,7 +1,7 @@
 use crate::group::Group;
 use crate::lists::Lists;
 use crate::waiting::take_waiting;
-use pipe_model::NoMemory;
+use pipe_model::{NoMemory, Rec};
 use std::alloc::Global;
 
 /// Each record goes on output 0.
@@ -28,12 +28,15 @@ impl Copies {
 }
 
 impl Lists for Copies {
+    ghost use Rattle.std.specs.Prelude.{None};
     ghost use Rattle.stage_steps.specs.SharedLists.{CopiesStand, copies_look};
     ghost use Rattle.stage_steps.specs.Waiting.{how_many};
 
     ghost stands = { CopiesStand };
 
     ghost is_looking = { copies_look };
+
+    ghost made = { λ _. None };
 
     ghost left = { λ x. how_many x.waiting };
 
@@ -52,6 +55,10 @@ impl Lists for Copies {
     #[inline(always)]
     fn next(&mut self, _alloc: Global) -> Result<Option<Group>, NoMemory> {
         Ok(take_waiting(&mut self.waiting))
+    }
+
+    fn hand_over(&mut self, _alloc: Global) -> Result<Rec, NoMemory> {
+        unreachable!()
     }
 
     #[inline(always)]

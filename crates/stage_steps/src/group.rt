@@ -1,42 +1,34 @@
-ghost use Rattle.std.specs.Prelude.{◌≡◌};
-ghost use Rattle.pipe_model.specs.declared.kind.Times.TheVariants.{Only};
-ghost use Rattle.pipe_model.specs.declared.step.Out.TheVariants.{Same, Fresh};
+use pipe_model::Times;
 
-use pipe_model::{Out, Rec, Times};
-
-/// A pair to write, so many times in a row. With `Times::All` it is written again and again, for as long as its output
-/// takes it. `Out::Same` is the record at hand.
-#[derive(Drop)]
-pub struct Group {
+/// The record at hand on an output, so many times in a row. With `Times::All` it is written again and again, for as long
+/// as its output takes it.
+#[derive(Clone, Copy)]
+pub struct Repeat {
     pub output: u16,
-    pub out: Out,
     pub times: Times,
+}
+
+/// What lists give next. It holds no record, so that it costs little to move.
+#[derive(Clone, Copy)]
+pub enum Group {
+    /// The record at hand.
+    AtHand(Repeat),
+    /// The new record that the lists hold, once, on this output.
+    New(u16),
 }
 
 impl Group {
     ghost use Rattle.std.specs.Prelude.{◌≡◌};
     ghost use Rattle.pipe_model.specs.declared.kind.Times.TheVariants.{Only};
-    ghost use Rattle.pipe_model.specs.declared.step.Out.TheVariants.{Same, Fresh};
+    ghost use Rattle.stage_steps.specs.declared.group.Group.TheVariants.{AtHand};
 
     /// The record at hand, once.
     pub fn at_hand(output: u16) -> Group
-        ensures { result ≡ record { output = output; out = Same 0; times = Only 1 } }
+        ensures { result ≡ AtHand (record { output = output; times = Only 1 }) }
     {
-        Group {
+        Group::AtHand(Repeat {
             output,
-            out: Out::Same(0),
             times: Times::Only(1),
-        }
-    }
-
-    /// A new record, once.
-    pub fn fresh(output: u16, rec: Rec) -> Group
-        ensures { result ≡ record { output = output; out = Fresh rec; times = Only 1 } }
-    {
-        Group {
-            output,
-            out: Out::Fresh(rec),
-            times: Times::Only(1),
-        }
+        })
     }
 }

@@ -21,7 +21,7 @@ mod waiting;
 mod walk;
 
 pub use copies::Copies;
-pub use group::Group;
+pub use group::{Group, Repeat};
 pub use keys::{is_less, is_same};
 pub use listed::Listed;
 pub use lists::Lists;

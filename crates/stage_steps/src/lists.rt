@@ -1,10 +1,10 @@
-ghost use Rattle.std.specs.Prelude.{◌≡◌, ◌<◌, ℕ, List, [], Bool, IfOk, IfSome};
+ghost use Rattle.std.specs.Prelude.{◌≡◌, ◌<◌, ℕ, List, [], Bool, true, IfOk, IfSome, Option, is_some, unwrap_or};
 ghost use Rattle.pipe_model.specs.Row.{Act};
 ghost use Rattle.pipe_model.specs.Shape.{Records, Stream};
-ghost use Rattle.stage_steps.specs.Lists.{Begins, Sees, Finishes, GivesNext, Tells};
+ghost use Rattle.stage_steps.specs.Lists.{Begins, Sees, Finishes, GivesNext, StandsOn, Tells};
 
 use crate::group::Group;
-use pipe_model::NoMemory;
+use pipe_model::{NoMemory, Rec};
 use std::alloc::Global;
 
 /// What a stage of lists does: a value that has seen some records, and gives the list of pairs that is due group by
@@ -16,6 +16,9 @@ pub trait Lists: Sized + Drop {
 
     /// It needs the bytes of the records.
     ghost is_looking: { Self → Bool };
+
+    /// The new record that it holds, where it has given it as a group and not yet handed it over.
+    ghost made: { Self → Option (List ℕ) };
 
     /// How many groups are left at most.
     ghost left: { Self → ℕ };
@@ -39,7 +42,14 @@ pub trait Lists: Sized + Drop {
     fn next(&mut self, alloc: Global) -> Result<Option<Group>, NoMemory>
         ensures looks_same { is_looking self.new ≡ is_looking self.old }
         ensures falls { IfOk result (λ given. IfSome given (λ _. left self.new < left self.old)) }
-        ensures gives { IfOk result (λ given. GivesNext stands self.old self.new given) };
+        ensures gives { IfOk result (λ given. GivesNext stands made self.old self.new given) };
+
+    /// Hands over the new record that it holds.
+    fn hand_over(&mut self, alloc: Global) -> Result<Rec, NoMemory>
+        requires { is_some (made self.old) ≡ true }
+        ensures looks_same { is_looking self.new ≡ is_looking self.old }
+        ensures made { IfOk result (λ rec. rec ≡ unwrap_or (made self.old) []) }
+        ensures same { IfOk result (λ _. StandsOn stands self.old self.new) };
 
     /// Whether it ends at the sight of the record at hand.
     fn halts(&self) -> bool

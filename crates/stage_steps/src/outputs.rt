@@ -44,10 +44,13 @@ impl Outputs {
 
     // Whether the group writes something, and its output is open.
     #[inline(always)]
-    pub(crate) fn takes(&self, group: &Group) -> bool
-        ensures { result ≡ is_due self.now.flags.items group.now }
+    pub(crate) fn takes(&self, group: Group) -> bool
+        ensures { result ≡ is_due self.now.flags.items group }
     {
-        self.is_open(group.output) && has_more(group.times)
+        match group {
+            Group::AtHand(repeat) => self.is_open(repeat.output) && has_more(repeat.times),
+            Group::New(output) => self.is_open(output),
+        }
     }
 
     // Closes the output that an event refuses.

@@ -93,7 +93,6 @@ fn groups_are_written_so_many_times(rt: HostRuntime) -> Result<(), Fail> {
     let steps = [
         (Seen::Up(-1, 0), "commit 0"),
         (Seen::Up(0, 0), "write 0 [98]"),
-        (Seen::Put(0), "write 0 [98]"),
         (Seen::Put(0), "read 0"),
         (Seen::Saw(0), "write 0 same 0"),
         (Seen::Put(0), "write 0 same 0"),
@@ -120,7 +119,6 @@ fn a_group_without_end_is_written_until_it_is_refused(rt: HostRuntime) -> Result
     let steps = [
         (Seen::Up(-1, 0), "commit 0"),
         (Seen::Up(0, 0), "write 0 [98]"),
-        (Seen::Put(0), "write 0 [98]"),
         (Seen::Put(0), "read 0"),
         (Seen::Saw(0), "take 0"),
         (Seen::Took(0), "write 0 same 0"),
@@ -167,7 +165,6 @@ fn it_ends_where_the_lists_say(rt: HostRuntime) -> Result<(), Fail> {
     let steps = [
         (Seen::Up(-1, 0), "commit 0"),
         (Seen::Up(0, 0), "write 0 [98]"),
-        (Seen::Put(0), "write 0 [98]"),
         (Seen::Put(0), "done 8"),
     ];
     driven(&rt, alloc, source, Order::WritesFirst, &steps)

@@ -4,7 +4,7 @@ ghost use Rattle.stage_steps.specs.Lines.{IsFirstLine};
 
 use crate::group::Group;
 use crate::lists::Lists;
-use crate::slices::behind;
+use crate::slices::{behind, front};
 use pipe_model::{Lines, NoMemory, Rec};
 use std::alloc::Global;
 
@@ -14,6 +14,9 @@ pub struct TextLines {
     bytes: Rec,
     /// Where the lines begin that are left.
     at: usize,
+    /// Where the line begins that was given last, and how many bytes it has.
+    from: usize,
+    size: usize,
 }
 
 impl TextLines {
@@ -25,7 +28,12 @@ impl TextLines {
         ensures { result ≡ fresh_lines bytes }
     {
         let at = bytes.bytes().len();
-        TextLines { bytes, at }
+        TextLines {
+            bytes,
+            at,
+            from: 0,
+            size: 0,
+        }
     }
 }
 
@@ -37,12 +45,14 @@ fn first_line(text: &[u8]) -> Option<&[u8]>
 }
 
 impl Lists for TextLines {
-    ghost use Rattle.std.specs.Prelude.{◌-◌, length};
-    ghost use Rattle.stage_steps.specs.SharedLists.{LinesStand, lines_look};
+    ghost use Rattle.std.specs.Prelude.{◌-◌, length, Some};
+    ghost use Rattle.stage_steps.specs.SharedLists.{LinesStand, line_given, lines_look};
 
     ghost stands = { LinesStand };
 
     ghost is_looking = { lines_look };
+
+    ghost made = { λ x. Some (line_given x) };
 
     ghost left = { λ x. length x.bytes - x.at };
 
@@ -58,16 +68,20 @@ impl Lists for TextLines {
         Ok(())
     }
 
-    fn next(&mut self, alloc: Global) -> Result<Option<Group>, NoMemory> {
+    fn next(&mut self, _alloc: Global) -> Result<Option<Group>, NoMemory> {
         match first_line(behind(self.bytes.bytes(), self.at)) {
             Some(line) => {
-                let size = line.len();
-                let rec = Rec::from_slice(alloc, line)?;
-                self.at += size + 1;
-                Ok(Some(Group::fresh(0, rec)))
+                self.size = line.len();
+                self.from = self.at;
+                self.at += self.size + 1;
+                Ok(Some(Group::New(0)))
             }
             None => Ok(None),
         }
+    }
+
+    fn hand_over(&mut self, alloc: Global) -> Result<Rec, NoMemory> {
+        Rec::from_slice(alloc, front(behind(self.bytes.bytes(), self.from), self.size))
     }
 
     fn halts(&self) -> bool {

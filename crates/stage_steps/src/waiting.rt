@@ -1,6 +1,6 @@
 ghost use Rattle.std.specs.Prelude.{◌≡◌, None, option_map};
 ghost use Rattle.pipe_model.specs.declared.kind.Times.TheVariants.{Only};
-ghost use Rattle.pipe_model.specs.declared.step.Out.TheVariants.{Same};
+ghost use Rattle.stage_steps.specs.declared.group.Group.TheVariants.{AtHand};
 
 use crate::group::Group;
 
@@ -8,7 +8,7 @@ use crate::group::Group;
 #[inline(always)]
 pub fn take_waiting(waiting: &mut Option<u16>) -> Option<Group>
     ensures none { waiting.new ≡ None }
-    ensures given { result ≡ option_map (λ output. record { output = output; out = Same 0; times = Only 1 }) waiting.old }
+    ensures given { result ≡ option_map (λ output. AtHand (record { output = output; times = Only 1 })) waiting.old }
 {
     match waiting.take() {
         Some(output) => Some(Group::at_hand(output)),

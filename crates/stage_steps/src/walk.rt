@@ -1,20 +1,19 @@
 ghost use Rattle.std.specs.Prelude.{◌≡◌, ◌&&◌, None, IfOk, is_none, pos};
 ghost use Rattle.std.specs.Ordering.{int_eq};
-ghost use Rattle.pipe_model.specs.declared.step.Want.TheVariants.{Write};
 ghost use Rattle.stage_steps.specs.declared.place.Place.TheVariants.{Writing};
 ghost use Rattle.stage_steps.specs.Outputs.{none_left};
-ghost use Rattle.stage_steps.specs.Group.{less, less_one, plain};
+ghost use Rattle.stage_steps.specs.Group.{less, less_one, IsHeld};
 ghost use Rattle.stage_steps.specs.Places.{look_place, sight_place, taken_place, place_behind};
 ghost use Rattle.stage_steps.specs.Lists.{Tells};
-ghost use Rattle.stage_steps.specs.Walk.{IsBegun, Hears, Fetches, Asks};
+ghost use Rattle.stage_steps.specs.Walk.{IsBegun, Hears, Fetches, Puts, Asks};
 
-use crate::group::Group;
+use crate::group::{Group, Repeat};
 use crate::kept::Kept;
 use crate::lists::Lists;
 use crate::order::Order;
 use crate::outputs::Outputs;
 use crate::place::{Follow, Place, want_at};
-use pipe_model::{NoMemory, Out, Rec, Seen, Times, Want};
+use pipe_model::{NoMemory, Out, Seen, Times, Want};
 use std::alloc::Global;
 
 /// A walk of the pairs that lists give.
@@ -22,8 +21,8 @@ use std::alloc::Global;
 pub(crate) struct Walk {
     pub(crate) order: Order,
     pub(crate) place: Place,
-    /// The group in hand, which comes before those that the lists still give.
-    pub(crate) hand: Option<Group>,
+    /// What is left of the record at hand, which comes before what the lists still give.
+    pub(crate) hand: Option<Repeat>,
     pub(crate) outputs: Outputs,
     /// The text of the records taken, of a stage that keeps it. Refusals end the others.
     pub(crate) kept: Option<Kept>,
@@ -150,63 +149,35 @@ fn next_group<L: Lists>(
     alloc: Global,
 ) -> Result<Option<Group>, NoMemory>
     ensures looks_same { L.is_looking lists.new ≡ L.is_looking lists.old }
-    ensures fetches { IfOk result (λ given. Fetches L.stands outputs.now.flags.items lists.old None lists.new given) }
+    ensures fetches { IfOk result (λ given. Fetches L.stands L.made outputs.now.flags.items lists.old None lists.new given) }
 {
     while let Some(group) = lists.next(alloc)? {
-        if outputs.takes(&group) {
+        if outputs.takes(group) {
             return Ok(Some(group));
         }
     }
     Ok(None)
 }
 
-// The same, the one in hand first, which leaves it.
+// The same, the record in hand first, which leaves it.
 #[inline(always)]
 fn fetch<L: Lists>(
     lists: &mut L,
-    hand: &mut Option<Group>,
+    hand: &mut Option<Repeat>,
     outputs: &Outputs,
     alloc: Global,
 ) -> Result<Option<Group>, NoMemory>
     ensures looks_same { L.is_looking lists.new ≡ L.is_looking lists.old }
     ensures hand { IfOk result (λ _. hand.new ≡ None) }
-    ensures fetches { IfOk result (λ given. Fetches L.stands outputs.now.flags.items lists.old hand.old lists.new given) }
+    ensures fetches { IfOk result (λ given. Fetches L.stands L.made outputs.now.flags.items lists.old hand.old lists.new given) }
 {
-    // Most often nothing is in hand, and a group is long to move.
-    if hand.is_none() {
-        return next_group(lists, outputs, alloc);
-    }
     match hand.take() {
-        Some(group) => if outputs.takes(&group) {
-            Ok(Some(group))
+        Some(repeat) => if outputs.takes(Group::AtHand(repeat)) {
+            Ok(Some(Group::AtHand(repeat)))
         } else {
             next_group(lists, outputs, alloc)
         },
         None => next_group(lists, outputs, alloc),
-    }
-}
-
-// One more record like this one.
-fn another(out: &Out, alloc: Global) -> Result<Out, NoMemory>
-    ensures { IfOk result (λ other. other ≡ plain out.now) }
-{
-    match out {
-        Out::Same(_) => Ok(Out::Same(0)),
-        Out::Fresh(rec) => {
-            let copy = Rec::from_slice(alloc, rec.bytes())?;
-            Ok(Out::Fresh(copy))
-        }
-    }
-}
-
-// The record itself.
-#[inline(always)]
-fn plain(out: Out) -> Out
-    ensures { result ≡ plain out }
-{
-    match out {
-        Out::Same(_) => Out::Same(0),
-        Out::Fresh(rec) => Out::Fresh(rec),
     }
 }
 
@@ -225,24 +196,41 @@ fn less(times: Times) -> Option<Times>
     }
 }
 
-// Asks to write one of the group. The others stay in hand.
+// What is left when one is written.
 #[inline(always)]
-fn write(hand: &mut Option<Group>, group: Group, alloc: Global) -> Result<Want, NoMemory>
-    requires { hand.old ≡ None }
-    ensures hand { IfOk result (λ _. hand.new ≡ less_one group) }
-    ensures asks { IfOk result (λ asked. asked ≡ Write group.output (plain group.out)) }
+fn less_one(repeat: Repeat) -> Option<Repeat>
+    ensures { result ≡ less_one repeat }
 {
-    match less(group.times) {
-        None => Ok(Want::Write(group.output, plain(group.out))),
-        Some(times) => {
-            let other = another(&group.out, alloc)?;
-            let output = group.output;
-            *hand = Some(Group {
-                output,
-                out: group.out,
-                times,
-            });
-            Ok(Want::Write(output, other))
+    match less(repeat.times) {
+        Some(times) => Some(Repeat {
+            output: repeat.output,
+            times,
+        }),
+        None => None,
+    }
+}
+
+// Asks to write one of the group. The others of a record at hand stay in hand.
+#[inline(always)]
+fn write<L: Lists>(
+    lists: &mut L,
+    hand: &mut Option<Repeat>,
+    group: Group,
+    alloc: Global,
+) -> Result<Want, NoMemory>
+    requires hand { hand.old ≡ None }
+    requires held { IsHeld (L.made lists.old) group }
+    ensures looks_same { L.is_looking lists.new ≡ L.is_looking lists.old }
+    ensures puts { IfOk result (λ asked. Puts L.stands L.made lists.old group lists.new hand.new asked) }
+{
+    match group {
+        Group::AtHand(repeat) => {
+            *hand = less_one(repeat);
+            Ok(Want::Write(repeat.output, Out::Same(0)))
+        }
+        Group::New(output) => {
+            let rec = lists.hand_over(alloc)?;
+            Ok(Want::Write(output, Out::Fresh(rec)))
         }
     }
 }
@@ -258,10 +246,10 @@ fn ask_writing<L: Lists>(
     requires { walk.old.place ≡ Writing follow }
     ensures looks_same { L.is_looking lists.new ≡ L.is_looking lists.old }
     ensures others { walk.new ≡ record walk.old { place = walk.new.place; hand = walk.new.hand } }
-    ensures asks { IfOk result (λ asked. Asks L.stands walk.old.outputs.flags.items lists.old walk.old.hand (Writing follow) lists.new walk.new.hand walk.new.place asked) }
+    ensures asks { IfOk result (λ asked. Asks L.stands L.made walk.old.outputs.flags.items lists.old walk.old.hand (Writing follow) lists.new walk.new.hand walk.new.place asked) }
 {
     match fetch(lists, &mut walk.hand, &walk.outputs, alloc)? {
-        Some(group) => write(&mut walk.hand, group, alloc),
+        Some(group) => write(lists, &mut walk.hand, group, alloc),
         None => {
             walk.place = place_behind(lists, follow);
             Ok(want_at(walk.place))
@@ -274,7 +262,7 @@ fn ask_writing<L: Lists>(
 pub(crate) fn ask<L: Lists>(lists: &mut L, walk: &mut Walk, alloc: Global) -> Result<Want, NoMemory>
     ensures looks_same { L.is_looking lists.new ≡ L.is_looking lists.old }
     ensures others { walk.new ≡ record walk.old { place = walk.new.place; hand = walk.new.hand } }
-    ensures asks { IfOk result (λ asked. Asks L.stands walk.old.outputs.flags.items lists.old walk.old.hand walk.old.place lists.new walk.new.hand walk.new.place asked) }
+    ensures asks { IfOk result (λ asked. Asks L.stands L.made walk.old.outputs.flags.items lists.old walk.old.hand walk.old.place lists.new walk.new.hand walk.new.place asked) }
 {
     match walk.place {
         Place::Writing(follow) => ask_writing(lists, walk, follow, alloc),

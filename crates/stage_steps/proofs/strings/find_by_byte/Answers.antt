@@ -1,4 +1,4 @@
-use Rattle.std.proofs.Common.{◌+◌, ◌≡◌, arith, true, false, refl, below_more}
+use Rattle.std.proofs.Common.{◌+◌, ◌≡◌, arith, true, refl, below_more}
 use Rattle.std.proofs.lemmas.List.{length-drop, take_rest}
 use Rattle.stage_steps.proofs.Searching.{none_at_all, none_below, none_left, occurs_there, begins_there}
 use Rattle.stage_steps.proofs.strings.find_by_byte.Goals as goal

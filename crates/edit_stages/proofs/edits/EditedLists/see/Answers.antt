@@ -9,5 +9,5 @@ returns-clause-sees g c = λ t recs rec is room came.
     let all = recs ++ rec ∷ [] in
     let made = g.E.Edits.made c.args.self.now.edits in (
       is.0,
-      ap (λ (t : Stream). acts_of t.outs all) is.0 ∙ ap (λ r. Writes 0 (made r) ∷ []) (at_hand recs rec ∙ sym (came refl)) ∙ ap (λ new. Writes 0 new ∷ []) (sym c.in_ok-edit.ensures),
+      ap (λ (t : Stream). acts_of t.outs all) is.0 ∙ ap (λ r. Writes 0 (made r) ∷ []) (at_hand recs rec ∙ sym (came refl)) ∙ ap (λ new. Writes 0 new ∷ []) (sym c.in_ok-self.ensures),
     )
