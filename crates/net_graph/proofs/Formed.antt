@@ -10,6 +10,7 @@ use Rattle.pipe_model.specs.State.{Who, nothing_yet, strand_at}
 use Rattle.pipe_model.specs.Table.{form}
 use Rattle.pipe_model.specs.Form.Parting.{Whole, Queued}
 use Rattle.pipe_model.specs.WellFormed.{IsJoined, IsOfStage, IsQueue, IsWellFormed, TellsPorts, places_of, strands_of}
+use Rattle.stage_syntax.proofs.TypedKinds.{IsTyped, typed_kind}
 use Rattle.spec_scanner.specs.declared.piece.Piece.{Piece}
 use Rattle.net_graph.specs.Stands.{Stand, stages_of, stands_of, streams_of}
 use Rattle.net_graph.specs.Nets.{AreOutcomes, inputs_of, is_linked_in, is_linked_out, links_of, net_of, outputs_of, strand_of}
@@ -17,7 +18,7 @@ use Rattle.net_graph.specs.Numbered.{AreScanned}
 use Rattle.net_graph.specs.Faults.{faults_of}
 use Rattle.net_graph.proofs.FormedFaults.{few_stages}
 use Rattle.net_graph.proofs.FormedFits.{few_streams_of, fits}
-use Rattle.net_graph.proofs.FormedKinds.{IsPlain, kind_here, plain_kind}
+use Rattle.net_graph.proofs.FormedKinds.{kind_here}
 use Rattle.net_graph.proofs.FormedLinks.{IsLead, lead_at, leads_of}
 use Rattle.net_graph.proofs.FormedLists.{both, same_number, true_or_not}
 use Rattle.net_graph.proofs.FormedLone.{lone_in, lone_out}
@@ -51,7 +52,7 @@ module _ (pipelines : List (List Piece)) (kinds : List Kind) (scanned : AreScann
     stage : Stand
     kind : Kind
     strand : p ≡ strand_of whole links s stage kind
-    plain : IsPlain stage.first kind
+    typed : IsTyped stage.first kind
 
   of_stage : (s : ℕ) (p : Strand) → strand_at net nothing_yet s ≡ Some p → OfStage s p
   of_stage s p is =
@@ -60,7 +61,7 @@ module _ (pipelines : List (List Piece)) (kinds : List Kind) (scanned : AreScann
       let same : p ≡ strand_of whole links s r.0 r.1 = cc in
       let other = kind_here (stages_of whole) kinds s r.0 read r.2 in
       let one_kind : other.0 ≡ r.1 = cc in
-      record { stage = r.0; kind = r.1; strand = same; plain = subst (IsPlain r.0.first) one_kind (plain_kind r.0.piece.name r.0.piece.arg r.0.first other.0 other.2) }
+      record { stage = r.0; kind = r.1; strand = same; typed = subst (IsTyped r.0.first) one_kind (typed_kind r.0.piece.name r.0.piece.arg r.0.first other.0 other.2) }
 
   joined : (j : ℕ) (link : Link) → slice_get links j ≡ Some link → IsJoined net link
   joined j link is =
@@ -120,12 +121,12 @@ module _ (pipelines : List (List Piece)) (kinds : List Kind) (scanned : AreScann
       subst (TellsPorts net s) (sym it.strand) (told_at s it.stage it.kind (is ∙ ap Some it.strand))
 
   -- a strand is alone in its stage
-  module _ (s : ℕ) (stage : Stand) (kind : Kind) (plain : IsPlain stage.first kind) (is : strand_at net nothing_yet s ≡ Some (strand_of whole links s stage kind)) where
+  module _ (s : ℕ) (stage : Stand) (kind : Kind) (typed : IsTyped stage.first kind) (is : strand_at net nothing_yet s ≡ Some (strand_of whole links s stage kind)) where
     abbrev own : Strand
     own = strand_of whole links s stage kind
 
     one : (m : ℕ) → strands_of (form own).parting m ≡ 1
-    one m = ap (λ parting. strands_of parting m) plain.whole
+    one m = ap (λ parting. strands_of parting m) typed.plain.whole
 
     others : (k : ℕ) → k < 1 → (q : Strand) × (strand_at net nothing_yet (s - 0 + k) ≡ Some q) × (q.part ≡ k) × (q.kind ≡ own.kind)
     others k below = (own, ap (strand_at net nothing_yet) (omega (arith, below)) ∙ is, omega (arith, below), refl)
@@ -138,8 +139,8 @@ module _ (pipelines : List (List Piece)) (kinds : List Kind) (scanned : AreScann
           few = few_streams_of pipelines kinds scanned read good stage.piece.label;
           part = omega (arith, one m);
           first = omega arith;
-          inputs = ap (λ parting. places_of parting (form own).inputs m) (sym plain.whole);
-          outputs = ap (λ parting. places_of parting (form own).outputs m) (sym plain.whole);
+          inputs = ap (λ parting. places_of parting (form own).inputs m) (sym typed.plain.whole);
+          outputs = ap (λ parting. places_of parting (form own).outputs m) (sym typed.plain.whole);
           others = λ k below. others k (omega (arith, below, one m));
           closed = λ q there. ap (λ (x : Strand). x.part) (of_stage (s - 0 + strands_of (form own).parting m) q there).strand;
         }
@@ -148,14 +149,14 @@ module _ (pipelines : List (List Piece)) (kinds : List Kind) (scanned : AreScann
   staged s p is =
       let it = of_stage s p is in (
         streams_of whole it.stage.piece.label,
-        subst (λ q. IsOfStage net s q (streams_of whole it.stage.piece.label)) (sym it.strand) (alone_at s it.stage it.kind it.plain (is ∙ ap Some it.strand)),
+        subst (λ q. IsOfStage net s q (streams_of whole it.stage.piece.label)) (sym it.strand) (alone_at s it.stage it.kind it.typed (is ∙ ap Some it.strand)),
       )
 
   -- no stage has a queue
   not_queued : (s : Who) (p : Strand) → strand_at net nothing_yet s ≡ Some p → (form p).parting ≡ Queued → ⊥
   not_queued s p is queued =
       let it = of_stage s p is in
-      let parting : Whole ≡ Queued = sym it.plain.whole ∙ ap (λ q. (form q).parting) (sym it.strand) ∙ queued in
+      let parting : Whole ≡ Queued = sym it.typed.plain.whole ∙ ap (λ q. (form q).parting) (sym it.strand) ∙ queued in
       cc
 
   queues : (j : ℕ) (link : Link) → slice_get links j ≡ Some link → (link.queue ≡ true) ↔ IsQueue net link
@@ -171,7 +172,7 @@ module _ (pipelines : List (List Piece)) (kinds : List Kind) (scanned : AreScann
     one_in = λ j k a b. lone_in pipelines scanned 0 links j k a b (leads_of pipelines);
     told = told;
     staged = staged;
-    proper = λ s p is. (let it = of_stage s p is in ap (λ (q : Strand). (form q).proper) it.strand ∙ it.plain.proper);
+    proper = λ s p is. (let it = of_stage s p is in ap (λ (q : Strand). (form q).proper) it.strand ∙ it.typed.proper);
     main = λ s p is. ap (λ (q : Strand). q.unit) (of_stage s p is).strand;
     queues = queues;
     queued = λ s p is queued part. absurd (not_queued s p is queued);

@@ -3,6 +3,7 @@ use Rattle.std.proofs.Common.{◌≡◌, ◌⊎◌, inl, inr, ℕ, zero, suc, �
 use Rattle.std.specs.Prelude.{Ok}
 use Rattle.std.specs.List.{count_by}
 use Rattle.pipe_model.specs.declared.kind.Kind.{Kind}
+use Rattle.stage_syntax.proofs.TypedKinds.{typed_kind}
 use Rattle.spec_scanner.specs.declared.piece.Piece.{Piece}
 use Rattle.spec_scanner.specs.declared.piece.PieceKind.{PieceKind}
 use Rattle.spec_scanner.specs.declared.piece.PieceKind.TheVariants.{Stage, Reference, Connector}
@@ -11,7 +12,7 @@ use Rattle.net_graph.specs.Nets.{AreOutcomes, inputs_of, outputs_of}
 use Rattle.net_graph.specs.Numbered.{AreScanned, IsNumbered}
 use Rattle.net_graph.specs.Faults.{faults_of}
 use Rattle.net_graph.proofs.FormedFaults.{few_streams, input_there, output_there}
-use Rattle.net_graph.proofs.FormedKinds.{kind_here, plain_kind}
+use Rattle.net_graph.proofs.FormedKinds.{kind_here}
 use Rattle.net_graph.proofs.FormedLabels.{counted_with, counted_without, numbered_at, reference_is, stage_is, stages_with}
 use Rattle.net_graph.proofs.FormedLists.{both, get_seam, last_counted, not_second, same_number}
 use Rattle.net_graph.proofs.FormedPositions.{position_finds}
@@ -59,15 +60,15 @@ module _ (pipelines : List (List Piece)) (kinds : List Kind) (scanned : AreScann
         ∙ ap (λ stages. slice_get stages (length (stages_of stands.done))) (ap stages_of stands.cut ∙ stages_with stands.done stands.rest stand (stage_is stand here.kind))
         ∙ get_seam (stages_of stands.done) stand (stages_of stands.rest) in
         let kind = kind_here (stages_of whole) kinds spot.stage stand read there in
-        let plain = plain_kind stand.piece.name stand.piece.arg stand.first kind.0 kind.2 in
+        let typed = typed_kind stand.piece.name stand.piece.arg stand.first kind.0 kind.2 in
         record {
           stage = stand;
           kind = kind.0;
           stage_there = there;
           kind_there = kind.1;
           stream = omega (arith, here.stream);
-          output = λ goes_on. omega (arith, here.stream, plain.output);
-          input = λ comes. omega (arith, here.stream, plain.input comes);
+          output = λ goes_on. omega (arith, here.stream, typed.plain.output);
+          input = λ comes. omega (arith, here.stream, typed.plain.input comes);
         }
 
     fits_used : Refers whole stands.done stand spot → Fits whole kinds stand spot

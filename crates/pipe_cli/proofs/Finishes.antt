@@ -3,6 +3,7 @@ use Rattle.std.proofs.Common.{◌≡◌, ℕ, zero, suc, ◌≤◌, Bool, true, 
 use Rattle.pipe_model.specs.declared.net.Net.{Net}
 use Rattle.pipe_model.specs.declared.net.Strand.{Strand}
 use Rattle.pipe_model.specs.Event.{Event}
+use Rattle.pipe_model.specs.Form.{is_filed}
 use Rattle.pipe_model.specs.Play.{play, IsLegal, IsLicensed, IsComplete}
 use Rattle.pipe_model.specs.Reply.{Reply, WaitLine, reply, replied, console_from, files_from, code_from, waits_from, file_part}
 use Rattle.pipe_model.specs.State.{State, Who, past}
@@ -13,7 +14,7 @@ use Rattle.net_graph.specs.Fed.{fed}
 use Rattle.core_machine.specs.Machine.{Machine, state_of}
 use Rattle.pipe_cli.specs.declared.status.Outcome.{Outcome}
 use Rattle.pipe_cli.specs.declared.status.Outcome.TheVariants.{Done, Coded, SpecRefused, Stalled, Spent, ReadFault, WriteFault, NoMemory, Usage, InputTooLarge, NotYet}
-use Rattle.pipe_cli.specs.Built.{AreBuilt, IsBuilt, is_filed, keeping_of}
+use Rattle.pipe_cli.specs.Built.{AreBuilt, IsBuilt, keeping_of}
 use Rattle.pipe_cli.specs.Meaning.{RunsNet, RunMeans, Finishes, Exhausts, reads_any, taken, net_on, input_limit, ended, stalled}
 use Rattle.pipe_cli.specs.Runs.{IsOutcomeOf}
 use Rattle.pipe_cli.specs.Steps.{HasCompleted, HasSpent}

@@ -1,36 +1,25 @@
 -- The strands of a made net are of kinds that are built.
-use Rattle.std.proofs.Common.{◌≡◌, ℕ, zero, suc, Bool, true, false, List, [], ◌∷◌, refl, ap, subst, Some, slice_get, map}
+use Rattle.std.proofs.Common.{◌≡◌, ℕ, zero, suc, Bool, List, [], ◌∷◌, ap, subst, Some, slice_get, map}
 use Rattle.std.specs.Prelude.{Ok}
 use Rattle.pipe_model.specs.declared.kind.Kind.{Kind}
-use Rattle.pipe_model.specs.declared.kind.Kind.TheVariants as Kinds
 use Rattle.pipe_model.specs.declared.net.Link.{Link}
 use Rattle.pipe_model.specs.declared.net.Net.{Net}
 use Rattle.pipe_model.specs.declared.net.Strand.{Strand}
 use Rattle.pipe_model.specs.State.{nothing_yet, strand_at}
 use Rattle.stage_syntax.specs.Arg.{ArgText}
 use Rattle.stage_syntax.specs.Kinds.{IsKind}
-use Rattle.stage_syntax.proofs.TypedKinds.{is_typed, typed_kind}
+use Rattle.stage_syntax.proofs.TypedKinds.{typed_kind}
+use Rattle.stage_table.proofs.Names.{known_is_built}
 use Rattle.spec_scanner.specs.declared.piece.Piece.{Piece}
 use Rattle.net_graph.specs.Faults.{IsGraph}
 use Rattle.net_graph.specs.Nets.{AreOutcomes, strand_of, strands_from, links_of}
 use Rattle.pipe_cli.specs.Built.{AreBuilt, IsBuilt}
 use Rattle.net_graph.specs.Stands.{Stand, stages_of, stands_of}
 
--- a kind that can be typed, one for each
-typed_built : (first : Bool) (kind : Kind) → is_typed first kind ≡ true → IsBuilt kind
-typed_built first (Kinds.ConsoleIn bytes) is = record { stage = refl; whole = refl; ordered = refl; fileless = refl }
-typed_built first Kinds.ConsoleOut is = record { stage = refl; whole = refl; ordered = refl; fileless = refl }
-typed_built first (Kinds.Literal text) is = record { stage = refl; whole = refl; ordered = refl; fileless = refl }
-typed_built first Kinds.Hole is = record { stage = refl; whole = refl; ordered = refl; fileless = refl }
-typed_built first (Kinds.Locate range text) is = record { stage = refl; whole = refl; ordered = refl; fileless = refl }
-typed_built first (Kinds.Nlocate range text) is = record { stage = refl; whole = refl; ordered = refl; fileless = refl }
-typed_built first Kinds.Reverse is = record { stage = refl; whole = refl; ordered = refl; fileless = refl }
-typed_built first (Kinds.Duplicate times) is = record { stage = refl; whole = refl; ordered = refl; fileless = refl }
-typed_built first Kinds.Copy is = record { stage = refl; whole = refl; ordered = refl; fileless = refl }
-typed_built first _ is = cc
-
 kind_built : (name : List ℕ) (arg : ArgText) (first : Bool) (kind : Kind) → IsKind name arg first kind → IsBuilt kind
-kind_built name arg first kind is = typed_built first kind (typed_kind name arg first kind is).typed
+kind_built name arg first kind is =
+    let typed = typed_kind name arg first kind is in
+    record { stage = known_is_built first kind typed.named; whole = typed.plain.whole; ordered = typed.plain.ordered; fileless = typed.plain.fileless }
 
 -- so are the kinds of strands
 strands_built : (stands : List Stand) (links : List Link) (stage : ℕ) (stages : List Stand) (kinds : List Kind) → AreOutcomes stages (map (λ kind. Ok kind) kinds) →

@@ -1,14 +1,13 @@
 -- What is built so far of the stage table.
-use Rattle.std.specs.Prelude.{◌≡◌, Bool, true, false}
+use Rattle.std.specs.Prelude.{◌≡◌, true, false}
 use Rattle.std.specs.declared.option.Option.TheVariants.{Some}
 use Rattle.pipe_model.specs.declared.kind.Kind.{Kind}
 use Rattle.pipe_model.specs.declared.net.Net.{Net}
 use Rattle.pipe_model.specs.declared.net.Strand.{Strand}
-use Rattle.pipe_model.specs.Form.{meeting_by, parting_by, keeping_by}
+use Rattle.pipe_model.specs.Form.{meeting_by, parting_by, keeping_by, is_filed}
 use Rattle.pipe_model.specs.Form.Meeting.{Ordered}
 use Rattle.pipe_model.specs.Form.Parting.{Whole}
 use Rattle.pipe_model.specs.Shape.{Keeping}
-use Rattle.pipe_model.specs.Shape.Keeping.{Nothing, Console, File}
 use Rattle.pipe_model.specs.State.{Who, nothing_yet, strand_at}
 use Rattle.pipe_model.specs.Table.{line_of}
 use Rattle.stage_table.specs.BuiltIn.{is_built_in}
@@ -16,12 +15,6 @@ use Rattle.stage_table.specs.BuiltIn.{is_built_in}
 -- where what a stage keeps goes
 abbrev pub keeping_of : Kind → Keeping
 keeping_of kind = keeping_by (line_of kind).shape
-
--- it is for a file
-abbrev pub is_filed : Keeping → Bool
-is_filed Nothing = false
-is_filed Console = false
-is_filed (File name) = true
 
 -- there is a stage of the kind, of one strand, which doesn't take what comes first and keeps no file
 pub record IsBuilt (kind : Kind) : Type 0 where

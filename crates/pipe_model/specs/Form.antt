@@ -64,6 +64,12 @@ is_shown Nothing = false
 is_shown Console = true
 is_shown (File name) = false
 
+-- it is for a file
+abbrev pub is_filed : Keeping → Bool
+is_filed Nothing = false
+is_filed Console = false
+is_filed (File name) = true
+
 abbrev pub has_none : List Pair → Bool
 has_none [] = true
 has_none (p ∷ ps) = false

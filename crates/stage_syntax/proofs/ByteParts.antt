@@ -1,5 +1,5 @@
 -- A byte as a part: it is read in one way, or has one fault.
-use Rattle.std.proofs.Common.{◌≡◌, ◌⊎◌, ℕ, List, [], ◌∷◌, length, refl, sym, ap, ◌∙◌, inl, inr}
+use Rattle.std.proofs.Common.{◌≡◌, ◌⊎◌, ℕ, List, [], ◌∷◌, length, sym, ap, ◌∙◌, inl, inr}
 use Rattle.stage_syntax.proofs.OneStrings.{one_string}
 use Rattle.stage_syntax.proofs.Outcomes.{no_fault}
 use Rattle.stage_syntax.proofs.StringParts.{no_misfit_of_word, no_string_of_word, one_string_misfit}

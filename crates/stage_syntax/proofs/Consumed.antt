@@ -1,11 +1,11 @@
 -- An argument is spelled by one byte at least.
-use Rattle.std.proofs.Common.{◌≡◌, ◌≢◌, ℕ, ◌+◌, ◌<◌, ◌≤◌, List, [], ◌∷◌, ◌++◌, length, get_or, replicate, refl, sym, ap, ◌∙◌, arith, subst, inl, inr, length-append}
+use Rattle.std.proofs.Common.{◌≢◌, ℕ, ◌<◌, ◌≤◌, List, [], ◌∷◌, ◌++◌, length, get_or, replicate, ap, ◌∙◌, arith, inl, inr, length-append}
 use Rattle.pipe_model.specs.declared.kind.Times.{Times}
 use Rattle.pipe_model.specs.declared.kind.Times.TheVariants.{Only, All}
 use Rattle.pipe_model.specs.declared.range.Range.{Range}
 use Rattle.stage_syntax.specs.Parts.{AreTimes, IsFirstPart, IsNext, IsPart}
 use Rattle.stage_syntax.specs.PairsOfStrings.{AreStrings, IsAnyString}
-use Rattle.stage_syntax.specs.RangeWords.{IsApart, IsRange}
+use Rattle.stage_syntax.specs.RangeWords.{IsRange}
 use Rattle.stage_syntax.specs.Strings.{IsDelimited, IsHexadecimalWord, IsString}
 use Rattle.stage_syntax.specs.Words.{IsFirstWord, IsUnblanked}
 use Rattle.stage_syntax.specs.declared.part.Part.{Part}

@@ -21,6 +21,7 @@ pub mod OrderLists
 pub mod Outcomes
 pub mod PairFronts
 pub mod Passed
+pub mod PlainLines
 pub mod RangeFronts
 pub mod ReadValues
 pub mod RowSteps

@@ -1,5 +1,5 @@
 -- Numbers within limits, counts, names and keywords are read in one way, or have one fault.
-use Rattle.std.proofs.Common.{◌≡◌, ℕ, ◌≤◌, List, [], ◌∷◌, length, refl, sym, ap, ◌∙◌, subst, arith}
+use Rattle.std.proofs.Common.{◌≡◌, ℕ, ◌≤◌, List, [], ◌∷◌, length, refl, ap, subst, arith}
 use Rattle.pipe_model.specs.declared.kind.Times.{Times}
 use Rattle.pipe_model.specs.declared.kind.Times.TheVariants.{Only, All}
 use Rattle.stage_syntax.proofs.FirstWords.{same_rest, same_word}

@@ -1,6 +1,5 @@
 -- What comes next in a text is one part and the rest, or one fault.
-use Rattle.std.proofs.Common.{◌≡◌, ℕ, ◌<◌, List, [], ◌∷◌, length, refl, sym, ap, ◌∙◌, arith, subst, inl, inr}
-use Rattle.pipe_model.specs.declared.range.Range.{Range}
+use Rattle.std.proofs.Common.{◌≡◌, ℕ, ◌<◌, List, [], ◌∷◌, length, sym, ap, ◌∙◌, arith, subst, inl, inr}
 use Rattle.stage_syntax.proofs.ByteParts.{byte_faultless, one_byte, one_byte_misfit}
 use Rattle.stage_syntax.proofs.NumberParts.{name_faultless, number_faultless, one_keyword, one_name, one_number, one_times, times_faultless}
 use Rattle.stage_syntax.proofs.OneFronts.{one_front}
@@ -9,7 +8,7 @@ use Rattle.stage_syntax.proofs.OneStrings.{one_string}
 use Rattle.stage_syntax.proofs.Outcomes.{no_fault}
 use Rattle.stage_syntax.proofs.StringPairs.{one_pair, one_pair_misfit, pair_faultless}
 use Rattle.stage_syntax.proofs.StringParts.{any_string_faultless, one_any_misfit, one_any_string, one_string_misfit}
-use Rattle.stage_syntax.specs.Parts.{BeginsNone, BeginsNot, IsAtEnd, IsFirstMisfit, IsFirstPart, IsMisfitOf, IsNext, IsNoNext, IsNone, IsNot, IsPart, IsPartMisfit}
+use Rattle.stage_syntax.specs.Parts.{BeginsNone, IsAtEnd, IsFirstMisfit, IsFirstPart, IsMisfitOf, IsNext, IsNoNext, IsNone, IsNot, IsPart, IsPartMisfit}
 use Rattle.stage_syntax.specs.Words.{IsUnblanked}
 use Rattle.stage_syntax.specs.declared.part.Part.{Part}
 use Rattle.stage_syntax.specs.declared.part.Part.TheVariants as Asked

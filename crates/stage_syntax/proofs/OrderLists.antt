@@ -3,7 +3,7 @@ use Rattle.std.proofs.Common.{◌≡◌, ℕ, zero, suc, ◌+◌, ◌-◌, ◌<�
 use Rattle.std.proofs.lemmas.List.{take_rest}
 use Rattle.pipe_model.specs.declared.keys.SortKey.{SortKey}
 use Rattle.pipe_model.specs.declared.keys.Total.{Total}
-use Rattle.stage_syntax.specs.OrderForms.{ends_with_range, is_range_value, key_of, keys_of, onto, total_of, totals_of}
+use Rattle.stage_syntax.specs.OrderForms.{ends_with_range, is_range_value, onto, total_of, totals_of}
 use Rattle.stage_syntax.specs.declared.part.Value.{Value}
 
 -- the last argument says whether there is a range at the end

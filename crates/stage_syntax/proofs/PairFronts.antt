@@ -1,5 +1,5 @@
 -- How a text begins with two strings.
-use Rattle.std.proofs.Common.{◌≡◌, ℕ, suc, ◌+◌, ◌-◌, ◌<◌, ◌≤◌, true, List, [], ◌∷◌, ◌++◌, length, take, drop, get_or, refl, sym, ap, ◌∙◌, arith, subst, None, Some, inl, inr}
+use Rattle.std.proofs.Common.{◌≡◌, ℕ, suc, ◌+◌, ◌-◌, ◌<◌, List, ◌∷◌, ◌++◌, length, take, drop, get_or, refl, sym, ap, ◌∙◌, arith, subst, None, Some, inl, inr}
 use borrow.Author.Tests.{eqb-true}
 use Rattle.std.specs.List.{Contains}
 use Rattle.std.proofs.Math.Seq.{split_at}
@@ -17,7 +17,6 @@ use Rattle.stage_syntax.specs.Refusals.{Refuses}
 use Rattle.stage_syntax.specs.Strings.{IsDelimited, IsHexadecimalWord, IsOtherWord, IsUnclosed}
 use Rattle.stage_syntax.specs.Words.{IsUnblanked}
 use Rattle.stage_syntax.specs.declared.fault.FaultKind.TheVariants.{Missing, UnknownWord}
-use Rattle.stage_syntax.specs.declared.part.TextFault.{TextFault}
 use Rattle.stage_syntax.specs.declared.refusal.Refusal.{Refusal}
 use Rattle.stage_syntax.specs.declared.refusal.Refusal.TheVariants.{Fault, NoMemory}
 

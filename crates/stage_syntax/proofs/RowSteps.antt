@@ -1,5 +1,5 @@
 -- How the arguments of a row are read one after another.
-use Rattle.std.proofs.Common.{◌≡◌, ℕ, ◌-◌, List, [], ◌∷◌, ◌++◌, length, take, drop, refl, sym, ap, ◌∙◌, subst, None, Some}
+use Rattle.std.proofs.Common.{◌≡◌, ℕ, ◌-◌, List, [], ◌∷◌, ◌++◌, length, take, drop, sym, ap, ◌∙◌, subst, None, Some}
 use Rattle.pipe_model.proofs.Cuts.{tail_of}
 use Rattle.pipe_model.specs.declared.kind.Kind.{Kind}
 use Rattle.stage_syntax.specs.Parts.{IsAtEnd, IsNext, IsNoNext}

@@ -1,8 +1,8 @@
 -- The stages of a list, of which the first that has a name is found.
-use Rattle.std.proofs.Common.{◌≡◌, ℕ, zero, suc, ◌+◌, ◌<◌, ◌≤◌, ◌&&◌, Bool, true, false, if◌then◌else◌, List, [], ◌∷◌, length, map, drop, get_or, refl, sym, ap, ◌∙◌, arith, Option, Some, None, Bor, add-one}
+use Rattle.std.proofs.Common.{◌≡◌, ℕ, zero, suc, ◌+◌, ◌<◌, ◌&&◌, Bool, true, false, if◌then◌else◌, List, [], ◌∷◌, length, map, drop, get_or, refl, ap, ◌∙◌, arith, Option, Some, Bor, add-one}
 use Rattle.std.specs.Str.{bytes_eq, str_to_ascii_lowercase}
 use Rattle.std.proofs.lemmas.Slice.Eq.{bytes_eq-Decides}
-use Rattle.stage_syntax.specs.Names.{Named, named_in}
+use Rattle.stage_syntax.specs.Names.{named_in}
 use Rattle.stage_syntax.specs.Rows.{Arguments}
 use Rattle.stage_syntax.specs.StageForms.{arguments_by, named_as}
 use Rattle.stage_syntax.specs.declared.form.Form.{Form}

@@ -1,6 +1,6 @@
--- The kinds that can be typed: each is one that a running row makes, and is as the table wants it.
-use Rattle.std.proofs.Common.{◌≡◌, ℕ, Bool, true, false, not, ◌&&◌, List, [], ◌∷◌, refl, subst, Option, Some, None, inl, inr}
-use Rattle.std.specs.Prelude.{⊤, if◌then◌else◌}
+-- The kinds that can be typed: what is known of the line that the table has for each, shown once for each running row.
+use Rattle.std.proofs.Common.{◌≡◌, ℕ, Bool, true, false, ◌&&◌, List, [], ◌∷◌, refl, subst, Option, Some, None}
+use Rattle.std.specs.Prelude.{⊤, if◌then◌else◌, is_some}
 use Rattle.std.specs.Option.{IfSome}
 use Rattle.std.specs.Str.{bytes_eq, str_to_ascii_lowercase}
 use Rattle.pipe_model.specs.declared.kind.Kind.{Kind}
@@ -11,34 +11,27 @@ use Rattle.pipe_model.specs.declared.range.Range.{Range}
 use Rattle.pipe_model.specs.Proper.{is_count, is_filled, is_locate, is_range}
 use Rattle.pipe_model.specs.Straight.{all_columns}
 use Rattle.pipe_model.specs.Table.{line_of}
+use Rattle.stage_syntax.proofs.PlainLines.{IsPlain, is_plain, plain_line}
 use Rattle.stage_syntax.proofs.ReadValues.{AreOfRow, count_of_times, made_of_row, range_of_one, string_of_string, string_or_range}
 use Rattle.stage_syntax.specs.Arg.{ArgText}
 use Rattle.stage_syntax.specs.DeviceForms.{literal_of}
 use Rattle.stage_syntax.specs.Forms.{row, none_next, before_times, of_times}
 use Rattle.stage_syntax.specs.Kinds.{IsKind}
-use Rattle.stage_syntax.specs.Names.{Named, named_in, stages}
+use Rattle.stage_syntax.specs.Names.{Named, arguments_of, named_in, stages}
 use Rattle.stage_syntax.specs.Rows.{Arguments, Makes, Reads, Row, text_in}
 use Rattle.stage_syntax.specs.SelectionForms.{before_locate, of_locate}
 use Rattle.stage_syntax.specs.declared.part.Value.{Value}
 use Rattle.stage_syntax.specs.declared.part.Value.TheVariants as Read
 
--- a stage of the kind can be typed, first in its pipeline or not
-abbrev pub is_typed : Bool → Kind → Bool
-is_typed first (Kinds.ConsoleIn bytes) = first
-is_typed first Kinds.ConsoleOut = not first
-is_typed first (Kinds.Literal text) = true
-is_typed first Kinds.Hole = true
-is_typed first (Kinds.Locate range text) = true
-is_typed first (Kinds.Nlocate range text) = true
-is_typed first Kinds.Reverse = true
-is_typed first (Kinds.Duplicate times) = true
-is_typed first Kinds.Copy = true
-is_typed first _ = false
-
 -- what is known of a kind that was read
 pub record IsTyped (first : Bool) (kind : Kind) : Type 0 where
-  pub typed : is_typed first kind ≡ true
+  -- a row that can be typed has its stage's name
+  pub named : is_some (arguments_of (line_of kind).name first) ≡ true
+  pub plain : IsPlain first (line_of kind)
   pub proper : (line_of kind).proper ≡ true
+
+known : (first : Bool) (kind : Kind) → is_some (arguments_of (line_of kind).name first) ≡ true → is_plain first (line_of kind) ≡ true → (line_of kind).proper ≡ true → IsTyped first kind
+known first kind named plain proper = record { named = named; plain = plain_line first (line_of kind) plain; proper = proper }
 
 -- Of each running row
 
@@ -103,13 +96,13 @@ module _ (first : Bool) where
   located kind each _ are = tt
 
   literal_typed : (text : Option (List ℕ)) → IfSome (literal_of text) (IsTyped first)
-  literal_typed None = record { typed = refl; proper = refl }
-  literal_typed (Some text) = record { typed = refl; proper = refl }
+  literal_typed None = known first (Kinds.Literal []) refl refl refl
+  literal_typed (Some text) = known first (Kinds.Literal text) refl refl refl
 
 -- a CONSOLE reads where it is first, and writes where it isn't
 console_typed : (first : Bool) → IsTyped first (if first then Kinds.ConsoleIn [] else Kinds.ConsoleOut)
-console_typed true = record { typed = refl; proper = refl }
-console_typed false = record { typed = refl; proper = refl }
+console_typed true = known true (Kinds.ConsoleIn []) refl refl refl
+console_typed false = known false Kinds.ConsoleOut refl refl refl
 
 -- each running row in the order of the table
 rows_typed : (first : Bool) → OfEach (AreTyped first) (stages first)
@@ -118,16 +111,16 @@ rows_typed first = (
   (
     λ text kind reads. of_text first literal_of (literal_typed first) (text_in text) kind reads,
     (
-      of_parts first _ (alone first Kinds.Hole (record { typed = refl; proper = refl })),
+      of_parts first _ (alone first Kinds.Hole (known first Kinds.Hole refl refl refl)),
       (
-        of_parts first _ (located first Kinds.Locate (λ range text proper. record { typed = refl; proper = proper })),
+        of_parts first _ (located first Kinds.Locate (λ range text proper. known first (Kinds.Locate range text) refl refl proper)),
         (
-          of_parts first _ (located first Kinds.Nlocate (λ range text proper. record { typed = refl; proper = proper })),
+          of_parts first _ (located first Kinds.Nlocate (λ range text proper. known first (Kinds.Nlocate range text) refl refl proper)),
           (
-            of_parts first _ (alone first Kinds.Reverse (record { typed = refl; proper = refl })),
+            of_parts first _ (alone first Kinds.Reverse (known first Kinds.Reverse refl refl refl)),
             (
-              of_parts first _ (counted first Kinds.Duplicate (λ times proper. record { typed = refl; proper = proper })),
-              (of_parts first _ (alone first Kinds.Copy (record { typed = refl; proper = refl })), tt),
+              of_parts first _ (counted first Kinds.Duplicate (λ times proper. known first (Kinds.Duplicate times) refl refl proper)),
+              (of_parts first _ (alone first Kinds.Copy (known first Kinds.Copy refl refl refl)), tt),
             ),
           ),
         ),

@@ -8,7 +8,7 @@ use Rattle.stage_syntax.specs.declared.part.Part.{Part}
 use Rattle.stage_syntax.specs.declared.part.Part.TheVariants as Asked
 use Rattle.stage_syntax.specs.declared.part.Value.{Value}
 use Rattle.stage_syntax.specs.declared.part.Value.TheVariants as Read
-use Rattle.stage_syntax.specs.Rows.{Row, Arguments}
+use Rattle.stage_syntax.specs.Rows.{Arguments}
 use Rattle.stage_syntax.specs.Rows.Arguments.{OfText, OfParts}
 use Rattle.stage_syntax.specs.Forms.{row, no_arguments}
 

@@ -1,11 +1,10 @@
 -- The arguments of Editing.
-use Rattle.std.specs.Prelude.{ℕ, Bool, true, false, ◌==◌, if◌then◌else◌, List, [], ◌∷◌, length}
+use Rattle.std.specs.Prelude.{ℕ, true, false, ◌==◌, if◌then◌else◌, List, [], ◌∷◌, length}
 use Rattle.std.specs.declared.option.Option.{Option}
 use Rattle.std.specs.declared.option.Option.TheVariants.{Some, None}
 use Rattle.pipe_model.specs.declared.kind.Kind.{Kind}
 use Rattle.pipe_model.specs.declared.kind.Kind.TheVariants as Kinds
 use Rattle.pipe_model.specs.declared.kind.Mapping.TheVariants as Maps
-use Rattle.pipe_model.specs.declared.kind.Times.{Times}
 use Rattle.pipe_model.specs.declared.kind.Times.TheVariants.{Only, All}
 use Rattle.pipe_model.specs.Straight.{all_columns}
 use Rattle.stage_syntax.specs.declared.fault.FaultKind.TheVariants.{OutOfRange}
@@ -15,7 +14,7 @@ use Rattle.stage_syntax.specs.declared.part.TextFault.{TextFault}
 use Rattle.stage_syntax.specs.declared.part.Value.{Value}
 use Rattle.stage_syntax.specs.declared.part.Value.TheVariants as Read
 use Rattle.stage_syntax.specs.declared.part.Word.TheVariants.{Both, Leading, Trailing, Left, Right, Upper, Lower}
-use Rattle.stage_syntax.specs.Rows.{Row, Arguments}
+use Rattle.stage_syntax.specs.Rows.{Arguments}
 use Rattle.stage_syntax.specs.Rows.Arguments.{OfParts}
 use Rattle.stage_syntax.specs.Forms.{row, no_arguments, before_times, of_times, greatest}
 

@@ -4,7 +4,7 @@ use Rattle.std.specs.declared.option.Option.{Option}
 use Rattle.std.specs.declared.option.Option.TheVariants.{Some, None}
 use Rattle.pipe_model.specs.declared.kind.Kind.{Kind}
 use Rattle.pipe_model.specs.declared.kind.Times.{Times}
-use Rattle.pipe_model.specs.declared.kind.Times.TheVariants.{Only, All}
+use Rattle.pipe_model.specs.declared.kind.Times.TheVariants.{Only}
 use Rattle.pipe_model.specs.declared.range.Range.{Range}
 use Rattle.pipe_model.specs.Straight.{all_columns}
 use Rattle.stage_syntax.specs.declared.part.Part.{Part}

@@ -1,5 +1,5 @@
 -- The arguments of Order and counting, and of Blocks.
-use Rattle.std.specs.Prelude.{ℕ, Bool, true, false, ◌==◌, ◌||◌, not, nat_lt, if◌then◌else◌, List, [], ◌∷◌, ◌++◌, length, filter, option_map}
+use Rattle.std.specs.Prelude.{ℕ, Bool, true, false, nat_lt, if◌then◌else◌, List, [], ◌∷◌, ◌++◌, length, filter, option_map}
 use Rattle.std.specs.List.{list_any}
 use Rattle.std.specs.declared.option.Option.{Option}
 use Rattle.std.specs.declared.option.Option.TheVariants.{Some, None}
@@ -22,7 +22,7 @@ use Rattle.stage_syntax.specs.declared.part.Value.{Value}
 use Rattle.stage_syntax.specs.declared.part.Value.TheVariants as Read
 use Rattle.stage_syntax.specs.declared.part.Word.{Word}
 use Rattle.stage_syntax.specs.declared.part.Word.TheVariants.{First, Last, Count, Singles, Multiple, Ascending, Descending, Lines, Words, Bytes, Fixed, Linend, String, Sf}
-use Rattle.stage_syntax.specs.Rows.{Row, Arguments}
+use Rattle.stage_syntax.specs.Rows.{Arguments}
 use Rattle.stage_syntax.specs.Rows.Arguments.{OfParts}
 use Rattle.stage_syntax.specs.Forms.{row, greatest}
 

@@ -5,7 +5,7 @@ use Rattle.std.specs.declared.option.Option.TheVariants.{Some, None}
 use Rattle.pipe_model.specs.declared.kind.Kind.{Kind}
 use Rattle.pipe_model.specs.declared.kind.Kind.TheVariants as Kinds
 use Rattle.pipe_model.specs.declared.kind.Times.{Times}
-use Rattle.pipe_model.specs.declared.kind.Times.TheVariants.{Only, All}
+use Rattle.pipe_model.specs.declared.kind.Times.TheVariants.{Only}
 use Rattle.pipe_model.specs.declared.range.Range.{Range}
 use Rattle.pipe_model.specs.Straight.{all_columns}
 use Rattle.stage_syntax.specs.declared.part.Part.{Part}
@@ -13,7 +13,7 @@ use Rattle.stage_syntax.specs.declared.part.Part.TheVariants as Asked
 use Rattle.stage_syntax.specs.declared.part.Value.{Value}
 use Rattle.stage_syntax.specs.declared.part.Value.TheVariants as Read
 use Rattle.stage_syntax.specs.declared.part.Word.TheVariants.{First, Last}
-use Rattle.stage_syntax.specs.Rows.{Row, Arguments}
+use Rattle.stage_syntax.specs.Rows.{Arguments}
 use Rattle.stage_syntax.specs.Rows.Arguments.{OfText, OfParts}
 use Rattle.stage_syntax.specs.Forms.{row, of_text}
 

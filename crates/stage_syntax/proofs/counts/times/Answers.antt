@@ -1,4 +1,4 @@
-use Rattle.std.proofs.Common.{◌≡◌, ℕ, List, [], ◌∷◌, arith}
+use Rattle.std.proofs.Common.{[], ◌∷◌, arith}
 use Rattle.stage_syntax.proofs.FirstWords.{same_word}
 use Rattle.stage_syntax.proofs.counts.times.Goals as goal
 

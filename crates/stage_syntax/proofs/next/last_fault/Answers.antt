@@ -1,4 +1,4 @@
-use Rattle.std.proofs.Common.{◌∙◌, ap}
+use Rattle.std.proofs.Common.{◌∙◌}
 use Rattle.stage_syntax.proofs.Choices.{last_gives}
 use Rattle.stage_syntax.proofs.next.last_fault.Goals as goal
 

@@ -1,4 +1,4 @@
-use Rattle.std.proofs.Common.{◌≡◌, ◌-◌, ◌∷◌, ◌++◌, length, take, drop, sym, ap, ◌∙◌, arith, rules, option_map, []}
+use Rattle.std.proofs.Common.{◌≡◌, ◌-◌, ◌∷◌, ◌++◌, length, take, drop, ap, ◌∙◌, arith, rules, option_map, []}
 use Rattle.pipe_model.specs.declared.keys.SortKey.{SortKey}
 use Rattle.std.specs.Prelude.{List}
 use Rattle.stage_syntax.proofs.OrderLists.{front_value, keys_joined}

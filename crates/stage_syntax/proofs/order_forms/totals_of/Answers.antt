@@ -1,6 +1,6 @@
-use Rattle.std.proofs.Common.{◌≡◌, get_or, ap, arith, sym, ◌∙◌, Some}
+use Rattle.std.proofs.Common.{ap, arith, sym, ◌∙◌}
 use Rattle.stage_syntax.proofs.OrderLists.{no_totals, totals_more}
-use Rattle.stage_syntax.specs.OrderForms.{total_of, totals_of}
+use Rattle.stage_syntax.specs.OrderForms.{total_of}
 use Rattle.stage_syntax.proofs.order_forms.totals_of.Goals as goal
 
 pub returns-in_default : goal.returns-in_default

@@ -1,13 +1,12 @@
-use Rattle.std.proofs.Common.{◌≡◌, ◌<◌, List, [], ◌∷◌, ◌++◌, length, drop, sym, ap, ◌∙◌, subst, None, Some, arith, rules}
+use Rattle.std.proofs.Common.{◌≡◌, List, [], ◌∷◌, ◌++◌, length, drop, sym, ap, ◌∙◌, subst, arith, rules}
 use Rattle.std.proofs.lemmas.Result.{err_from_is_err_and}
 use Rattle.pipe_model.proofs.Cuts.{tail_of}
 use Rattle.stage_syntax.proofs.Consumed.{next_takes}
-use Rattle.stage_syntax.proofs.RowSteps.{lacks_at_end, left_after, made_at_end, one_more, stops_there, wrong_there}
+use Rattle.stage_syntax.proofs.RowSteps.{lacks_at_end, made_at_end, one_more, stops_there, wrong_there}
 use Rattle.stage_syntax.specs.Parts.{IsNext, IsNoNext}
 use Rattle.stage_syntax.specs.Refusals.{Refuses}
 use Rattle.stage_syntax.specs.StageForms.{arguments_by, row_in}
 use Rattle.stage_syntax.specs.declared.part.Part.{Part}
-use Rattle.stage_syntax.specs.declared.part.Value.{Value}
 use Rattle.stage_syntax.proofs.rows.read_parts.Goals as goal
 
 pub returns-in_err-value-clause-refused : goal.returns-in_err-value-clause-refused

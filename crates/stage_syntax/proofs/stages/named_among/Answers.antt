@@ -1,4 +1,4 @@
-use Rattle.std.proofs.Common.{◌≡◌, ◌∙◌, true, false, arith}
+use Rattle.std.proofs.Common.{◌∙◌, arith}
 use Rattle.stage_syntax.proofs.StageNames.{found_here, not_named_here, not_running_here}
 use Rattle.stage_syntax.proofs.stages.named_among.Goals as goal
 use Rattle.stage_syntax.proofs.stages.named_among.Goals.{else-runs-via-then-runs+else-is_same, else-runs-via-else-runs}

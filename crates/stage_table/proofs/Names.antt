@@ -1,0 +1,20 @@
+-- Every kind whose stage's name is known is built in.
+use Rattle.std.proofs.Common.{◌≡◌, Bool, true, false, refl}
+use Rattle.std.specs.Prelude.{is_some}
+use Rattle.pipe_model.specs.declared.kind.Kind.{Kind}
+use Rattle.pipe_model.specs.declared.kind.Kind.TheVariants as Kinds
+use Rattle.pipe_model.specs.Table.{line_of}
+use Rattle.stage_syntax.specs.Names.{arguments_of}
+use Rattle.stage_table.specs.BuiltIn.{is_built_in}
+
+pub known_is_built : (first : Bool) (kind : Kind) → is_some (arguments_of (line_of kind).name first) ≡ true → is_built_in kind ≡ true
+known_is_built first (Kinds.ConsoleIn bytes) is = refl
+known_is_built first Kinds.ConsoleOut is = refl
+known_is_built first (Kinds.Literal text) is = refl
+known_is_built first Kinds.Hole is = refl
+known_is_built first (Kinds.Locate range text) is = refl
+known_is_built first (Kinds.Nlocate range text) is = refl
+known_is_built first Kinds.Reverse is = refl
+known_is_built first (Kinds.Duplicate times) is = refl
+known_is_built first Kinds.Copy is = refl
+known_is_built first _ is = cc
