@@ -3,20 +3,24 @@ use Rattle.std.specs.Prelude.{Bool, true, false, List, reverse}
 use Rattle.pipe_model.specs.declared.net.Strand.{Strand}
 use Rattle.pipe_model.specs.declared.kind.Kind.{Kind}
 use Rattle.pipe_model.specs.declared.kind.Kind.TheVariants as Kinds
+use Rattle.pipe_model.specs.EditingRows.{stripped}
 use Rattle.pipe_model.specs.Event.{Event}
 use Rattle.stage_steps.specs.Drivers.{ListedStands}
 use Rattle.edit_stages.specs.declared.edit.EditStage.{EditStage}
-use Rattle.edit_stages.specs.declared.edit.EditStage.TheVariants.{Duplicate, Reverse}
+use Rattle.edit_stages.specs.declared.edit.EditStage.TheVariants.{Duplicate, Reverse, Strip}
 use Rattle.edit_stages.specs.declared.reverse.Reverses.{Reverses}
+use Rattle.edit_stages.specs.declared.strip.Strips.{Strips}
 use Rattle.edit_stages.specs.EditLists.{DuplicatesStand, duplicates_look, EditedStand, edited_look}
 
 -- the kind is one of Editing
 abbrev pub is_edit : Kind → Bool
 is_edit (Kinds.Duplicate copies) = true
 is_edit Kinds.Reverse = true
+is_edit (Kinds.Strip leading trailing set) = true
 is_edit _ = false
 
 -- the stage stands for this history of this strand
 abbrev pub EditStands : EditStage → Strand → List Event → Type 0
 EditStands (Duplicate x) s h = ListedStands DuplicatesStand duplicates_look x s h
 EditStands (Reverse x) s h = ListedStands (EditedStand (λ (edits : Reverses). reverse)) edited_look x s h
+EditStands (Strip x) s h = ListedStands (EditedStand (λ (edits : Strips). stripped edits.leading edits.trailing edits.set)) edited_look x s h

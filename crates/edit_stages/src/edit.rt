@@ -4,6 +4,7 @@ ghost use Rattle.edit_stages.specs.Edit.{is_edit};
 use crate::duplicate::Duplicates;
 use crate::edits::Edited;
 use crate::reverse::Reverses;
+use crate::strip::Strips;
 use pipe_model::{Kind, NoMemory, Seen, Strand, Want};
 use stage_steps::{Listed, Stage};
 use std::alloc::Global;
@@ -13,13 +14,14 @@ use std::alloc::Global;
 pub enum EditStage {
     Duplicate(Listed<Duplicates>),
     Reverse(Listed<Edited<Reverses>>),
+    Strip(Listed<Edited<Strips>>),
 }
 
 /// Whether the kind is one of Editing.
 pub fn is_edit(kind: &Kind) -> bool
     ensures { result ≡ is_edit kind.now }
 {
-    matches!(kind, Kind::Duplicate(_) | Kind::Reverse)
+    matches!(kind, Kind::Duplicate(_) | Kind::Reverse | Kind::Strip { .. })
 }
 
 impl EditStage {
@@ -37,6 +39,14 @@ impl EditStage {
                 alloc, *copies, outputs,
             )?)),
             Kind::Reverse => Ok(EditStage::Reverse(Edited::stage(alloc, Reverses, outputs)?)),
+            Kind::Strip {
+                leading,
+                trailing,
+                set,
+            } => {
+                let strips = Strips::new(alloc, *leading, *trailing, set)?;
+                Ok(EditStage::Strip(Edited::stage(alloc, strips, outputs)?))
+            }
             _ => unreachable!(),
         }
     }
@@ -53,6 +63,7 @@ impl Stage for EditStage {
         match self {
             EditStage::Duplicate(stage) => stage.first(),
             EditStage::Reverse(stage) => stage.first(),
+            EditStage::Strip(stage) => stage.first(),
         }
     }
 
@@ -63,6 +74,7 @@ impl Stage for EditStage {
         match self {
             EditStage::Duplicate(stage) => stage.resume(alloc, seen, bytes),
             EditStage::Reverse(stage) => stage.resume(alloc, seen, bytes),
+            EditStage::Strip(stage) => stage.resume(alloc, seen, bytes),
         }
     }
 
@@ -70,6 +82,7 @@ impl Stage for EditStage {
         match self {
             EditStage::Duplicate(stage) => stage.looks(),
             EditStage::Reverse(stage) => stage.looks(),
+            EditStage::Strip(stage) => stage.looks(),
         }
     }
 
@@ -77,6 +90,7 @@ impl Stage for EditStage {
         match self {
             EditStage::Duplicate(stage) => stage.kept(),
             EditStage::Reverse(stage) => stage.kept(),
+            EditStage::Strip(stage) => stage.kept(),
         }
     }
 }

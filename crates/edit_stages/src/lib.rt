@@ -6,6 +6,7 @@ mod edit;
 mod edits;
 mod laws;
 mod reverse;
+mod strip;
 
 pub use edit::{EditStage, is_edit};
 pub use laws::lists;

@@ -1,7 +1,8 @@
 use crate::duplicate::Duplicates;
 use crate::edits::Edits;
 use crate::reverse::Reverses;
-use pipe_model::{Out, Seen, Times, Want};
+use crate::strip::Strips;
+use pipe_model::{Out, Rec, Seen, Times, Want};
 use stage_steps::Stage;
 use std::alloc::{AllocError, Global};
 use std::process::Abort;
@@ -78,6 +79,27 @@ fn bytes_are_reversed(rt: HostRuntime) -> Result<(), Fail> {
     for (rec, reversed) in rows {
         let made = Reverses.edit(rt.alloc(), rec)?;
         assert_eq!(rt; made.bytes(), reversed, "of {rec:?}");
+    }
+    Ok(())
+}
+
+#[test]
+fn ends_are_stripped(rt: HostRuntime) -> Result<(), Fail> {
+    let alloc = rt.alloc();
+    let rows: [(bool, bool, &[u8], &[u8], &[u8]); 7] = [
+        (true, true, b" ", b"  a b ", b"a b"),
+        (true, false, b" ", b"  a b ", b"a b "),
+        (false, true, b" ", b"  a b ", b"  a b"),
+        (true, true, b"xy", b"yxaxbyx", b"axb"),
+        (true, true, b"xy", b"xyx", b""),
+        (true, true, b"x", b"", b""),
+        (false, false, b"x", b"xax", b"xax"),
+    ];
+    for (leading, trailing, set, rec, stripped) in rows {
+        let set = Rec::from_slice(alloc, set)?;
+        let strips = Strips::new(alloc, leading, trailing, &set)?;
+        let made = strips.edit(alloc, rec)?;
+        assert_eq!(rt; made.bytes(), stripped, "of {rec:?}");
     }
     Ok(())
 }

@@ -50,7 +50,7 @@ fed : (first : Bool) (n : ℕ) → (nat_lt 0 n || first) ≡ true → first ≡ 
 fed first zero is later = cc
 fed first (suc n) is later = omega arith
 
-both : (a b : Bool) → (a && b) ≡ true → (a ≡ true) × (b ≡ true)
+pub both : (a b : Bool) → (a && b) ≡ true → (a ≡ true) × (b ≡ true)
 both true b is = (refl, is)
 both false b is = cc
 

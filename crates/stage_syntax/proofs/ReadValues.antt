@@ -1,7 +1,7 @@
 -- What is read of an argument is as the table wants it: a range is proper, a string isn't empty, a number is within its limits.
-use Rattle.std.proofs.Common.{◌≡◌, ◌⊎◌, inl, inr, ℕ, ◌+◌, ◌≤◌, ◌<◌, true, List, [], ◌∷◌, ◌++◌, length, refl, sym, ◌∙◌, ap, subst, arith, append-nil, append_assoc, Option, Some, le-leb, false, ne_eqb, length-append}
+use Rattle.std.proofs.Common.{◌≡◌, ◌⊎◌, inl, inr, ℕ, ◌+◌, ◌≤◌, ◌<◌, Bool, true, List, [], ◌∷◌, ◌++◌, length, refl, sym, ◌∙◌, ap, subst, arith, append-nil, append_assoc, Option, Some, le-leb, false, ne_eqb, length-append}
 use Rattle.std.specs.Prelude.{⊤}
-use Rattle.std.specs.List.{Contains}
+use Rattle.std.specs.List.{Contains, list_all}
 use Rattle.std.proofs.lemmas.List.Elements.{Contains-append_right}
 use Rattle.hex.proofs.HexLemmas.{decode_of-ok}
 use Rattle.std.specs.Int.{is_in_range}
@@ -20,6 +20,7 @@ use Rattle.stage_syntax.specs.declared.part.Value.TheVariants as Read
 use Rattle.stage_syntax.specs.declared.ranges.Ending.{Ending}
 use Rattle.stage_syntax.specs.declared.ranges.Ending.TheVariants.{Alone, To, Open, Long}
 use Rattle.stage_syntax.specs.declared.ranges.Spelling.{Spelling}
+use Rattle.stage_syntax.proofs.PlainLines.{both}
 use Rattle.stage_syntax.specs.Bounds.{Fits, IsLast, IsRangeOf}
 use Rattle.stage_syntax.specs.PlainRanges.{IsPlainRange}
 use Rattle.stage_syntax.proofs.Consumed.{first_takes}
@@ -137,15 +138,29 @@ range_of_one [] range is = absurd is
 range_of_one (part ∷ parts) range (inl is) = range_of_part part range is
 range_of_one (part ∷ parts) range (inr is) = range_of_one parts range is
 
--- a string isn't empty where no other may stand
-pub string_of_string : (string : List ℕ) → IsOfOne (Asked.String ∷ []) (Read.String string) → is_filled string ≡ true
-string_of_string string (inl is) = let value = is.1 in let same : is.0 ≡ string = cc in subst (λ (string : List ℕ). is_filled string ≡ true) same is.2
-string_of_string string (inr is) = absurd is
+-- a string that the part gives isn't empty
+abbrev pub fills : Part → Bool
+fills Asked.AnyString = false
+fills Asked.Name = false
+fills _ = true
 
--- nor where a range may stand
-pub string_or_range : (string : List ℕ) → IsOfOne (Asked.Range ∷ (Asked.String ∷ [])) (Read.String string) → is_filled string ≡ true
-string_or_range string (inl is) = let value = is.1 in cc
-string_or_range string (inr is) = string_of_string string is
+string_of_part : (part : Part) (string : List ℕ) → fills part ≡ true → IsValueOf part (Read.String string) → is_filled string ≡ true
+string_of_part Asked.Range string fill is = let value = is.1 in cc
+string_of_part Asked.Columns string fill is = let value = is.1 in cc
+string_of_part Asked.String string fill is = let value = is.1 in let same : is.0 ≡ string = cc in subst (λ (string : List ℕ). is_filled string ≡ true) same is.2
+string_of_part Asked.AnyString string fill is = cc
+string_of_part Asked.Strings string fill is = let value = is.2 in cc
+string_of_part Asked.Byte string fill is = let value = is.1 in cc
+string_of_part (Asked.Number least most) string fill is = let value = is.1 in cc
+string_of_part Asked.Times string fill is = let value = is.1 in cc
+string_of_part (Asked.Word key) string fill is = cc
+string_of_part Asked.Name string fill is = cc
+
+-- nor is one of several such parts
+pub string_of_one : (parts : List Part) (string : List ℕ) → list_all fills parts ≡ true → IsOfOne parts (Read.String string) → is_filled string ≡ true
+string_of_one [] string fill is = absurd is
+string_of_one (part ∷ parts) string fill (inl is) = string_of_part part string (both (fills part) (list_all fills parts) fill).0 is
+string_of_one (part ∷ parts) string fill (inr is) = string_of_one parts string (both (fills part) (list_all fills parts) fill).1 is
 
 -- a count is one that can be named
 pub count_of_times : (times : Times) → IsOfOne (Asked.Times ∷ []) (Read.Times times) → is_count times ≡ true

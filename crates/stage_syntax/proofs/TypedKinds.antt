@@ -12,9 +12,10 @@ use Rattle.pipe_model.specs.Proper.{is_count, is_filled, is_locate, is_range}
 use Rattle.pipe_model.specs.Straight.{all_columns}
 use Rattle.pipe_model.specs.Table.{line_of}
 use Rattle.stage_syntax.proofs.PlainLines.{IsPlain, is_plain, plain_line}
-use Rattle.stage_syntax.proofs.ReadValues.{AreOfRow, count_of_times, made_of_row, range_of_one, string_of_string, string_or_range}
+use Rattle.stage_syntax.proofs.ReadValues.{AreOfRow, count_of_times, made_of_row, range_of_one, string_of_one}
 use Rattle.stage_syntax.specs.Arg.{ArgText}
 use Rattle.stage_syntax.specs.DeviceForms.{literal_of}
+use Rattle.stage_syntax.specs.EditingForms.{before_strip, blank, of_strip}
 use Rattle.stage_syntax.specs.Forms.{row, none_next, before_times, of_times}
 use Rattle.stage_syntax.specs.Kinds.{IsKind}
 use Rattle.stage_syntax.specs.Names.{Named, arguments_of, named_in, stages}
@@ -22,6 +23,7 @@ use Rattle.stage_syntax.specs.Rows.{Arguments, Makes, Reads, Row, text_in}
 use Rattle.stage_syntax.specs.SelectionForms.{before_locate, of_locate}
 use Rattle.stage_syntax.specs.declared.part.Value.{Value}
 use Rattle.stage_syntax.specs.declared.part.Value.TheVariants as Read
+use Rattle.stage_syntax.specs.declared.part.Word.TheVariants.{Both, Leading, Trailing}
 
 -- what is known of a kind that was read
 pub record IsTyped (first : Bool) (kind : Kind) : Type 0 where
@@ -90,10 +92,24 @@ module _ (first : Bool) where
       → (values : List Value) → AreOfRow (row before_locate (of_locate kind)) [] values → IfSome (of_locate kind values) (IsTyped first)
   located kind each [] are = tt
   located kind each (Read.Range range ∷ []) are = each range None (range_of_one (before_locate []) range are.0)
-  located kind each (Read.String string ∷ []) are = each all_columns (Some string) (found all_columns (Some string) refl (string_or_range string are.0))
+  located kind each (Read.String string ∷ []) are = each all_columns (Some string) (found all_columns (Some string) refl (string_of_one (before_locate []) string refl are.0))
   located kind each (Read.Range range ∷ (Read.String string ∷ [])) are =
-      each range (Some string) (found range (Some string) (range_of_one (before_locate []) range are.0) (string_of_string string are.1.0))
+      each range (Some string) (found range (Some string) (range_of_one (before_locate []) range are.0) (string_of_one (before_locate (Read.Range range ∷ [])) string refl are.1.0))
   located kind each _ are = tt
+
+  strip_known : (leading trailing : Bool) (set : List ℕ) → is_filled set ≡ true → IsTyped first (Kinds.Strip leading trailing set)
+  strip_known leading trailing set filled = known first (Kinds.Strip leading trailing set) refl refl filled
+
+  stripping : (values : List Value) → AreOfRow (row before_strip of_strip) [] values → IfSome (of_strip values) (IsTyped first)
+  stripping [] are = strip_known true true blank refl
+  stripping (Read.String set ∷ []) are = strip_known true true set (string_of_one (before_strip []) set refl are.0)
+  stripping (Read.Word Both ∷ []) are = strip_known true true blank refl
+  stripping (Read.Word Leading ∷ []) are = strip_known true false blank refl
+  stripping (Read.Word Trailing ∷ []) are = strip_known false true blank refl
+  stripping (Read.Word Both ∷ (Read.String set ∷ [])) are = strip_known true true set (string_of_one (before_strip (Read.Word Both ∷ [])) set refl are.1.0)
+  stripping (Read.Word Leading ∷ (Read.String set ∷ [])) are = strip_known true false set (string_of_one (before_strip (Read.Word Leading ∷ [])) set refl are.1.0)
+  stripping (Read.Word Trailing ∷ (Read.String set ∷ [])) are = strip_known false true set (string_of_one (before_strip (Read.Word Trailing ∷ [])) set refl are.1.0)
+  stripping _ are = tt
 
   literal_typed : (text : Option (List ℕ)) → IfSome (literal_of text) (IsTyped first)
   literal_typed None = known first (Kinds.Literal []) refl refl refl
@@ -117,10 +133,13 @@ rows_typed first = (
         (
           of_parts first _ (located first Kinds.Nlocate (λ range text proper. known first (Kinds.Nlocate range text) refl refl proper)),
           (
+            of_parts first _ (stripping first),
+            (
             of_parts first _ (alone first Kinds.Reverse (known first Kinds.Reverse refl refl refl)),
             (
               of_parts first _ (counted first Kinds.Duplicate (λ times proper. known first (Kinds.Duplicate times) refl refl proper)),
               (of_parts first _ (alone first Kinds.Copy (known first Kinds.Copy refl refl refl)), tt),
+            ),
             ),
           ),
         ),

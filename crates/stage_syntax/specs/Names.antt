@@ -60,7 +60,7 @@ stages first =
     ∷ (coming (codes "tolabel") to_label
     ∷ (coming (codes "frlabel") fr_label
     ∷ (coming (codes "change") change
-    ∷ (coming (codes "strip") strip
+    ∷ (running (codes "strip") strip
     ∷ (coming (codes "chop") chop
     ∷ (coming (codes "pad") pad
     ∷ (coming (codes "split") split

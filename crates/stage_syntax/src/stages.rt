@@ -23,7 +23,7 @@ pub const STAGES: [(&[u8], bool, Form); 47] = [
     (b"tolabel", false, Form::ToLabel),
     (b"frlabel", false, Form::FrLabel),
     (b"change", false, Form::Change),
-    (b"strip", false, Form::Strip),
+    (b"strip", true, Form::Strip),
     (b"chop", false, Form::Chop),
     (b"pad", false, Form::Pad),
     (b"split", false, Form::Split),

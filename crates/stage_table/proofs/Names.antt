@@ -14,6 +14,7 @@ known_is_built first (Kinds.Literal text) is = refl
 known_is_built first Kinds.Hole is = refl
 known_is_built first (Kinds.Locate range text) is = refl
 known_is_built first (Kinds.Nlocate range text) is = refl
+known_is_built first (Kinds.Strip leading trailing set) is = refl
 known_is_built first Kinds.Reverse is = refl
 known_is_built first (Kinds.Duplicate times) is = refl
 known_is_built first Kinds.Copy is = refl
