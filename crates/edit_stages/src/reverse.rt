@@ -13,7 +13,8 @@ impl Edits for Reverses {
 
     #[inline(always)]
     fn edit(&self, alloc: Global, rec: &[u8]) -> Result<Rec, NoMemory> {
-        let bytes: Vec<u8> = rec.iter().rev().copied().collect(alloc)?;
+        let mut bytes = Vec::from_slice(alloc, rec)?;
+        bytes.reverse();
         Ok(Rec::from_vec(bytes))
     }
 }

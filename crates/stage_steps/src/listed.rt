@@ -62,8 +62,8 @@ impl<L: Lists> Stage for Listed<L> {
     {
         note_kept(&mut self.walk.kept, seen, bytes)?;
         self.walk.outputs.note(seen);
-        self.walk.place = hear(&mut self.lists, &self.walk, alloc, seen, bytes)?;
-        ask(&mut self.lists, &mut self.walk, alloc)
+        let place = hear(&mut self.lists, &self.walk, alloc, seen, bytes)?;
+        ask(&mut self.lists, &mut self.walk, place, alloc)
     }
 
     fn looks(&self) -> bool {

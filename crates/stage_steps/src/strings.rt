@@ -1,5 +1,5 @@
 ghost use Rattle.std.specs.Prelude.{◌≡◌, ◌<◌, length};
-ghost use Rattle.bstr.specs.Find.{FindsNeedle};
+ghost use Rattle.bstr.specs.Find.{FindsNeedle, IsFirstByte, is_byte};
 
 use bstr::ByteSlice;
 use pipe_model::Rec;
@@ -94,13 +94,49 @@ fn rarest(text: &[u8]) -> usize
     rare
 }
 
+/// A part shorter than this is looked along four bytes at a time. The library looks along such a one byte by byte.
+const SHORT: usize = 32;
+
+// The first place of a byte in a part.
+#[inline(always)]
+fn place_of(part: &[u8], byte: u8) -> Option<usize>
+    ensures { IsFirstByte (is_byte byte) part.now result }
+{
+    if part.len() < SHORT {
+        place_near(part, byte)
+    } else {
+        part.find_byte(byte)
+    }
+}
+
+// The same in a short part.
+fn place_near(part: &[u8], byte: u8) -> Option<usize>
+    ensures { IsFirstByte (is_byte byte) part.now result }
+{
+    let mut at = 0;
+    while at + 4 <= part.len() {
+        let four = &part[at..at + 4];
+        if four[0] == byte || four[1] == byte || four[2] == byte || four[3] == byte {
+            break;
+        }
+        at += 4;
+    }
+    while at < part.len() {
+        if part[at] == byte {
+            return Some(at);
+        }
+        at += 1;
+    }
+    None
+}
+
 // The same for a string of one byte, which isn't compared again.
 #[inline(always)]
 fn find_byte(part: &[u8], text: &[u8]) -> Option<usize>
     requires { length text.now ≡ 1 }
     ensures { FindsNeedle part.now text.now 0 result }
 {
-    part.find_byte(text[0])
+    place_of(part, text[0])
 }
 
 // The same by its byte at a place: where the string stands, that byte stands so far behind.
@@ -112,7 +148,7 @@ fn find_by_byte(part: &[u8], text: &[u8], rare: usize) -> Option<usize>
     let mut from = 0;
     while from + rare < part.len() {
         let rest = &part[from + rare..];
-        match rest.find_byte(byte) {
+        match place_of(rest, byte) {
             None => return None,
             Some(ahead) => {
                 let place = from + ahead;

@@ -171,6 +171,10 @@ fn fetch<L: Lists>(
     ensures hand { IfOk result (λ _. hand.new ≡ None) }
     ensures fetches { IfOk result (λ given. Fetches L.stands L.made outputs.now.flags.items lists.old hand.old lists.new given) }
 {
+    // Most often nothing is in hand.
+    if hand.is_none() {
+        return next_group(lists, outputs, alloc);
+    }
     match hand.take() {
         Some(repeat) => if outputs.takes(Group::AtHand(repeat)) {
             Ok(Some(Group::AtHand(repeat)))
@@ -225,7 +229,9 @@ fn write<L: Lists>(
 {
     match group {
         Group::AtHand(repeat) => {
-            *hand = less_one(repeat);
+            if let Some(left) = less_one(repeat) {
+                *hand = Some(left);
+            }
             Ok(Want::Write(repeat.output, Out::Same(0)))
         }
         Group::New(output) => {
@@ -243,13 +249,15 @@ fn ask_writing<L: Lists>(
     follow: Follow,
     alloc: Global,
 ) -> Result<Want, NoMemory>
-    requires { walk.old.place ≡ Writing follow }
     ensures looks_same { L.is_looking lists.new ≡ L.is_looking lists.old }
     ensures others { walk.new ≡ record walk.old { place = walk.new.place; hand = walk.new.hand } }
     ensures asks { IfOk result (λ asked. Asks L.stands L.made walk.old.outputs.flags.items lists.old walk.old.hand (Writing follow) lists.new walk.new.hand walk.new.place asked) }
 {
     match fetch(lists, &mut walk.hand, &walk.outputs, alloc)? {
-        Some(group) => write(lists, &mut walk.hand, group, alloc),
+        Some(group) => {
+            walk.place = Place::Writing(follow);
+            write(lists, &mut walk.hand, group, alloc)
+        }
         None => {
             walk.place = place_behind(lists, follow);
             Ok(want_at(walk.place))
@@ -257,15 +265,23 @@ fn ask_writing<L: Lists>(
     }
 }
 
-// What it asks for where it stands.
+// What it asks for in a place. It stands there then, or where that leads to.
 #[inline(always)]
-pub(crate) fn ask<L: Lists>(lists: &mut L, walk: &mut Walk, alloc: Global) -> Result<Want, NoMemory>
+pub(crate) fn ask<L: Lists>(
+    lists: &mut L,
+    walk: &mut Walk,
+    place: Place,
+    alloc: Global,
+) -> Result<Want, NoMemory>
     ensures looks_same { L.is_looking lists.new ≡ L.is_looking lists.old }
     ensures others { walk.new ≡ record walk.old { place = walk.new.place; hand = walk.new.hand } }
-    ensures asks { IfOk result (λ asked. Asks L.stands L.made walk.old.outputs.flags.items lists.old walk.old.hand walk.old.place lists.new walk.new.hand walk.new.place asked) }
+    ensures asks { IfOk result (λ asked. Asks L.stands L.made walk.old.outputs.flags.items lists.old walk.old.hand place lists.new walk.new.hand walk.new.place asked) }
 {
-    match walk.place {
+    match place {
         Place::Writing(follow) => ask_writing(lists, walk, follow, alloc),
-        place => Ok(want_at(place)),
+        _ => {
+            walk.place = place;
+            Ok(want_at(place))
+        }
     }
 }
