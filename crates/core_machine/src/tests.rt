@@ -3,6 +3,7 @@ ghost use Rattle.pipe_model.specs.declared.kind.Kind.TheVariants.{ConsoleIn, Con
 ghost use Rattle.confluence_laws.specs.Examples.{strand, passing, link};
 ghost use Rattle.core_machine.specs.Machine.{started};
 ghost use Rattle.stage_steps.specs.Drivers.{IsStageOf};
+ghost use Rattle.stage_steps.specs.Each.{EachStand, each_look};
 ghost use Rattle.stage_steps.specs.SharedLists.{LinesStand, lines_look, CopiesStand, copies_look};
 
 use crate::{Core, Ready, RunEnd, Turned};
@@ -11,7 +12,7 @@ use pipe_model::{
     Entry, Flags, Kind, Link, Links, Net, NoMemory, Ports, Rec, Seen, StageName, Strand, Strands,
     Want,
 };
-use stage_steps::{Copies, Listed, Order, Stage, TextLines};
+use stage_steps::{Copies, Each, Listed, Order, Stage, TextLines};
 use std::alloc::Global;
 use std::test::Fail;
 
@@ -49,15 +50,16 @@ fn all_strands_are_put_in(rt: HostRuntime) -> Result<(), Fail> {
 #[derive(Drop)]
 enum Console {
     Reads(Listed<TextLines>),
-    Writes(Listed<Copies>),
+    Writes(Listed<Each<Copies>>),
 }
 
 impl Stage for Console {
     ghost use Rattle.core_machine.specs.declared.tests.Console.TheVariants.{Reads, Writes};
     ghost use Rattle.stage_steps.specs.Drivers.{ListedStands};
+    ghost use Rattle.stage_steps.specs.Each.{EachStand, each_look};
     ghost use Rattle.stage_steps.specs.SharedLists.{LinesStand, lines_look, CopiesStand, copies_look};
 
-    ghost stands = { λ x s h. elim x [ Reads lines ↦ ListedStands LinesStand lines_look lines s h | Writes copies ↦ ListedStands CopiesStand copies_look copies s h ] };
+    ghost stands = { λ x s h. elim x [ Reads lines ↦ ListedStands LinesStand lines_look lines s h | Writes copies ↦ ListedStands (EachStand CopiesStand) (each_look copies_look) copies s h ] };
 
     fn first(&self) -> Want {
         match self {
@@ -97,10 +99,10 @@ fn reading(alloc: Global, bytes: &[u8]) -> Result<Listed<TextLines>, NoMemory>
 }
 
 // The stage of a CONSOLE that isn't first, before its first event, with its output connected or not.
-fn writing(alloc: Global, is_linked: bool) -> Result<Listed<Copies>, NoMemory>
-    ensures { IfOk result (IsStageOf CopiesStand copies_look ConsoleOut (is_linked ∷ [])) }
+fn writing(alloc: Global, is_linked: bool) -> Result<Listed<Each<Copies>>, NoMemory>
+    ensures { IfOk result (IsStageOf (EachStand CopiesStand) (each_look copies_look) ConsoleOut (is_linked ∷ [])) }
 {
-    let copies = Copies::new(true);
+    let copies = Copies::lists(true);
     Listed::new(alloc, copies, Order::WritesFirst, &[is_linked], true)
 }
 

@@ -5,6 +5,7 @@ use Rattle.pipe_model.specs.declared.kind.Kind.{Kind}
 use Rattle.pipe_model.specs.declared.kind.Kind.TheVariants.{ConsoleIn, ConsoleOut, Literal, Hole}
 use Rattle.pipe_model.specs.Event.{Event}
 use Rattle.stage_steps.specs.Drivers.{ListedStands}
+use Rattle.stage_steps.specs.Each.{EachStand, each_look}
 use Rattle.stage_steps.specs.SharedLists.{LinesStand, lines_look, CopiesStand, copies_look}
 use Rattle.device_stages.specs.declared.device.DeviceStage.{DeviceStage}
 use Rattle.device_stages.specs.declared.device.DeviceStage.TheVariants as Stages
@@ -21,6 +22,6 @@ is_device _ = false
 -- the stage stands for this history of this strand
 abbrev pub DeviceStands : DeviceStage → Strand → List Event → Type 0
 DeviceStands (Stages.Source x) s h = ListedStands LinesStand lines_look x s h
-DeviceStands (Stages.Console x) s h = ListedStands CopiesStand copies_look x s h
+DeviceStands (Stages.Console x) s h = ListedStands (EachStand CopiesStand) (each_look copies_look) x s h
 DeviceStands (Stages.Literal x) s h = ListedStands LiteralsStand literals_look x s h
-DeviceStands (Stages.Hole x) s h = ListedStands HolesStand holes_look x s h
+DeviceStands (Stages.Hole x) s h = ListedStands (EachStand HolesStand) (each_look holes_look) x s h

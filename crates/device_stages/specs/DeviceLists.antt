@@ -3,7 +3,7 @@ use Rattle.std.specs.Prelude.{◌≡◌, ℕ, Bool, false, List, [], ◌∷◌}
 use Rattle.pipe_model.specs.DeviceRows.{literal, hole}
 use Rattle.pipe_model.specs.Row.{Act}
 use Rattle.pipe_model.specs.Row.Act.{Writes}
-use Rattle.pipe_model.specs.Shape.{Records, Stream, at_hand_of}
+use Rattle.pipe_model.specs.Shape.{Records, Outs, Stream, at_hand_of}
 use Rattle.device_stages.specs.declared.hole.Holes.{Holes}
 use Rattle.device_stages.specs.declared.literal.Due.{Due}
 use Rattle.device_stages.specs.declared.literal.Due.TheVariants.{Nothing, Text, AtHand}
@@ -29,8 +29,8 @@ abbrev pub literals_look : Literals → Bool
 literals_look x = false
 
 -- nothing for any record
-abbrev pub HolesStand : Holes → Stream → Records → List Act → Type 0
-HolesStand x t recs acts = (t ≡ hole) × (acts ≡ [])
+abbrev pub HolesStand : Holes → Outs → Records → List Act → Type 0
+HolesStand x outs recs acts = (outs ≡ hole.outs) × (acts ≡ [])
 
 -- HOLE doesn't look at records
 abbrev pub holes_look : Holes → Bool

@@ -3,7 +3,7 @@ use crate::hole::Holes;
 use crate::literal::Literals;
 use crate::source::source;
 use pipe_model::{Kind, NoMemory, Seen, Strand, Want};
-use stage_steps::{Copies, Listed, Stage, TextLines};
+use stage_steps::{Copies, Each, Listed, Stage, TextLines};
 use std::alloc::Global;
 
 /// A stage of a device.
@@ -12,9 +12,9 @@ pub enum DeviceStage {
     /// CONSOLE, first in its pipeline.
     Source(Listed<TextLines>),
     /// CONSOLE, not first in its pipeline.
-    Console(Listed<Copies>),
+    Console(Listed<Each<Copies>>),
     Literal(Listed<Literals>),
-    Hole(Listed<Holes>),
+    Hole(Listed<Each<Holes>>),
 }
 
 impl DeviceStage {

@@ -6,6 +6,7 @@ use Rattle.pipe_model.specs.declared.kind.Kind.TheVariants as Kinds
 use Rattle.pipe_model.specs.EditingRows.{stripped}
 use Rattle.pipe_model.specs.Event.{Event}
 use Rattle.stage_steps.specs.Drivers.{ListedStands}
+use Rattle.stage_steps.specs.Each.{EachStand, each_look}
 use Rattle.edit_stages.specs.declared.edit.EditStage.{EditStage}
 use Rattle.edit_stages.specs.declared.edit.EditStage.TheVariants.{Duplicate, Reverse, Strip}
 use Rattle.edit_stages.specs.declared.reverse.Reverses.{Reverses}
@@ -21,6 +22,6 @@ is_edit _ = false
 
 -- the stage stands for this history of this strand
 abbrev pub EditStands : EditStage → Strand → List Event → Type 0
-EditStands (Duplicate x) s h = ListedStands DuplicatesStand duplicates_look x s h
-EditStands (Reverse x) s h = ListedStands (EditedStand (λ (edits : Reverses). reverse)) edited_look x s h
-EditStands (Strip x) s h = ListedStands (EditedStand (λ (edits : Strips). stripped edits.leading edits.trailing edits.set)) edited_look x s h
+EditStands (Duplicate x) s h = ListedStands (EachStand DuplicatesStand) (each_look duplicates_look) x s h
+EditStands (Reverse x) s h = ListedStands (EachStand (EditedStand (λ (edits : Reverses). reverse))) (each_look edited_look) x s h
+EditStands (Strip x) s h = ListedStands (EachStand (EditedStand (λ (edits : Strips). stripped edits.leading edits.trailing edits.set))) (each_look edited_look) x s h

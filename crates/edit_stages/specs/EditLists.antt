@@ -7,7 +7,8 @@ use Rattle.pipe_model.specs.declared.kind.Times.{Times}
 use Rattle.pipe_model.specs.EditingRows.{edits, duplicate}
 use Rattle.pipe_model.specs.Row.{Act}
 use Rattle.pipe_model.specs.Row.Act.{Writes}
-use Rattle.pipe_model.specs.Shape.{Records, Stream, each_record, at_hand_of}
+use Rattle.pipe_model.specs.Shape.{Records, Outs, each_record, at_hand_of}
+use Rattle.pipe_model.specs.Shape.Outs.{Pairs}
 use Rattle.pipe_model.specs.Table.{line_of, through}
 use Rattle.stage_steps.specs.Group.{acts_by}
 use Rattle.edit_stages.specs.declared.duplicate.Due.{Due}
@@ -32,8 +33,8 @@ new_given true new = None
 new_given false new = Some new
 
 -- what is made of each record on output 0, where it may wait for it
-abbrev pub EditedStand : {E : Type 0} → (E → List ℕ → List ℕ) → Edited E → Stream → Records → List Act → Type 0
-EditedStand made x t recs acts = (t ≡ each_record (edits (made x.edits))) × (acts ≡ new_act x.due x.new)
+abbrev pub EditedStand : {E : Type 0} → (E → List ℕ → List ℕ) → Edited E → Outs → Records → List Act → Type 0
+EditedStand made x outs recs acts = (outs ≡ Pairs (edits (made x.edits))) × (acts ≡ new_act x.due x.new)
 
 -- all of them look at records
 abbrev pub edited_look : {E : Type 0} → Edited E → Bool
@@ -57,8 +58,8 @@ due_count Copies = 1
 due_count All = 2
 
 -- each record so many times, of which some may be left
-abbrev pub DuplicatesStand : Duplicates → Stream → Records → List Act → Type 0
-DuplicatesStand x t recs acts = (t ≡ duplicate x.copies) × (acts ≡ due_acts x.due x.copies (at_hand_of recs))
+abbrev pub DuplicatesStand : Duplicates → Outs → Records → List Act → Type 0
+DuplicatesStand x outs recs acts = (outs ≡ (duplicate x.copies).outs) × (acts ≡ due_acts x.due x.copies (at_hand_of recs))
 
 -- DUPLICATE doesn't look at records
 abbrev pub duplicates_look : Duplicates → Bool

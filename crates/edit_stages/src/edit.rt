@@ -6,22 +6,25 @@ use crate::edits::Edited;
 use crate::reverse::Reverses;
 use crate::strip::Strips;
 use pipe_model::{Kind, NoMemory, Seen, Strand, Want};
-use stage_steps::{Listed, Stage};
+use stage_steps::{Each, Listed, Stage};
 use std::alloc::Global;
 
 /// A stage of Editing.
 #[derive(Drop)]
 pub enum EditStage {
-    Duplicate(Listed<Duplicates>),
-    Reverse(Listed<Edited<Reverses>>),
-    Strip(Listed<Edited<Strips>>),
+    Duplicate(Listed<Each<Duplicates>>),
+    Reverse(Listed<Each<Edited<Reverses>>>),
+    Strip(Listed<Each<Edited<Strips>>>),
 }
 
 /// Whether the kind is one of Editing.
 pub fn is_edit(kind: &Kind) -> bool
     ensures { result ≡ is_edit kind.now }
 {
-    matches!(kind, Kind::Duplicate(_) | Kind::Reverse | Kind::Strip { .. })
+    matches!(
+        kind,
+        Kind::Duplicate(_) | Kind::Reverse | Kind::Strip { .. }
+    )
 }
 
 impl EditStage {

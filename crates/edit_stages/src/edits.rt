@@ -1,7 +1,7 @@
 ghost use Rattle.std.specs.Prelude.{◌≡◌, ℕ, List, IfOk};
 
 use pipe_model::{NoMemory, Rec};
-use stage_steps::{Group, Listed, Lists, Order};
+use stage_steps::{Each, EachRecord, Group, Listed, Order};
 use std::alloc::Global;
 use std::mem;
 
@@ -29,6 +29,7 @@ impl<E: Edits> Edited<E> {
     ghost use Rattle.std.specs.Prelude.{IfOk};
     ghost use Rattle.pipe_model.specs.declared.kind.Kind.{Kind};
     ghost use Rattle.stage_steps.specs.Drivers.{IsStageOf};
+    ghost use Rattle.stage_steps.specs.Each.{EachStand, each_look};
     ghost use Rattle.edit_stages.specs.EditLists.{EditedStand, edited_look, IsEditing};
 
     // The stage of the kinds that make these edits.
@@ -36,19 +37,19 @@ impl<E: Edits> Edited<E> {
         alloc: Global,
         edits: E,
         outputs: &[bool],
-    ) -> Result<Listed<Edited<E>>, NoMemory>
-        ensures { IfOk result (λ stage. (kind : Kind) → IsEditing (E.made edits) kind → IsStageOf (EditedStand E.made) edited_look kind outputs.now stage) }
+    ) -> Result<Listed<Each<Edited<E>>>, NoMemory>
+        ensures { IfOk result (λ stage. (kind : Kind) → IsEditing (E.made edits) kind → IsStageOf (EachStand (EditedStand E.made)) (each_look edited_look) kind outputs.now stage) }
     {
-        let lists = Edited {
+        let each = Edited {
             edits,
             new: Rec::from_vec(Vec::new(alloc)),
             due: false,
         };
-        Listed::new(alloc, lists, Order::WritesFirst, outputs, false)
+        Listed::new(alloc, Each { each }, Order::WritesFirst, outputs, false)
     }
 }
 
-impl<E: Edits> Lists for Edited<E> {
+impl<E: Edits> EachRecord for Edited<E> {
     ghost use Rattle.edit_stages.specs.EditLists.{EditedStand, edited_look, new_given, new_count};
 
     ghost stands = { EditedStand E.made };
@@ -59,8 +60,6 @@ impl<E: Edits> Lists for Edited<E> {
 
     ghost left = { λ x. new_count x.due };
 
-    fn begin(&mut self) {}
-
     #[inline(always)]
     fn see(&mut self, alloc: Global, bytes: &[u8]) -> Result<(), NoMemory> {
         self.new = self.edits.edit(alloc, bytes)?;
@@ -68,41 +67,19 @@ impl<E: Edits> Lists for Edited<E> {
         Ok(())
     }
 
-    fn end(&mut self, _alloc: Global) -> Result<(), NoMemory> {
-        Ok(())
-    }
-
     #[inline(always)]
-    fn next(&mut self, _alloc: Global) -> Result<Option<Group>, NoMemory> {
+    fn next(&mut self) -> Option<Group> {
         if self.due {
             self.due = false;
-            Ok(Some(Group::New(0)))
+            Some(Group::New(0))
         } else {
-            Ok(None)
+            None
         }
     }
 
     #[inline(always)]
     fn hand_over(&mut self, alloc: Global) -> Result<Rec, NoMemory> {
-        Ok(mem::replace(
-            &mut self.new,
-            Rec::from_vec(Vec::new(alloc)),
-        ))
-    }
-
-    #[inline(always)]
-    fn halts(&self) -> bool {
-        false
-    }
-
-    #[inline(always)]
-    fn stops(&self) -> bool {
-        false
-    }
-
-    #[inline(always)]
-    fn code(&self) -> i32 {
-        0
+        Ok(mem::replace(&mut self.new, Rec::from_vec(Vec::new(alloc))))
     }
 
     fn looks(&self) -> bool {

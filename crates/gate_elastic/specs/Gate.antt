@@ -5,6 +5,7 @@ use Rattle.pipe_model.specs.declared.kind.Kind.{Kind}
 use Rattle.pipe_model.specs.declared.kind.Kind.TheVariants.{Copy}
 use Rattle.pipe_model.specs.Event.{Event}
 use Rattle.stage_steps.specs.Drivers.{ListedStands}
+use Rattle.stage_steps.specs.Each.{EachStand, each_look}
 use Rattle.stage_steps.specs.SharedLists.{CopiesStand, copies_look}
 use Rattle.gate_elastic.specs.declared.gate.GateStage.{GateStage}
 use Rattle.gate_elastic.specs.declared.gate.GateStage.TheVariants as Stages
@@ -16,4 +17,4 @@ is_gate _ = false
 
 -- the stage stands for this history of this strand
 abbrev pub GateStands : GateStage → Strand → List Event → Type 0
-GateStands (Stages.Copy x) s h = ListedStands CopiesStand copies_look x s h
+GateStands (Stages.Copy x) s h = ListedStands (EachStand CopiesStand) (each_look copies_look) x s h

@@ -1,12 +1,12 @@
 use crate::copy::copy;
 use pipe_model::{Kind, NoMemory, Seen, Strand, Want};
-use stage_steps::{Copies, Listed, Stage};
+use stage_steps::{Copies, Each, Listed, Stage};
 use std::alloc::Global;
 
 /// A stage that passes on what it reads.
 #[derive(Drop)]
 pub enum GateStage {
-    Copy(Listed<Copies>),
+    Copy(Listed<Each<Copies>>),
 }
 
 impl GateStage {

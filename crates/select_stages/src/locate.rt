@@ -27,11 +27,7 @@ impl Locates {
     ghost use Rattle.pipe_model.specs.Ranges.{locates};
 
     // LOCATE of this range and this string.
-    pub(crate) fn new(
-        alloc: Global,
-        range: Range,
-        text: &Option<Rec>,
-    ) -> Result<Locates, NoMemory>
+    pub(crate) fn new(alloc: Global, range: Range, text: &Option<Rec>) -> Result<Locates, NoMemory>
         ensures { IfOk result (λ it. it ≡ record { range = range; sought = text.now }) }
     {
         Ok(Locates {

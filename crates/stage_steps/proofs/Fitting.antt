@@ -6,12 +6,14 @@ use Rattle.pipe_model.specs.declared.net.Strand.{Strand}
 use Rattle.pipe_model.specs.Records.{lines}
 use Rattle.pipe_model.specs.Row.{Act}
 use Rattle.pipe_model.specs.Shape.{Records, Stream, writes, each_record, copied}
+use Rattle.pipe_model.specs.Shape.Outs.{Pairs}
 use Rattle.pipe_model.specs.Table.{line_of}
 use Rattle.stage_steps.specs.declared.listed.Listed.{Listed}
 use Rattle.stage_steps.specs.declared.order.Order.{Order}
 use Rattle.stage_steps.specs.Drivers.{IsFresh, IsStageOf}
 use Rattle.stage_steps.specs.Listed.{lists_of, only_before}
 use Rattle.stage_steps.specs.Places.{order_of}
+use Rattle.stage_steps.specs.Each.{EachStand, each_look}
 use Rattle.stage_steps.specs.SharedLists.{LinesStand, fresh_lines, CopiesStand, copies_look, fresh_copies}
 
 -- by the stream of the kind for the connected outputs
@@ -31,8 +33,8 @@ stage_of stands is_looking kind t lists order outputs keeps x fresh lists_are lo
 pub lines_begin : (bytes : List ℕ) → LinesStand (fresh_lines bytes) (only_before (map (λ rec. (0, rec)) (lines bytes))) [] []
 lines_begin bytes = (refl, ap (λ l. writes (map (λ rec. (0, rec)) (lines l))) (sym (drop_all (length bytes) bytes (omega arith))))
 
-pub copies_begin : (is_looking : Bool) → CopiesStand (fresh_copies is_looking) (each_record copied) [] []
-copies_begin is_looking = (refl, refl)
+pub copies_begin : (is_looking : Bool) → EachStand CopiesStand (fresh_copies is_looking) (each_record copied) [] []
+copies_begin is_looking = (Pairs copied, refl, (refl, refl))
 
-pub fresh_copies_look : (is_looking : Bool) → copies_look (fresh_copies is_looking) ≡ is_looking
+pub fresh_copies_look : (is_looking : Bool) → each_look copies_look (fresh_copies is_looking) ≡ is_looking
 fresh_copies_look is_looking = refl

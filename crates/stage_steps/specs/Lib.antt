@@ -1,5 +1,6 @@
 pub mod Coroutine
 pub mod Drivers
+pub mod Each
 pub mod Group
 pub mod Kept
 pub mod KeptText
@@ -11,5 +12,5 @@ pub mod Parts
 pub mod Places
 pub mod SharedLists
 pub mod Strings
-pub mod Walk
 pub mod Waiting
+pub mod Walk

@@ -3,7 +3,7 @@ use Rattle.std.specs.Prelude.{◌≡◌, ◌<◌, ℕ, Bool, true, List, [], ◌
 use Rattle.std.specs.declared.option.Option.{Option}
 use Rattle.std.specs.declared.option.Option.TheVariants.{Some, None}
 use Rattle.pipe_model.specs.Row.{Act}
-use Rattle.pipe_model.specs.Shape.{Records, Stream, writes, acts_of, last_pairs, at_hand_of}
+use Rattle.pipe_model.specs.Shape.{Records, Outs, Stream, each_record, writes, acts_of, last_pairs, at_hand_of}
 use Rattle.stage_steps.specs.declared.group.Group.{Group}
 use Rattle.stage_steps.specs.Group.{group_acts, IsHeld}
 
@@ -21,15 +21,25 @@ abbrev pub Finishes : {L : Type 0} → (L → Stream → Records → List Act �
 Finishes stands x y = (t : Stream) (recs : Records) → stands x t recs [] → stands y t recs (writes (last_pairs t.last recs))
 
 -- the first group of what is left, or none where nothing is left
-abbrev pub GivesNext : {L : Type 0} → (L → Stream → Records → List Act → Type 0) → (L → Option (List ℕ)) → L → L → Option Group → Type 0
-GivesNext stands made x y None = (t : Stream) (recs : Records) (acts : List Act) → stands x t recs acts → (acts ≡ []) × stands y t recs []
-GivesNext stands made x y (Some g) = IsHeld (made y) g × ((t : Stream) (recs : Records) (acts : List Act) → stands x t recs acts →
+abbrev pub GivesNext : {L T : Type 0} → (L → T → Records → List Act → Type 0) → (L → Option (List ℕ)) → L → L → Option Group → Type 0
+GivesNext {L} {T} stands made x y None = (t : T) (recs : Records) (acts : List Act) → stands x t recs acts → (acts ≡ []) × stands y t recs []
+GivesNext {L} {T} stands made x y (Some g) = IsHeld (made y) g × ((t : T) (recs : Records) (acts : List Act) → stands x t recs acts →
     (rest : List Act) × (acts ≡ group_acts (at_hand_of recs) (made y) g ++ rest) × stands y t recs rest)
 
 -- it stands for the same as before
-abbrev pub StandsOn : {L : Type 0} → (L → Stream → Records → List Act → Type 0) → L → L → Type 0
-StandsOn stands x y = (t : Stream) (recs : Records) (acts : List Act) → stands x t recs acts → stands y t recs acts
+abbrev pub StandsOn : {L T : Type 0} → (L → T → Records → List Act → Type 0) → L → L → Type 0
+StandsOn {L} {T} stands x y = (t : T) (recs : Records) (acts : List Act) → stands x t recs acts → stands y t recs acts
 
 -- what it tells is what the stream says after the records so far
 abbrev pub Tells : {L A : Type 0} → (L → Stream → Records → List Act → Type 0) → L → A → (Stream → Records → A) → Type 0
 Tells stands x a f = (t : Stream) (recs : Records) (acts : List Act) → stands x t recs acts → a ≡ f t recs
+
+-- Where pairs are written for each record alone, and nothing ends the stage
+
+abbrev pub of_each : Outs → Stream
+of_each outs = record (each_record (λ recs. [])) { outs = outs }
+
+-- it gives the pairs of one more record, whose bytes come with it where it looks
+abbrev pub SeesEach : {E : Type 0} → (E → Outs → Records → List Act → Type 0) → Bool → E → E → List ℕ → Type 0
+SeesEach stands looks x y bytes = (outs : Outs) (recs : Records) (rec : List ℕ) →
+    stands x outs recs [] → length recs < 50000000 → (looks ≡ true → bytes ≡ rec) → stands y outs (recs ++ rec ∷ []) (acts_of outs (recs ++ rec ∷ []))

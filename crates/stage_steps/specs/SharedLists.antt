@@ -3,8 +3,10 @@ use Rattle.std.specs.Prelude.{◌≡◌, ℕ, Bool, false, List, map, drop, take
 use Rattle.std.specs.declared.option.Option.TheVariants.{None}
 use Rattle.pipe_model.specs.Records.{lines}
 use Rattle.pipe_model.specs.Row.{Act}
-use Rattle.pipe_model.specs.Shape.{Records, Stream, writes, each_record, copied, at_hand_of}
+use Rattle.pipe_model.specs.Shape.{Records, Outs, Stream, writes, copied, at_hand_of}
+use Rattle.pipe_model.specs.Shape.Outs.{Pairs}
 use Rattle.stage_steps.specs.declared.copies.Copies.{Copies}
+use Rattle.stage_steps.specs.declared.each.Each.{Each}
 use Rattle.stage_steps.specs.declared.text_lines.TextLines.{TextLines}
 use Rattle.stage_steps.specs.Listed.{only_before}
 use Rattle.stage_steps.specs.Waiting.{waiting_act}
@@ -26,12 +28,12 @@ abbrev pub lines_look : TextLines → Bool
 lines_look x = false
 
 -- copies before the first record
-abbrev pub fresh_copies : Bool → Copies
-fresh_copies is_looking = record { is_looking = is_looking; waiting = None }
+abbrev pub fresh_copies : Bool → Each Copies
+fresh_copies is_looking = record { each = record { is_looking = is_looking; waiting = None } }
 
 -- each record on output 0, where it may wait for it
-abbrev pub CopiesStand : Copies → Stream → Records → List Act → Type 0
-CopiesStand x t recs acts = (t ≡ each_record copied) × (acts ≡ waiting_act x.waiting (at_hand_of recs))
+abbrev pub CopiesStand : Copies → Outs → Records → List Act → Type 0
+CopiesStand x outs recs acts = (outs ≡ Pairs copied) × (acts ≡ waiting_act x.waiting (at_hand_of recs))
 
 -- whether copies are made with a look at records
 abbrev pub copies_look : Copies → Bool

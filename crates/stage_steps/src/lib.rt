@@ -4,6 +4,7 @@
 
 mod boxed;
 mod copies;
+mod each;
 mod group;
 mod kept;
 mod keys;
@@ -21,6 +22,7 @@ mod waiting;
 mod walk;
 
 pub use copies::Copies;
+pub use each::{Each, EachRecord};
 pub use group::{Group, Repeat};
 pub use keys::{is_less, is_same};
 pub use listed::Listed;

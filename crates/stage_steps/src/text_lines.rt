@@ -81,7 +81,10 @@ impl Lists for TextLines {
     }
 
     fn hand_over(&mut self, alloc: Global) -> Result<Rec, NoMemory> {
-        Rec::from_slice(alloc, front(behind(self.bytes.bytes(), self.from), self.size))
+        Rec::from_slice(
+            alloc,
+            front(behind(self.bytes.bytes(), self.from), self.size),
+        )
     }
 
     fn halts(&self) -> bool {

@@ -135,11 +135,11 @@ rows_typed first = (
           (
             of_parts first _ (stripping first),
             (
-            of_parts first _ (alone first Kinds.Reverse (known first Kinds.Reverse refl refl refl)),
-            (
-              of_parts first _ (counted first Kinds.Duplicate (λ times proper. known first (Kinds.Duplicate times) refl refl proper)),
-              (of_parts first _ (alone first Kinds.Copy (known first Kinds.Copy refl refl refl)), tt),
-            ),
+              of_parts first _ (alone first Kinds.Reverse (known first Kinds.Reverse refl refl refl)),
+              (
+                of_parts first _ (counted first Kinds.Duplicate (λ times proper. known first (Kinds.Duplicate times) refl refl proper)),
+                (of_parts first _ (alone first Kinds.Copy (known first Kinds.Copy refl refl refl)), tt),
+              ),
             ),
           ),
         ),

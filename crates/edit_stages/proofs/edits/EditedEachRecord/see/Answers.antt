@@ -1,13 +1,13 @@
 use Rattle.std.proofs.Common.{◌≡◌, ◌∷◌, [], ◌++◌, ◌∙◌, refl, sym, ap}
 use Rattle.pipe_model.specs.Row.Act.{Writes}
-use Rattle.pipe_model.specs.Shape.{Stream, acts_of}
+use Rattle.pipe_model.specs.Shape.{Outs, acts_of}
 use Rattle.stage_steps.proofs.Walks.{at_hand}
-use Rattle.edit_stages.proofs.edits.EditedLists.see.Goals as goal
+use Rattle.edit_stages.proofs.edits.EditedEachRecord.see.Goals as goal
 
 pub returns-clause-sees : goal.returns-clause-sees
 returns-clause-sees g c = λ t recs rec is room came.
     let all = recs ++ rec ∷ [] in
     let made = g.E.Edits.made c.args.self.now.edits in (
       is.0,
-      ap (λ (t : Stream). acts_of t.outs all) is.0 ∙ ap (λ r. Writes 0 (made r) ∷ []) (at_hand recs rec ∙ sym (came refl)) ∙ ap (λ new. Writes 0 new ∷ []) (sym c.in_ok-self.ensures),
+      ap (λ (outs : Outs). acts_of outs all) is.0 ∙ ap (λ r. Writes 0 (made r) ∷ []) (at_hand recs rec ∙ sym (came refl)) ∙ ap (λ new. Writes 0 new ∷ []) (sym c.in_ok-self.ensures),
     )

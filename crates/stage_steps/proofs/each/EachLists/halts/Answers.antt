@@ -1,0 +1,6 @@
+use Rattle.std.proofs.Common.{sym, ap}
+use Rattle.pipe_model.specs.Shape.{Stream}
+use Rattle.stage_steps.proofs.each.EachLists.halts.Goals as goal
+
+pub returns : goal.returns
+returns g c = λ t recs acts is. sym (ap (λ (t : Stream). t.halts recs) is.1)
