@@ -10,6 +10,7 @@ use Rattle.stage_syntax.specs.Arg.{ArgText}
 use Rattle.stage_syntax.specs.declared.fault.KindFault.TheVariants.{Unknown}
 use Rattle.spec_scanner.specs.declared.piece.Piece.{Piece}
 use Rattle.spec_scanner.specs.declared.piece.PieceKind.TheVariants.{Stage, Reference, Connector}
+use Rattle.spec_scanner.specs.declared.fault.SpecFaultKind.TheVariants.{UnknownStage, NoSuchStream, SecondConsole, MisplacedConnector}
 use Rattle.spec_scanner.specs.Faults.{fault}
 use Rattle.net_graph.specs.Faults.{faults_of}
 use Rattle.net_graph.specs.Nets.{net_of}
@@ -78,35 +79,35 @@ scanned_two : AreScanned two
 scanned_two = ((inl refl, refl), ((inr refl, refl), ((inl refl, refl), (record { label = 0; count = 0; label_is = refl; defined = refl; uses_is = refl }, ((inl refl, refl), tt)))))
 
 -- console | nosuch | console
-unknown : faults_of ((console 0 ∷ (stage (codes "nosuch") 10 ∷ (console 19 ∷ []))) ∷ []) (Ok (ConsoleIn []) ∷ (Err Unknown ∷ (Ok ConsoleOut ∷ []))) ≡ fault 11 10 ∷ []
+unknown : faults_of ((console 0 ∷ (stage (codes "nosuch") 10 ∷ (console 19 ∷ []))) ∷ []) (Ok (ConsoleIn []) ∷ (Err Unknown ∷ (Ok ConsoleOut ∷ []))) ≡ fault UnknownStage 10 ∷ []
 unknown = refl
 
 -- console | a: locate /x/ | console ? locate /y/ | a:
 second_input : faults_of ((console 0 ∷ (labelled 0 (codes "locate") 10 13 ∷ (console 26 ∷ []))) ∷ ((locate 36 ∷ (later 0 1 49 ∷ [])) ∷ []))
-    (map (λ kind. Ok kind) kinds_of_two) ≡ fault 13 49 ∷ []
+    (map (λ kind. Ok kind) kinds_of_two) ≡ fault NoSuchStream 49 ∷ []
 second_input = refl
 
 -- a: locate /x/ ? a: | console ? a: | locate /y/
 third_output : faults_of ((labelled 0 (codes "locate") 0 3 ∷ []) ∷ ((later 0 1 16 ∷ (console 21 ∷ [])) ∷ ((later 0 2 31 ∷ (locate 36 ∷ [])) ∷ [])))
-    (Ok (locates (codes "x")) ∷ (Ok ConsoleOut ∷ (Ok (locates (codes "y")) ∷ []))) ≡ fault 13 31 ∷ []
+    (Ok (locates (codes "x")) ∷ (Ok ConsoleOut ∷ (Ok (locates (codes "y")) ∷ []))) ≡ fault NoSuchStream 31 ∷ []
 third_output = refl
 
 -- a later use that connects nothing may be of any stream there is: a: locate /x/ ? a: ? a:
 unconnected : faults_of ((labelled 0 (codes "locate") 0 3 ∷ []) ∷ ((later 0 1 16 ∷ []) ∷ ((later 0 2 21 ∷ []) ∷ []))) (Ok (locates (codes "x")) ∷ []) ≡ []
 unconnected = refl
 
-past_the_last : faults_of ((labelled 0 (codes "locate") 0 3 ∷ []) ∷ ((later 0 63 16 ∷ []) ∷ ((later 0 64 21 ∷ []) ∷ []))) (Ok (locates (codes "x")) ∷ []) ≡ fault 13 21 ∷ []
+past_the_last : faults_of ((labelled 0 (codes "locate") 0 3 ∷ []) ∷ ((later 0 63 16 ∷ []) ∷ ((later 0 64 21 ∷ []) ∷ []))) (Ok (locates (codes "x")) ∷ []) ≡ fault NoSuchStream 21 ∷ []
 past_the_last = refl
 
 -- locate /x/ | console ? locate /y/ | console
 two_write : faults_of ((locate 0 ∷ (console 13 ∷ [])) ∷ ((locate 23 ∷ (console 36 ∷ [])) ∷ []))
-    (Ok (locates (codes "x")) ∷ (Ok ConsoleOut ∷ (Ok (locates (codes "y")) ∷ (Ok ConsoleOut ∷ [])))) ≡ fault 15 36 ∷ []
+    (Ok (locates (codes "x")) ∷ (Ok ConsoleOut ∷ (Ok (locates (codes "y")) ∷ (Ok ConsoleOut ∷ [])))) ≡ fault SecondConsole 36 ∷ []
 two_write = refl
 
 -- console ? console
-two_read : faults_of ((console 0 ∷ []) ∷ ((console 10 ∷ []) ∷ [])) (Ok (ConsoleIn []) ∷ (Ok (ConsoleIn []) ∷ [])) ≡ fault 15 10 ∷ []
+two_read : faults_of ((console 0 ∷ []) ∷ ((console 10 ∷ []) ∷ [])) (Ok (ConsoleIn []) ∷ (Ok (ConsoleIn []) ∷ [])) ≡ fault SecondConsole 10 ∷ []
 two_read = refl
 
 -- console | *.output.1:
-not_issued : faults_of ((console 0 ∷ (connector 10 ∷ [])) ∷ []) (Ok (ConsoleIn []) ∷ []) ≡ fault 17 10 ∷ []
+not_issued : faults_of ((console 0 ∷ (connector 10 ∷ [])) ∷ []) (Ok (ConsoleIn []) ∷ []) ≡ fault MisplacedConnector 10 ∷ []
 not_issued = refl

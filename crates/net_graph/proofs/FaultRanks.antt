@@ -5,7 +5,9 @@ use Rattle.std.specs.declared.result.Result.{Result}
 use Rattle.pipe_model.specs.declared.kind.Kind.{Kind}
 use Rattle.stage_syntax.specs.declared.fault.KindFault.{KindFault}
 use Rattle.stage_syntax.specs.declared.fault.KindFault.TheVariants.{Unknown, Argument, NoMemory}
-use Rattle.spec_scanner.specs.Faults.{fault}
+use Rattle.spec_scanner.specs.declared.fault.SpecFaultKind.{SpecFaultKind}
+use Rattle.spec_scanner.specs.declared.fault.SpecFaultKind.TheVariants.{BadArguments, NoSuchStream, SecondConsole, TooManyStages}
+use Rattle.spec_scanner.specs.Faults.{fault, number_of}
 use Rattle.spec_scanner.specs.declared.fault.Fault.{Fault}
 use Rattle.spec_scanner.specs.declared.piece.PieceKind.{PieceKind}
 use Rattle.spec_scanner.specs.declared.piece.PieceKind.TheVariants.{Stage, Reference, Connector}
@@ -17,13 +19,13 @@ use Rattle.net_graph.proofs.PieceSpreads.{IsPlaced, Spread}
 -- the fault isn't of an argument
 pub record IsPlain (found : Fault) : Type 0 where
   pub no_argument : found.argument ≡ 0
-  pub other : found.number ≢ 12
+  pub other : found.number ≢ number_of BadArguments
 
 -- the faults of arguments stand from a place on, each before the next, all below an end
 abbrev pub Ranked : ℕ → List Fault → ℕ → Type 0
 Ranked at [] end = at ≤ end
 Ranked at (found ∷ faults) end =
-    (IsPlain found × Ranked at faults end) ⊎ ((found.number ≡ 12) × (at ≤ found.place) × Ranked (suc found.place) faults end)
+    (IsPlain found × Ranked at faults end) ⊎ ((found.number ≡ number_of BadArguments) × (at ≤ found.place) × Ranked (suc found.place) faults end)
 
 ranked_lower : (lower at : ℕ) (faults : List Fault) (end : ℕ) → lower ≤ at → Ranked at faults end → Ranked lower faults end
 ranked_lower lower at [] end below are = omega (arith, are)
@@ -36,21 +38,21 @@ ranked_joined at (found ∷ faults) middle others end (inl are) later = inl (are
 ranked_joined at (found ∷ faults) middle others end (inr are) later = inr (are.0, are.1, ranked_joined (suc found.place) faults middle others end are.2 later)
 
 -- a fault that isn't of an argument, or none, under a test
-plain_ranked : (at end number place : ℕ) → at ≤ end → number ≢ 12 → (test : Bool) → Ranked at (if test then fault number place ∷ [] else []) end
-plain_ranked at end number place within other true = inl (record { no_argument = refl; other = other }, within)
-plain_ranked at end number place within other false = within
+plain_ranked : (at end : ℕ) (kind : SpecFaultKind) (place : ℕ) → at ≤ end → number_of kind ≢ number_of BadArguments → (test : Bool) → Ranked at (if test then fault kind place ∷ [] else []) end
+plain_ranked at end kind place within other true = inl (record { no_argument = refl; other = other }, within)
+plain_ranked at end kind place within other false = within
 
 stage_ranked : (at end number : ℕ) (stand : Stand) → at ≤ end → Ranked at (stage_faults number stand) end
 stage_ranked at end number stand within = by (nat_lt number 1024) where
-  by : (few : Bool) → Ranked at (if few then [] else fault 16 stand.piece.place ∷ []) end
+  by : (few : Bool) → Ranked at (if few then [] else fault TooManyStages stand.piece.place ∷ []) end
   by true = within
   by false = inl (record { no_argument = refl; other = λ same. absurd (omega arith) }, within)
 
 console_ranked : (at end : ℕ) (earlier : List Stand) (stand : Stand) → at ≤ end → Ranked at (console_faults earlier stand) end
-console_ranked at end earlier stand within = plain_ranked at end 15 stand.piece.name_place within (λ same. absurd (omega arith)) _
+console_ranked at end earlier stand within = plain_ranked at end SecondConsole stand.piece.name_place within (λ same. absurd (omega arith)) _
 
 stream_ranked : (at end : ℕ) (stand : Stand) (kind : Option Kind) → at ≤ end → Ranked at (stream_faults stand kind) end
-stream_ranked at end stand kind within = plain_ranked at end 13 stand.piece.place within (λ same. absurd (omega arith)) _
+stream_ranked at end stand kind within = plain_ranked at end NoSuchStream stand.piece.place within (λ same. absurd (omega arith)) _
 
 -- the outcome of a stage, if there is one
 abbrev IsOutcomeAt : Stand → Option (Result Kind KindFault) → Type 0

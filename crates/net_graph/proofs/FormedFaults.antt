@@ -13,6 +13,7 @@ use Rattle.spec_scanner.specs.declared.fault.Fault.{Fault}
 use Rattle.spec_scanner.specs.declared.piece.Piece.{Piece}
 use Rattle.spec_scanner.specs.declared.piece.PieceKind.{PieceKind}
 use Rattle.spec_scanner.specs.declared.piece.PieceKind.TheVariants.{Stage, Reference, Connector}
+use Rattle.spec_scanner.specs.declared.fault.SpecFaultKind.TheVariants.{NoSuchStream, TooManyStages}
 use Rattle.spec_scanner.specs.Faults.{fault}
 use Rattle.net_graph.specs.Stands.{Stand, is_of_stage, is_stage, stage_of, stages_of, stands_of}
 use Rattle.net_graph.specs.Nets.{inputs_of, outputs_of}
@@ -68,7 +69,7 @@ module _ (pipelines : List (List Piece)) (kinds : List Kind) (good : faults_of p
     few_before : stand.piece.kind ≡ Stage → length (stages_of done) < 1024
     few_before is =
         let none = (nothing_joined (stage_faults (length (stages_of done)) stand) _ (good_at Stage is)).0 in
-        below (some_fault (nat_lt (length (stages_of done)) most_stages) (fault 16 stand.piece.place) none)
+        below (some_fault (nat_lt (length (stages_of done)) most_stages) (fault TooManyStages stand.piece.place) none)
       where
         below : nat_lt (length (stages_of done)) 1024 ≡ true → length (stages_of done) < 1024
         below is = grind (arith, nat_tests)
@@ -83,7 +84,7 @@ module _ (pipelines : List (List Piece)) (kinds : List Kind) (good : faults_of p
       tests : (not (nat_lt stand.piece.uses most_streams) ≡ false) × (is_past stand (Some kind) ≡ false)
       tests =
           let none = ap (stream_faults stand) (sym kind_is) ∙ good_at Reference is in
-          neither _ _ (no_fault (not (nat_lt stand.piece.uses most_streams) || is_past stand (Some kind)) (fault 13 stand.piece.place) none)
+          neither _ _ (no_fault (not (nat_lt stand.piece.uses most_streams) || is_past stand (Some kind)) (fault NoSuchStream stand.piece.place) none)
 
       pub few_streams : stand.piece.uses < 64
       few_streams = below_unless_not stand.piece.uses 64 tests.0

@@ -1,18 +1,19 @@
 -- Of ranked faults one is the least.
 use Rattle.std.proofs.Common.{◌≡◌, ◌⊎◌, inl, inr, ℕ, zero, suc, ◌<◌, ◌≤◌, List, [], ◌∷◌, length, get_or, sym, ap, ◌∙◌, subst, arith}
-use Rattle.spec_scanner.specs.Faults.{IsLeast}
+use Rattle.spec_scanner.specs.declared.fault.SpecFaultKind.TheVariants.{BadArguments}
+use Rattle.spec_scanner.specs.Faults.{IsLeast, number_of}
 use Rattle.spec_scanner.specs.declared.fault.Fault.{Fault}
 use Rattle.net_graph.proofs.FaultRanks.{IsPlain, Ranked}
 
 -- each fault isn't of an argument, or stands not before a place
 above : (at : ℕ) (faults : List Fault) (end : ℕ) (found : Fault) → Ranked at faults end → (k : ℕ) → k < length faults → get_or faults k found ≡ found
-    → IsPlain found ⊎ ((found.number ≡ 12) × (at ≤ found.place))
+    → IsPlain found ⊎ ((found.number ≡ number_of BadArguments) × (at ≤ found.place))
 above at [] end found are k below is = absurd (omega arith)
 above at (first ∷ faults) end found (inl are) zero below is = inl (subst IsPlain is are.0)
-above at (first ∷ faults) end found (inr are) zero below is = inr (subst (λ (f : Fault). (f.number ≡ 12) × (at ≤ f.place)) is (are.0, are.1))
+above at (first ∷ faults) end found (inr are) zero below is = inr (subst (λ (f : Fault). (f.number ≡ number_of BadArguments) × (at ≤ f.place)) is (are.0, are.1))
 above at (first ∷ faults) end found (inl are) (suc k) below is = above at faults end found are.1 k (omega arith) is
 above at (first ∷ faults) end found (inr are) (suc k) below is =
-    elim (above (suc first.place) faults end found are.2 k (omega arith) is) as (λ _. IsPlain found ⊎ ((found.number ≡ 12) × (at ≤ found.place))) [
+    elim (above (suc first.place) faults end found are.2 k (omega arith) is) as (λ _. IsPlain found ⊎ ((found.number ≡ number_of BadArguments) × (at ≤ found.place))) [
       | inl plain ↦ inl plain
       | inr later ↦ inr (later.0, omega (arith, are.1, later.1))
     ]

@@ -10,6 +10,7 @@ use Rattle.stage_syntax.specs.declared.fault.KindFault.{KindFault}
 use Rattle.spec_scanner.specs.declared.fault.Fault.{Fault}
 use Rattle.spec_scanner.specs.declared.piece.PieceKind.{PieceKind}
 use Rattle.spec_scanner.specs.declared.piece.PieceKind.TheVariants.{Stage, Reference, Connector}
+use Rattle.spec_scanner.specs.declared.fault.SpecFaultKind.TheVariants.{SecondConsole}
 use Rattle.spec_scanner.specs.Faults.{IsLeastSo, fault, least}
 use Rattle.spec_scanner.proofs.Leasts.{least_more}
 use Rattle.net_graph.specs.declared.search.Search.{Search}
@@ -66,7 +67,7 @@ module _ (stands : List Stand) (table : List ℕ) (outcomes : List (Result Kind 
       by false = keeps.writes
 
     second_is : second_faults search s ≡ console_faults earlier s
-    second_is = ap (λ (b : Bool). if is_console s.piece && b then fault 15 s.piece.name_place ∷ [] else []) consoles_are
+    second_is = ap (λ (b : Bool). if is_console s.piece && b then fault SecondConsole s.piece.name_place ∷ [] else []) consoles_are
 
     found_is : (kind : PieceKind) → (after table outcomes search s kind).found ≡ noted search.found (faults_of_kind stands outcomes earlier s kind)
     found_is Stage =

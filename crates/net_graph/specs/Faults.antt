@@ -14,6 +14,7 @@ use Rattle.spec_scanner.specs.declared.piece.Piece.{Piece}
 use Rattle.spec_scanner.specs.declared.piece.PieceKind.{PieceKind}
 use Rattle.spec_scanner.specs.declared.piece.PieceKind.TheVariants.{Stage, Reference, Connector}
 use Rattle.spec_scanner.specs.declared.fault.Fault.{Fault}
+use Rattle.spec_scanner.specs.declared.fault.SpecFaultKind.TheVariants.{UnknownStage, BadArguments, NoSuchStream, SecondConsole, TooManyStages, MisplacedConnector}
 use Rattle.spec_scanner.specs.Faults.{IsLeast, fault}
 use Rattle.net_graph.specs.declared.fault.NetFault.{NetFault}
 use Rattle.net_graph.specs.declared.fault.NetFault.TheVariants as Net
@@ -29,12 +30,12 @@ abbrev pub most_streams : ℕ
 most_streams = 64
 
 abbrev pub stage_faults : ℕ → Stand → List Fault
-stage_faults number stand = if nat_lt number most_stages then [] else fault 16 stand.piece.place ∷ []
+stage_faults number stand = if nat_lt number most_stages then [] else fault TooManyStages stand.piece.place ∷ []
 
 -- the name is unknown, or the arguments aren't of its form
 abbrev pub kind_faults : Stand → Option (Result Kind KindFault) → List Fault
-kind_faults stand (Some (Err Unknown)) = fault 11 stand.piece.name_place ∷ []
-kind_faults stand (Some (Err (Argument misfit))) = record { number = 12; argument = number_of misfit.kind; place = misfit.place } ∷ []
+kind_faults stand (Some (Err Unknown)) = fault UnknownStage stand.piece.name_place ∷ []
+kind_faults stand (Some (Err (Argument misfit))) = record (fault BadArguments misfit.place) { argument = number_of misfit.kind } ∷ []
 kind_faults stand (Some (Err NoMemory)) = []
 kind_faults stand (Some (Ok kind)) = []
 kind_faults stand None = []
@@ -50,7 +51,7 @@ is_same false other = not other
 abbrev pub console_faults : List Stand → Stand → List Fault
 console_faults earlier stand =
     if is_console stand.piece && list_any (λ other. is_console other.piece && is_same stand.first other.first) earlier
-    then fault 15 stand.piece.name_place ∷ [] else []
+    then fault SecondConsole stand.piece.name_place ∷ [] else []
 
 -- the kind of a stage, where it has one
 abbrev pub kind_at : List (Result Kind KindFault) → ℕ → Option Kind
@@ -67,7 +68,7 @@ is_past stand (Some kind) =
     || (not stand.last && not (nat_lt stand.piece.uses (outputs_of kind)))
 
 abbrev pub stream_faults : Stand → Option Kind → List Fault
-stream_faults stand kind = if not (nat_lt stand.piece.uses most_streams) || is_past stand kind then fault 13 stand.piece.place ∷ [] else []
+stream_faults stand kind = if not (nat_lt stand.piece.uses most_streams) || is_past stand kind then fault NoSuchStream stand.piece.place ∷ [] else []
 
 -- the faults of one stand, after these stages
 abbrev pub faults_of_kind : List Stand → List (Result Kind KindFault) → List Stand → Stand → PieceKind → List Fault
@@ -75,7 +76,7 @@ faults_of_kind stands outcomes earlier stand Stage =
     stage_faults (length earlier) stand ++ (kind_faults stand (slice_get outcomes (length earlier)) ++ console_faults earlier stand)
 faults_of_kind stands outcomes earlier stand Reference =
     stream_faults stand (option_and_then (kind_at outcomes) (stage_of stands stand.piece.label))
-faults_of_kind stands outcomes earlier stand Connector = fault 17 stand.piece.place ∷ []
+faults_of_kind stands outcomes earlier stand Connector = fault MisplacedConnector stand.piece.place ∷ []
 
 -- the faults of stands one by one, after these stages
 abbrev pub faults_from : List Stand → List (Result Kind KindFault) → List Stand → List Stand → List Fault

@@ -9,6 +9,7 @@ use Rattle.spec_scanner.specs.declared.fault.Fault.{Fault}
 use Rattle.spec_scanner.specs.declared.piece.Piece.{Piece}
 use Rattle.spec_scanner.specs.declared.piece.PieceKind.{PieceKind}
 use Rattle.spec_scanner.specs.declared.piece.PieceKind.TheVariants.{Stage, Reference, Connector}
+use Rattle.spec_scanner.specs.declared.fault.SpecFaultKind.TheVariants.{SecondConsole, MisplacedConnector}
 use Rattle.spec_scanner.specs.Faults.{fault, least}
 use Rattle.net_graph.specs.declared.search.Search.{Search}
 use Rattle.net_graph.specs.Faults.{is_console, kind_at, kind_faults, stage_faults, stream_faults}
@@ -29,7 +30,7 @@ labelled_kind table outcomes label = option_and_then (kind_at outcomes) (option_
 
 -- the second CONSOLE of its kind
 abbrev pub second_faults : Search → Stand → List Fault
-second_faults search stand = if is_console stand.piece && (if stand.first then search.reads else search.writes) then fault 15 stand.piece.name_place ∷ [] else []
+second_faults search stand = if is_console stand.piece && (if stand.first then search.reads else search.writes) then fault SecondConsole stand.piece.name_place ∷ [] else []
 
 -- the search after one stand
 abbrev pub after : List ℕ → List (Result Kind KindFault) → Search → Stand → PieceKind → Search
@@ -40,7 +41,7 @@ after table outcomes search stand Stage = record {
   writes = search.writes || (is_console stand.piece && not stand.first);
 }
 after table outcomes search stand Reference = record search { found = noted search.found (stream_faults stand (labelled_kind table outcomes stand.piece.label)) }
-after table outcomes search stand Connector = record search { found = noted search.found (fault 17 stand.piece.place ∷ []) }
+after table outcomes search stand Connector = record search { found = noted search.found (fault MisplacedConnector stand.piece.place ∷ []) }
 
 -- the search after stands
 abbrev pub after_all : List ℕ → List (Result Kind KindFault) → Search → List Stand → Search

@@ -3,16 +3,7 @@ ghost use Rattle.std.specs.Prelude.{◌≡◌};
 use pipe_model::NoMemory;
 
 /// Why pieces make no net: their fault of the least place, and of two at one place that of the lesser number, or want of memory.
-/// `argument` is the number of the fault of the arguments for 12, else 0.
-///
-/// | number | fault | place |
-/// |---|---|---|
-/// | 11 | no stage has the name | of the name |
-/// | 12 | the arguments aren't those of the stage | of the argument's fault |
-/// | 13 | a later use of a label is of a stream past 63, or connects one past those that the stage may have | of the label |
-/// | 15 | a second CONSOLE that reads, or a second one that writes | of the name |
-/// | 16 | a 1,025th stage | of the stage |
-/// | 17 | a connector in the main specification | of the connector |
+/// The fault is of a kind from `UnknownStage` on; `argument` is the number of the fault of the arguments for `BadArguments`, else 0.
 #[derive(Clone, Copy, Debug, PartialEq, Eq)]
 pub enum NetFault {
     Refused {

@@ -5,7 +5,7 @@ ghost use Rattle.net_graph.specs.Searches.{labelled_kind, stand};
 ghost use Rattle.spec_scanner.specs.Faults as Found;
 
 use pipe_model::{Kind, most_inputs, most_outputs};
-use spec_scanner::{Fault, Piece, least};
+use spec_scanner::{Fault, Piece, SpecFaultKind, least};
 use stage_syntax::KindFault;
 
 /// The most stages of a specification.
@@ -15,17 +15,10 @@ const MOST_STAGES: usize = 1_024;
 const MOST_STREAMS: u16 = 64;
 
 // The first of a fault found before, if any, and another one.
-pub(crate) fn noted(found: Option<Fault>, number: u8, place: u32) -> Option<Fault>
-    ensures { result ≡ Some (Found.least found (Found.fault number place)) }
+pub(crate) fn noted(found: Option<Fault>, kind: SpecFaultKind, place: u32) -> Option<Fault>
+    ensures { result ≡ Some (Found.least found (Found.fault kind place)) }
 {
-    Some(least(
-        found,
-        Fault {
-            number,
-            argument: 0,
-            place,
-        },
-    ))
+    Some(least(found, kind.at(place)))
 }
 
 // A stage past the 1,024th.
@@ -35,7 +28,7 @@ pub(crate) fn note_stage(found: Option<Fault>, piece: &Piece, stages: usize) -> 
     if stages < MOST_STAGES {
         found
     } else {
-        noted(found, 16, piece.place)
+        noted(found, SpecFaultKind::TooManyStages, piece.place)
     }
 }
 
@@ -49,13 +42,14 @@ pub(crate) fn note_kind(
     ensures { result ≡ Searches.noted found (Faults.kind_faults (stand piece.now true true) (slice_get outcomes.now stages)) }
 {
     match outcomes.get(stages) {
-        Some(Err(KindFault::Unknown)) => noted(found, 11, piece.name_place),
+        Some(Err(KindFault::Unknown)) => {
+            noted(found, SpecFaultKind::UnknownStage, piece.name_place)
+        }
         Some(Err(KindFault::Argument(fault))) => Some(least(
             found,
             Fault {
-                number: 12,
                 argument: fault.kind.number(),
-                place: fault.place,
+                ..SpecFaultKind::BadArguments.at(fault.place)
             },
         )),
         _ => found,
@@ -101,7 +95,7 @@ pub(crate) fn note_stream(
         None => false,
     };
     if piece.uses >= MOST_STREAMS || past {
-        noted(found, 13, piece.place)
+        noted(found, SpecFaultKind::NoSuchStream, piece.place)
     } else {
         found
     }

@@ -9,7 +9,7 @@ ghost use Rattle.spec_scanner.specs.declared.piece.PieceKind.TheVariants.{Stage}
 
 use crate::notes::{is_console, labelled_kind, note_kind, note_stage, note_stream, noted};
 use pipe_model::Kind;
-use spec_scanner::{Fault, Piece, PieceKind, Pieces};
+use spec_scanner::{Fault, Piece, PieceKind, Pieces, SpecFaultKind};
 use stage_syntax::KindFault;
 
 /// What is kept of the pieces that were passed: the least fault, how many stages they define, and whether a CONSOLE is among
@@ -47,7 +47,7 @@ fn after(
             ..search
         },
         PieceKind::Connector => Search {
-            found: noted(search.found, 17, piece.place),
+            found: noted(search.found, SpecFaultKind::MisplacedConnector, piece.place),
             ..search
         },
     }
@@ -69,7 +69,7 @@ fn after_stage(
     let second = console && if first { search.reads } else { search.writes };
     Search {
         found: if second {
-            noted(found, 15, piece.name_place)
+            noted(found, SpecFaultKind::SecondConsole, piece.name_place)
         } else {
             found
         },

@@ -5,6 +5,8 @@ use Rattle.pipe_cli.specs.declared.status.Status.{Status}
 use Rattle.pipe_cli.specs.declared.status.Status.TheVariants.{Zero, Coded, SpecRefused, Stalled, Spent, ReadFault, WriteFault, NoMemory, Usage, InputTooLarge, NotYet}
 use Rattle.pipe_cli.specs.declared.status.Outcome.{Outcome}
 use Rattle.pipe_cli.specs.declared.status.Outcome.TheVariants as Was
+use Rattle.spec_scanner.specs.declared.fault.SpecFaultKind.TheVariants.{BadArguments}
+use Rattle.spec_scanner.specs.Faults as Faults
 
 -- the exit status of the program
 abbrev pub number_of : Status → ℕ
@@ -39,7 +41,7 @@ line bytes = bytes ++ 10 ∷ []
 
 -- the number of a fault of a specification; a fault of arguments has a number of its own after a point
 abbrev pub fault_number : ℕ → ℕ → List ℕ
-fault_number number argument = if number == 12 then codes "12." ++ decimal argument else decimal number
+fault_number number argument = decimal number ++ (if number == Faults.number_of BadArguments then codes "." ++ decimal argument else [])
 
 -- how the program is called
 abbrev pub usage : List ℕ

@@ -3,6 +3,7 @@ ghost use Rattle.pipe_cli.specs.Status.{number_of, status_of, text_of};
 
 use arrayvec::ArrayString;
 use itoa::{Buffer, Integer};
+use spec_scanner::SpecFaultKind;
 
 /// How a call ended. Each variant but `Zero` has a text on standard error.
 #[derive(Clone, Copy, Debug, PartialEq, Eq)]
@@ -96,10 +97,9 @@ impl Outcome {
                 argument,
                 place,
             } => {
-                if number == 12 {
-                    add_number(&mut text, "spec 12.", argument);
-                } else {
-                    add_number(&mut text, "spec ", number);
+                add_number(&mut text, "spec ", number);
+                if number == SpecFaultKind::BadArguments.number() {
+                    add_number(&mut text, ".", argument);
                 }
                 add_number(&mut text, " at ", place);
             }

@@ -10,6 +10,7 @@ use Rattle.spec_scanner.specs.declared.item.Item.{Item}
 use Rattle.spec_scanner.specs.declared.piece.Piece.{Piece}
 use Rattle.spec_scanner.specs.declared.piece.PieceKind.TheVariants.{Stage}
 use Rattle.spec_scanner.specs.Additions.{Adds, AddsFound}
+use Rattle.spec_scanner.specs.declared.fault.SpecFaultKind.TheVariants.{EmptyStage, LabelTwice, BadLabel}
 use Rattle.spec_scanner.specs.Faults.{IsLeastSo, fault, least}
 use Rattle.spec_scanner.specs.Labels.{Found, Label, bad_label, define, found, labelled, read_stage, read_text}
 use Rattle.spec_scanner.specs.Pieces.{bytes_of, end_of, named_piece, place_of, reference_piece}
@@ -47,25 +48,25 @@ module _ (old new : Findings) (other : Fault) (noted : new ≡ with_fault old ot
 
 -- a bad label alone, or with its stage
 pub bad_alone : (labels : List Label) (place end : ℕ) (items : List Item) → (length items == 0) ≡ true
-    → bad_label labels place end items ≡ found (reference_piece None 0 place end ∷ []) labels (fault 8 place ∷ [])
+    → bad_label labels place end items ≡ found (reference_piece None 0 place end ∷ []) labels (fault BadLabel place ∷ [])
 bad_alone labels place end [] is = refl
 bad_alone labels place end (item ∷ items) is = absurd (omega (arith, eqb-true (length (item ∷ items)) 0 is))
 
 pub bad_named : (labels : List Label) (place end : ℕ) (items : List Item) → (length items == 0) ≡ false
-    → bad_label labels place end items ≡ found (named_piece Stage None place items ∷ []) labels (fault 8 place ∷ [])
+    → bad_label labels place end items ≡ found (named_piece Stage None place items ∷ []) labels (fault BadLabel place ∷ [])
 bad_named labels place end [] is = cc
 bad_named labels place end (item ∷ items) is = refl
 
 -- a label that is there is defined again
 pub defined_again : (labels : List Label) (name : List ℕ) (place : ℕ) (items : List Item) (number : Option ℕ) → is_some number ≡ true
-    → define labels name place items number ≡ found (named_piece Stage None place items ∷ []) labels (fault 6 place ∷ [])
+    → define labels name place items number ≡ found (named_piece Stage None place items ∷ []) labels (fault LabelTwice place ∷ [])
 defined_again labels name place items None is = cc
 defined_again labels name place items (Some number) is = refl
 
 -- an empty stage
-pub empty_noted : (old new : Findings) (closed : ℕ) (before : List Piece) (items : List Item) → (length items == 0) ≡ true → new ≡ with_fault old (fault 2 closed)
+pub empty_noted : (old new : Findings) (closed : ℕ) (before : List Piece) (items : List Item) → (length items == 0) ≡ true → new ≡ with_fault old (fault EmptyStage closed)
     → AddsFound old new before before (read_stage old.labels closed items)
-empty_noted old new closed before [] is noted = fault_noted old new (fault 2 closed) before before [] noted (sym (append-nil before))
+empty_noted old new closed before [] is noted = fault_noted old new (fault EmptyStage closed) before before [] noted (sym (append-nil before))
 empty_noted old new closed before (item ∷ items) is noted = absurd (omega (arith, eqb-true (length (item ∷ items)) 0 is))
 
 -- a stage's text with a label, by its parts

@@ -7,6 +7,8 @@ use Rattle.spec_scanner.specs.declared.item.Item.{Item}
 use Rattle.spec_scanner.specs.declared.piece.Piece.{Piece}
 use Rattle.spec_scanner.specs.declared.signs.Choice.{Choice}
 use Rattle.spec_scanner.specs.declared.signs.OptionName.{OptionName}
+use Rattle.spec_scanner.specs.declared.fault.SpecFaultKind.{SpecFaultKind}
+use Rattle.spec_scanner.specs.declared.fault.SpecFaultKind.TheVariants.{BadOption, BadValue}
 use Rattle.spec_scanner.specs.Faults.{fault}
 use Rattle.spec_scanner.specs.Options.{BeginsAs, Outset, Pair, Word, clash, clashes, in_force, is_choice, is_new, must_choose, option_of, pair_faults, pairs_of, value_faults, word_faults}
 use Rattle.spec_scanner.specs.Labels.{Label, bad_label, define, good_label, labelled, number_of, read_pipelines, read_stage, read_stages, read_text, refer}
@@ -23,32 +25,32 @@ bare_append : (a b : List Fault) → AreBare a → AreBare b → AreBare (a ++ b
 bare_append [] b first second = second
 bare_append (f ∷ fs) b first second = (first.0, bare_append fs b first.1 second)
 
-bare_then : (is : Bool) (number place : ℕ) → AreBare (if is then fault number place ∷ [] else [])
-bare_then true number place = (refl, tt)
-bare_then false number place = tt
+bare_then : (is : Bool) (kind : SpecFaultKind) (place : ℕ) → AreBare (if is then fault kind place ∷ [] else [])
+bare_then true kind place = (refl, tt)
+bare_then false kind place = tt
 
-bare_else : (is : Bool) (number place : ℕ) → AreBare (if is then [] else fault number place ∷ [])
-bare_else true number place = tt
-bare_else false number place = (refl, tt)
+bare_else : (is : Bool) (kind : SpecFaultKind) (place : ℕ) → AreBare (if is then [] else fault kind place ∷ [])
+bare_else true kind place = tt
+bare_else false kind place = (refl, tt)
 
 -- of the options
 
 bare_value : (close : ℕ) (option : Option OptionName) (value : Option Word) → AreBare (value_faults close option value)
 bare_value close option None = (refl, tt)
-bare_value close option (Some value) = bare_then (must_choose option && not (is_choice value.bytes)) 5 value.place
+bare_value close option (Some value) = bare_then (must_choose option && not (is_choice value.bytes)) BadValue value.place
 
 bare_pairs : (close : ℕ) (earlier pairs : List Pair) → AreBare (pair_faults close earlier pairs)
 bare_pairs close earlier [] = tt
 bare_pairs close earlier (pair ∷ pairs) =
     bare_append (word_faults earlier pair) (value_faults close (option_of pair.word.bytes) pair.value ++ pair_faults close (earlier ++ pair ∷ []) pairs)
-    (bare_else (is_new earlier (option_of pair.word.bytes)) 3 pair.word.place)
+    (bare_else (is_new earlier (option_of pair.word.bytes)) BadOption pair.word.place)
     (bare_append (value_faults close (option_of pair.word.bytes) pair.value) (pair_faults close (earlier ++ pair ∷ []) pairs)
     (bare_value close (option_of pair.word.bytes) pair.value)
     (bare_pairs close (earlier ++ pair ∷ []) pairs))
 
 bare_clashes : (all choices : List Choice) → AreBare (flat_map (clash all) choices)
 bare_clashes all [] = tt
-bare_clashes all (choice ∷ choices) = bare_append (clash all choice) (flat_map (clash all) choices) (bare_then _ 5 choice.place) (bare_clashes all choices)
+bare_clashes all (choice ∷ choices) = bare_append (clash all choice) (flat_map (clash all) choices) (bare_then _ BadValue choice.place) (bare_clashes all choices)
 
 bare_outset : (text : List ℕ) (outset : Outset) → BeginsAs text outset → AreBare outset.faults
 bare_outset text outset (inl none) = subst (λ (o : Outset). AreBare o.faults) (sym none.outset_is) tt
@@ -147,7 +149,7 @@ refused_bare text least refused =
     among_bare refused.faults least among.0 (bare_faults text refused.faults refused.faults_are) among.1 among.2
 
 -- so its number and its place tell it
-pub refused_told : (text : List ℕ) (least : Fault) → IsRefused text least → IsRefused text (fault least.number least.place)
+pub refused_told : (text : List ℕ) (least : Fault) → IsRefused text least → IsRefused text (record { number = least.number; argument = 0; place = least.place })
 refused_told text least refused =
-    let is : least ≡ fault least.number least.place = λ i. record { number = least.number; argument = refused_bare text least refused i; place = least.place } in
+    let is : least ≡ record { number = least.number; argument = 0; place = least.place } = λ i. record { number = least.number; argument = refused_bare text least refused i; place = least.place } in
     subst (IsRefused text) is refused

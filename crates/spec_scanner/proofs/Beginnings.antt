@@ -9,6 +9,7 @@ use Rattle.spec_scanner.specs.declared.settings.Settings.{Settings}
 use Rattle.spec_scanner.specs.declared.signs.Choice.{Choice}
 use Rattle.spec_scanner.specs.declared.signs.OptionName.TheVariants.{Separator, End, Escape}
 use Rattle.spec_scanner.specs.declared.signs.Signs.{Signs}
+use Rattle.spec_scanner.specs.declared.fault.SpecFaultKind.TheVariants.{OpenOptions}
 use Rattle.spec_scanner.specs.Faults.{IsLeastSo, fault}
 use Rattle.spec_scanner.specs.Options.{AreWords, BeginsAs, HasOptions, Outset, Pair, Word, clashes, in_force, no_signs, pair_faults, pairs_of, signs_of}
 use Rattle.spec_scanner.specs.Settings.{AreSettings, IsReadOf, all_in, signs_in}
@@ -59,13 +60,13 @@ module _ (text front : List ℕ) (unblanked : IsUnblanked text front) where
     text_is = unblanked.spells ∙ ap (λ (bytes : List ℕ). replicate unblanked.blanks 32 ++ bytes) after_open
 
     -- options that are not closed
-    pub begins_unclosed : IsFirstByte (is_byte 41) (take (length front - 1) (drop 1 front)) None → Begins text no_signs (length text) (Some (fault 4 (length text - length front)))
+    pub begins_unclosed : IsFirstByte (is_byte 41) (take (length front - 1) (drop 1 front)) None → Begins text no_signs (length text) (Some (fault OpenOptions (length text - length front)))
     begins_unclosed nowhere = (
-      record { signs = no_signs; start = length text; faults = fault 4 unblanked.blanks ∷ [] },
+      record { signs = no_signs; start = length text; faults = fault OpenOptions unblanked.blanks ∷ [] },
       inr (inl (record { blanks = unblanked.blanks; unclosed = record { after = take (length front - 1) (drop 1 front); spells = text_is; never = not_nowhere _ 41 nowhere }; outset_is = refl })),
       refl,
       refl,
-      rw (sym (blanks_are text front unblanked)) (least_one (fault 4 unblanked.blanks)),
+      rw (sym (blanks_are text front unblanked)) (least_one (fault OpenOptions unblanked.blanks)),
     )
 
     -- options

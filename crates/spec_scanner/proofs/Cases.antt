@@ -5,6 +5,7 @@ use Rattle.spec_scanner.specs.declared.item.Reading.TheVariants.{Plain, Separato
 use Rattle.spec_scanner.specs.declared.piece.Piece.{Piece}
 use Rattle.spec_scanner.specs.declared.piece.PieceKind.TheVariants.{Stage, Connector}
 use Rattle.spec_scanner.specs.declared.fault.Fault.{Fault}
+use Rattle.spec_scanner.specs.declared.fault.SpecFaultKind.TheVariants.{NoPiece, EmptyStage, LabelTwice, UnknownLabel, BadLabel}
 use Rattle.spec_scanner.specs.Faults.{fault}
 use Rattle.spec_scanner.specs.Labels.{Read}
 use Rattle.spec_scanner.specs.Reads.{read_items, body_faults}
@@ -37,19 +38,19 @@ places_of_two = refl
 ends_of_two : map (map (λ (p : Piece). p.arg.end)) (read two).pipelines ≡ (7 ∷ (23 ∷ (33 ∷ []))) ∷ ((38 ∷ (51 ∷ [])) ∷ [])
 ends_of_two = refl
 
-one_bar : faults (codes "|") ≡ fault 2 0 ∷ (fault 2 1 ∷ (fault 1 1 ∷ []))
+one_bar : faults (codes "|") ≡ fault EmptyStage 0 ∷ (fault EmptyStage 1 ∷ (fault NoPiece 1 ∷ []))
 one_bar = refl
 
-empty : faults [] ≡ fault 1 0 ∷ []
+empty : faults [] ≡ fault NoPiece 0 ∷ []
 empty = refl
 
 ignored : faults (codes "  ? x ") ≡ []
 ignored = refl
 
-bad : faults (codes "a b:c | ab-c: x | : | abcdefghi: y") ≡ fault 8 8 ∷ (fault 8 18 ∷ (fault 8 22 ∷ []))
+bad : faults (codes "a b:c | ab-c: x | : | abcdefghi: y") ≡ fault BadLabel 8 ∷ (fault BadLabel 18 ∷ (fault BadLabel 22 ∷ []))
 bad = refl
 
-twice : faults (codes "a: x | a: y | b: | a:") ≡ fault 6 7 ∷ (fault 7 14 ∷ [])
+twice : faults (codes "a: x | a: y | b: | a:") ≡ fault LabelTwice 7 ∷ (fault UnknownLabel 14 ∷ [])
 twice = refl
 
 stars : map (map (λ (p : Piece). p.kind)) (read (codes "*: x | *.input.0: | a: *: | b: c: d")).pipelines ≡ (Connector ∷ (Connector ∷ (Stage ∷ (Stage ∷ [])))) ∷ []

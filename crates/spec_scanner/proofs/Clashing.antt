@@ -8,6 +8,7 @@ use Rattle.spec_scanner.specs.declared.fault.Fault.{Fault}
 use Rattle.spec_scanner.specs.declared.signs.Choice.{Choice}
 use Rattle.spec_scanner.specs.declared.signs.OptionName.{OptionName}
 use Rattle.spec_scanner.specs.declared.signs.OptionName.TheVariants.{Separator, End, Escape}
+use Rattle.spec_scanner.specs.declared.fault.SpecFaultKind.TheVariants.{BadValue}
 use Rattle.spec_scanner.specs.Faults.{fault}
 use Rattle.spec_scanner.specs.Options.{AreWords, BeginsAs, Outset, Pair, Word, choice_of, chosen, clash, clashes, in_force, is_choice, is_of, listed, no_signs, option_of, pair_faults, pairs_of, separator_of, signs_of}
 use Rattle.spec_scanner.proofs.OneBodies.{AreApart}
@@ -43,7 +44,7 @@ none_before : (all : List Choice) (a b : Choice) → clashes all ≡ [] → Cont
 none_before all a b none has_a has_b same = λ before.
     let passes : ((a.byte == b.byte) && nat_lt a.place b.place) ≡ true = grind (arith, nat_tests) in
     let some = some_passes (λ (other : Choice). (other.byte == b.byte) && nat_lt other.place b.place) all a has_a passes in
-    let no : (if list_any (λ (other : Choice). (other.byte == b.byte) && nat_lt other.place b.place) all then fault 5 b.place ∷ [] else []) ≡ [] = each_none (clash all) all b none has_b in
+    let no : (if list_any (λ (other : Choice). (other.byte == b.byte) && nat_lt other.place b.place) all then fault BadValue b.place ∷ [] else []) ≡ [] = each_none (clash all) all b none has_b in
     let clear = rw some at no in
     cc
 

@@ -3,6 +3,7 @@ use Rattle.std.proofs.Common.{◌≡◌, ◌≢◌, ℕ, zero, suc, ◌+◌, Lis
 use Rattle.std.specs.List.{Contains}
 use Rattle.std.proofs.lemmas.List.Elements.{Contains-append_right}
 use Rattle.stage_syntax.specs.Words.{IsUnblanked}
+use Rattle.spec_scanner.specs.declared.fault.SpecFaultKind.TheVariants.{OpenOptions}
 use Rattle.spec_scanner.specs.Faults.{fault}
 use Rattle.spec_scanner.proofs.Beginnings.{outset_of}
 use Rattle.spec_scanner.specs.Options.{AreWords, BeginsAs, HasNone, HasSome, HasUnclosed, IsWordAt, Outset, Word, no_signs}
@@ -104,7 +105,7 @@ module _ (text : List ℕ) where
   unclosed_one : (a b : Outset) → HasUnclosed text a → HasUnclosed text b → a ≡ b
   unclosed_one a b x y =
       let both = one_parenthesis x.blanks y.blanks x.unclosed.after y.unclosed.after x.unclosed.spells y.unclosed.spells in
-      x.outset_is ∙ ap (λ (n : ℕ). record { signs = no_signs; start = length text; faults = fault 4 n ∷ [] }) both.0 ∙ sym y.outset_is
+      x.outset_is ∙ ap (λ (n : ℕ). record { signs = no_signs; start = length text; faults = fault OpenOptions n ∷ [] }) both.0 ∙ sym y.outset_is
 
   four : (make : ℕ → List ℕ → List ℕ → List Word → Outset) (n m : ℕ) (a b c d : List ℕ) (e f : List Word) → n ≡ m → a ≡ b → c ≡ d → e ≡ f → make n a c e ≡ make m b d f
   four make n m a b c d e f first second third fourth = cc

@@ -10,6 +10,7 @@ use Rattle.spec_scanner.specs.declared.piece.Piece.{Piece}
 use Rattle.spec_scanner.specs.declared.signs.Signs.{Signs}
 use Rattle.spec_scanner.specs.Additions.{AddsRead}
 use Rattle.spec_scanner.specs.Body.{IsBody, Spells}
+use Rattle.spec_scanner.specs.declared.fault.SpecFaultKind.TheVariants.{NoPiece, LoneEscape, TooLong}
 use Rattle.spec_scanner.specs.Faults.{IsLeast, IsLeastSo, fault, least}
 use Rattle.spec_scanner.specs.Labels.{Label, read_pipelines}
 use Rattle.spec_scanner.specs.Reads.{IsRefused, body_faults, longest, no_escaped, no_piece, read_items}
@@ -22,7 +23,7 @@ noted_least found other result faults more is one so =
     subst (λ least. IsLeast least (faults ++ more)) (sym is) (subst (λ more. IsLeast (least found other) (faults ++ more)) (sym one) (least_more found other faults so))
 
 -- a tail is an escape character
-pub one_escaped : (tail : List ℕ) (size : ℕ) → true ≡ nat_lt 0 (length tail) → no_escaped tail size ≡ fault 9 (size - 1) ∷ []
+pub one_escaped : (tail : List ℕ) (size : ℕ) → true ≡ nat_lt 0 (length tail) → no_escaped tail size ≡ fault LoneEscape (size - 1) ∷ []
 one_escaped [] size some = cc
 one_escaped (byte ∷ bytes) size some = refl
 
@@ -35,7 +36,7 @@ some_piece [] size some = cc
 some_piece ([] ∷ pipelines) size some = some_piece pipelines size some
 some_piece ((piece ∷ pieces) ∷ pipelines) size some = refl
 
-pub no_piece_at_all : (pipelines : List (List Piece)) (size : ℕ) → list_any has_some pipelines ≡ false → no_piece pipelines size ≡ fault 1 size ∷ []
+pub no_piece_at_all : (pipelines : List (List Piece)) (size : ℕ) → list_any has_some pipelines ≡ false → no_piece pipelines size ≡ fault NoPiece size ∷ []
 no_piece_at_all [] size none = refl
 no_piece_at_all ([] ∷ pipelines) size none = no_piece_at_all pipelines size none
 no_piece_at_all ((piece ∷ pieces) ∷ pipelines) size none =
@@ -70,5 +71,5 @@ items_in_text signs at text (item ∷ items) tail body =
     omega (arith, ap length read.text_is, length-append read.spelling body.0, spelled_some signs item.reading item.byte read.spelling read.spells, items_in_text signs item.after body.0 items tail body.2)
 
 -- too many bytes
-pub too_long : (text : List ℕ) → longest < length text → IsRefused text (fault 10 longest)
-too_long text long = record { faults = fault 10 longest ∷ []; faults_are = inl (long, refl); least_is = least_one (fault 10 longest) }
+pub too_long : (text : List ℕ) → longest < length text → IsRefused text (fault TooLong longest)
+too_long text long = record { faults = fault TooLong longest ∷ []; faults_are = inl (long, refl); least_is = least_one (fault TooLong longest) }

@@ -12,6 +12,7 @@ use Rattle.spec_scanner.specs.declared.settings.Settings.{Settings}
 use Rattle.spec_scanner.specs.declared.signs.Choice.{Choice}
 use Rattle.spec_scanner.specs.declared.signs.OptionName.{OptionName}
 use Rattle.spec_scanner.specs.declared.signs.OptionName.TheVariants.{Separator, End, Escape, Name}
+use Rattle.spec_scanner.specs.declared.fault.SpecFaultKind.TheVariants.{BadOption}
 use Rattle.spec_scanner.specs.Faults.{IsLeastSo, fault}
 use Rattle.spec_scanner.specs.Options.{Pair, choice_of, chosen, is_new, is_of, is_same_option, option_of, pair_faults, value_faults, word_faults}
 use Rattle.spec_scanner.specs.Settings.{AreSettings, IsReadOf, is_new_in, setting_of, settled, with_setting}
@@ -136,9 +137,9 @@ faults_last close earlier (first ∷ pairs) pair =
 -- one pair more was read
 module _ (close : ℕ) (pairs : List Pair) (pair : Pair) (read : OptionsRead) (is_read : IsReadOf close pairs read) where
   module _ (option : Option OptionName) (option_is : option ≡ option_of pair.word.bytes) where
-    pub word_faults_are : (fresh : Bool) (of_word : List Fault) → fresh ≡ is_new_in read.settings option → of_word ≡ (if fresh then [] else fault 3 pair.word.place ∷ []) → of_word ≡ word_faults pairs pair
+    pub word_faults_are : (fresh : Bool) (of_word : List Fault) → fresh ≡ is_new_in read.settings option → of_word ≡ (if fresh then [] else fault BadOption pair.word.place ∷ []) → of_word ≡ word_faults pairs pair
     word_faults_are fresh of_word fresh_is of_word_is =
-        of_word_is ∙ ap (λ (b : Bool). if b then [] else fault 3 pair.word.place ∷ []) (fresh_is ∙ new_as pairs read.settings is_read.settings_are option ∙ ap (is_new pairs) option_is)
+        of_word_is ∙ ap (λ (b : Bool). if b then [] else fault BadOption pair.word.place ∷ []) (fresh_is ∙ new_as pairs read.settings is_read.settings_are option ∙ ap (is_new pairs) option_is)
 
     pub read_more : (of_word of_value : List Fault) (first second : Option Fault) (settings : Settings) (choice : Option Choice)
         → of_word ≡ word_faults pairs pair → of_value ≡ value_faults close option pair.value → choice ≡ chosen pair.value → settings ≡ settled read.settings option choice

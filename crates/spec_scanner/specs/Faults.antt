@@ -4,10 +4,31 @@ use Rattle.std.specs.List.{Contains}
 use Rattle.std.specs.declared.option.Option.{Option}
 use Rattle.std.specs.declared.option.Option.TheVariants.{Some, None}
 use Rattle.spec_scanner.specs.declared.fault.Fault.{Fault}
+use Rattle.spec_scanner.specs.declared.fault.SpecFaultKind.{SpecFaultKind}
+use Rattle.spec_scanner.specs.declared.fault.SpecFaultKind.TheVariants.{NoPiece, EmptyStage, BadOption, OpenOptions, BadValue, LabelTwice, UnknownLabel, BadLabel, LoneEscape, TooLong, UnknownStage, BadArguments, NoSuchStream, SecondConsole, TooManyStages, MisplacedConnector}
+
+-- the number under which a fault is reported
+abbrev pub number_of : SpecFaultKind → ℕ
+number_of NoPiece = 1
+number_of EmptyStage = 2
+number_of BadOption = 3
+number_of OpenOptions = 4
+number_of BadValue = 5
+number_of LabelTwice = 6
+number_of UnknownLabel = 7
+number_of BadLabel = 8
+number_of LoneEscape = 9
+number_of TooLong = 10
+number_of UnknownStage = 11
+number_of BadArguments = 12
+number_of NoSuchStream = 13
+number_of SecondConsole = 15
+number_of TooManyStages = 16
+number_of MisplacedConnector = 17
 
 -- a fault that isn't of an argument
-abbrev pub fault : ℕ → ℕ → Fault
-fault number place = record { number = number; argument = 0; place = place }
+abbrev pub fault : SpecFaultKind → ℕ → Fault
+fault kind place = record { number = number_of kind; argument = 0; place = place }
 
 -- the first fault stands further left, or is at the same place and of no greater number
 abbrev pub IsBefore : Fault → Fault → Type 0

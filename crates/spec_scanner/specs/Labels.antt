@@ -9,6 +9,7 @@ use Rattle.spec_scanner.specs.declared.fault.Fault.{Fault}
 use Rattle.spec_scanner.specs.declared.item.Item.{Item}
 use Rattle.spec_scanner.specs.declared.piece.Piece.{Piece}
 use Rattle.spec_scanner.specs.declared.piece.PieceKind.TheVariants.{Stage}
+use Rattle.spec_scanner.specs.declared.fault.SpecFaultKind.TheVariants.{EmptyStage, LabelTwice, UnknownLabel, BadLabel}
 use Rattle.spec_scanner.specs.Faults.{fault}
 use Rattle.spec_scanner.specs.Pieces.{bytes_of, colon_of, end_of, is_good_label, named_piece, place_of, plain_piece, reference_piece}
 use Rattle.spec_scanner.specs.Stretches.{Stretch, cut, is_ignored, is_separator, trimmed, without_front}
@@ -40,20 +41,20 @@ found pieces labels faults = record { pieces = pieces; labels = labels; faults =
 
 -- a use of a label
 abbrev pub refer : List Label → List ℕ → ℕ → ℕ → Option ℕ → Found
-refer labels name place end None = found (reference_piece None 0 place end ∷ []) labels (fault 7 place ∷ [])
+refer labels name place end None = found (reference_piece None 0 place end ∷ []) labels (fault UnknownLabel place ∷ [])
 refer labels name place end (Some number) =
     found (reference_piece (Some number) (suc (uses_of labels number)) place end ∷ []) (used labels number) []
 
 -- a definition of a label, with its stage
 abbrev pub define : List Label → List ℕ → ℕ → List Item → Option ℕ → Found
-define labels name place items (Some number) = found (named_piece Stage None place items ∷ []) labels (fault 6 place ∷ [])
+define labels name place items (Some number) = found (named_piece Stage None place items ∷ []) labels (fault LabelTwice place ∷ [])
 define labels name place items None =
     found (named_piece Stage (Some (length labels)) place items ∷ []) (labels ++ record { name = name; uses = 0 } ∷ []) []
 
 -- a bad label, with its stage or without one
 abbrev pub bad_label : List Label → ℕ → ℕ → List Item → Found
-bad_label labels place end [] = found (reference_piece None 0 place end ∷ []) labels (fault 8 place ∷ [])
-bad_label labels place end (item ∷ items) = found (named_piece Stage None place (item ∷ items) ∷ []) labels (fault 8 place ∷ [])
+bad_label labels place end [] = found (reference_piece None 0 place end ∷ []) labels (fault BadLabel place ∷ [])
+bad_label labels place end (item ∷ items) = found (named_piece Stage None place (item ∷ items) ∷ []) labels (fault BadLabel place ∷ [])
 
 -- a good label, with its stage or without one
 abbrev pub good_label : List Label → List ℕ → ℕ → ℕ → List Item → Found
@@ -72,7 +73,7 @@ read_text labels items (Some colon) =
 
 -- a stage's text, closed at a place; an empty one is a fault there
 abbrev pub read_stage : List Label → ℕ → List Item → Found
-read_stage labels closed [] = found [] labels (fault 2 closed ∷ [])
+read_stage labels closed [] = found [] labels (fault EmptyStage closed ∷ [])
 read_stage labels closed (item ∷ items) = read_text labels (item ∷ items) (colon_of (item ∷ items))
 
 -- the stages of a pipeline

@@ -11,6 +11,7 @@ use Rattle.spec_scanner.specs.declared.signs.Signs.{Signs}
 use Rattle.spec_scanner.specs.declared.signs.Choice.{Choice}
 use Rattle.spec_scanner.specs.declared.signs.OptionName.{OptionName}
 use Rattle.spec_scanner.specs.declared.signs.OptionName.TheVariants.{Separator, End, Escape, Name}
+use Rattle.spec_scanner.specs.declared.fault.SpecFaultKind.TheVariants.{BadOption, OpenOptions, BadValue}
 use Rattle.spec_scanner.specs.Faults.{fault}
 
 -- a word, and the place of its first byte
@@ -89,12 +90,12 @@ is_new earlier (Some name) = not (list_any (λ pair. is_of (option_of pair.word.
 
 -- the option is unknown, or given by an earlier pair
 abbrev pub word_faults : List Pair → Pair → List Fault
-word_faults earlier pair = if is_new earlier (option_of pair.word.bytes) then [] else fault 3 pair.word.place ∷ []
+word_faults earlier pair = if is_new earlier (option_of pair.word.bytes) then [] else fault BadOption pair.word.place ∷ []
 
 -- the value is missing, which is seen at the closing parenthesis, or is none that may be chosen
 abbrev pub value_faults : ℕ → Option OptionName → Option Word → List Fault
-value_faults close option None = fault 5 close ∷ []
-value_faults close option (Some value) = if must_choose option && not (is_choice value.bytes) then fault 5 value.place ∷ [] else []
+value_faults close option None = fault BadValue close ∷ []
+value_faults close option (Some value) = if must_choose option && not (is_choice value.bytes) then fault BadValue value.place ∷ [] else []
 
 -- the faults of pairs one by one, after earlier ones
 abbrev pub pair_faults : ℕ → List Pair → List Pair → List Fault
@@ -125,7 +126,7 @@ in_force pairs = separator_of pairs ∷ (listed (choice_of End pairs) ++ listed 
 
 -- a choice of one character by two options is a fault of the later one
 abbrev pub clash : List Choice → Choice → List Fault
-clash all choice = if list_any (λ other. other.byte == choice.byte && nat_lt other.place choice.place) all then fault 5 choice.place ∷ [] else []
+clash all choice = if list_any (λ other. other.byte == choice.byte && nat_lt other.place choice.place) all then fault BadValue choice.place ∷ [] else []
 
 abbrev pub clashes : List Choice → List Fault
 clashes all = flat_map (clash all) all
@@ -169,7 +170,7 @@ pub record HasNone (text : List ℕ) (outset : Outset) : Type 0 where
 pub record HasUnclosed (text : List ℕ) (outset : Outset) : Type 0 where
   pub blanks : ℕ
   pub unclosed : IsUnclosed text blanks
-  pub outset_is : outset ≡ record { signs = no_signs; start = length text; faults = fault 4 blanks ∷ [] }
+  pub outset_is : outset ≡ record { signs = no_signs; start = length text; faults = fault OpenOptions blanks ∷ [] }
 
 -- the text has options
 pub record HasSome (text : List ℕ) (outset : Outset) : Type 0 where

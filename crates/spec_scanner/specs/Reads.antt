@@ -6,6 +6,7 @@ use Rattle.spec_scanner.specs.declared.fault.SpecFault.TheVariants.{Refused, NoM
 use Rattle.spec_scanner.specs.declared.item.Item.{Item}
 use Rattle.spec_scanner.specs.declared.piece.Piece.{Piece}
 use Rattle.spec_scanner.specs.Body.{IsBody}
+use Rattle.spec_scanner.specs.declared.fault.SpecFaultKind.TheVariants.{NoPiece, LoneEscape, TooLong}
 use Rattle.spec_scanner.specs.Faults.{IsLeast, fault}
 use Rattle.spec_scanner.specs.Labels.{Read, read_pipelines}
 use Rattle.spec_scanner.specs.Options.{BeginsAs, Outset}
@@ -21,14 +22,14 @@ read_items items size = read_pipelines [] (cut is_end items size)
 
 -- no piece at all is a fault at the end of the text
 abbrev pub no_piece : List (List Piece) → ℕ → List Fault
-no_piece [] size = fault 1 size ∷ []
+no_piece [] size = fault NoPiece size ∷ []
 no_piece ([] ∷ pipelines) size = no_piece pipelines size
 no_piece ((piece ∷ pieces) ∷ pipelines) size = []
 
 -- an escape character with nothing after it is a fault at its place
 abbrev pub no_escaped : List ℕ → ℕ → List Fault
 no_escaped [] size = []
-no_escaped (byte ∷ bytes) size = fault 9 (size - 1) ∷ []
+no_escaped (byte ∷ bytes) size = fault LoneEscape (size - 1) ∷ []
 
 -- the faults of a body of these items and this tail
 abbrev pub body_faults : List Item → List ℕ → ℕ → List Fault
@@ -67,7 +68,7 @@ pub record HasBodyFaults (text : List ℕ) (faults : List Fault) : Type 0 where
 -- the faults of a text: too many bytes before all others, and those of the options before those of the body, which stand further right
 abbrev pub AreFaults : List ℕ → List Fault → Type 0
 AreFaults text faults =
-    ((longest < length text) × (faults ≡ fault 10 longest ∷ []))
+    ((longest < length text) × (faults ≡ fault TooLong longest ∷ []))
     ⊎ ((length text ≤ longest) × (HasBadOptions text faults ⊎ HasBodyFaults text faults))
 
 -- this is the least fault of a text
@@ -78,5 +79,5 @@ pub record IsRefused (text : List ℕ) (least : Fault) : Type 0 where
 
 -- the text is refused for this reason; want of memory may come in any case
 abbrev pub Refuses : List ℕ → SpecFault → Type 0
-Refuses text (Refused number place) = IsRefused text (fault number place)
+Refuses text (Refused number place) = IsRefused text (record { number = number; argument = 0; place = place })
 Refuses text NoMemory = ⊤

@@ -5,7 +5,7 @@ ghost use Rattle.spec_scanner.specs.Additions.{AddsFound, load};
 ghost use Rattle.spec_scanner.specs.Labels.{bad_label, define, good_label, labelled, number_of, refer};
 ghost use Rattle.spec_scanner.specs.Pieces as Pieces;
 
-use crate::fault::Fault;
+use crate::fault::SpecFaultKind;
 use crate::findings::Findings;
 use crate::item::Item;
 use crate::piece::{Piece, PieceKind};
@@ -19,11 +19,7 @@ fn refer(alloc: Global, findings: &mut Findings, name: &[u8], place: u32, end: u
     ensures { AddsFound findings.old findings.new [] (result ∷ []) (refer findings.old.labels name.now place end (number_of findings.old.labels name.now)) }
 {
     let Some(number) = findings.labels.number_of(name) else {
-        findings.note(Fault {
-            number: 7,
-            argument: 0,
-            place,
-        });
+        findings.note(SpecFaultKind::UnknownLabel.at(place));
         return reference_piece(alloc, None, 0, place, end);
     };
     let uses = findings.labels.use_of(number);
@@ -42,11 +38,7 @@ fn define(
     ensures { IfOk result (λ piece. AddsFound findings.old findings.new [] (piece ∷ []) (define findings.old.labels name.items place items.now (number_of findings.old.labels name.items))) }
 {
     if findings.labels.number_of(&name).is_some() {
-        findings.note(Fault {
-            number: 6,
-            argument: 0,
-            place,
-        });
+        findings.note(SpecFaultKind::LabelTwice.at(place));
         return named_piece(alloc, PieceKind::Stage, None, place, items);
     }
     let number = findings.labels.len() as u32;
@@ -64,11 +56,7 @@ fn bad_label(
 ) -> Result<Piece, NoMemory>
     ensures { IfOk result (λ piece. AddsFound findings.old findings.new [] (piece ∷ []) (bad_label findings.old.labels place end items.now)) }
 {
-    findings.note(Fault {
-        number: 8,
-        argument: 0,
-        place,
-    });
+    findings.note(SpecFaultKind::BadLabel.at(place));
     if items.is_empty() {
         return Ok(reference_piece(alloc, None, 0, place, end));
     }

@@ -20,7 +20,7 @@ mod signs;
 mod stages;
 mod words;
 
-pub use fault::{Fault, SpecFault, least};
+pub use fault::{Fault, SpecFault, SpecFaultKind, least};
 pub use laws::{no_refusal, one_reading_of, one_refusal_of, places_rise};
 pub use piece::{Piece, PieceKind};
 pub use scanned::{Pieces, Scanned};

@@ -3,7 +3,7 @@ ghost use Rattle.std.specs.Str.{bytes_eq, str_to_ascii_lowercase};
 ghost use Rattle.spec_scanner.specs.Options as Options;
 ghost use Rattle.spec_scanner.specs.OptionWords.{word_of};
 
-use crate::fault::Fault;
+use crate::fault::{Fault, SpecFaultKind};
 use crate::signs::{Choice, OptionName};
 
 /// A word among the options, at its place.
@@ -93,16 +93,10 @@ pub(crate) fn value_fault(
     ensures { option_to_list result ≡ Options.value_faults close name (option_map word_of value.entry) }
 {
     match value {
-        None => Some(Fault {
-            number: 5,
-            argument: 0,
-            place: close,
-        }),
-        Some(word) if needs_choice(name) && !is_chosen(word.bytes) => Some(Fault {
-            number: 5,
-            argument: 0,
-            place: word.place,
-        }),
+        None => Some(SpecFaultKind::BadValue.at(close)),
+        Some(word) if needs_choice(name) && !is_chosen(word.bytes) => {
+            Some(SpecFaultKind::BadValue.at(word.place))
+        }
         Some(_) => None,
     }
 }

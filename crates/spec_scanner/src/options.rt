@@ -5,7 +5,7 @@ ghost use Rattle.spec_scanner.specs.Options as Options;
 ghost use Rattle.spec_scanner.specs.OptionWords.{word_of};
 ghost use Rattle.spec_scanner.specs.Settings.{IsReadOf};
 
-use crate::fault::Fault;
+use crate::fault::{Fault, SpecFaultKind};
 use crate::option_words::OptionWord;
 use crate::settings::{OptionsRead, least_with_clashes, nothing_read, read_pair, signs_of};
 use crate::signs::Signs;
@@ -89,11 +89,7 @@ pub(crate) fn begin(text: &[u8]) -> Begun
         return without_options(blanks, None);
     };
     let Some(size) = after_open.find_byte(b')') else {
-        let unclosed = Fault {
-            number: 4,
-            argument: 0,
-            place: blanks as u32,
-        };
+        let unclosed = SpecFaultKind::OpenOptions.at(blanks as u32);
         return without_options(text.len(), Some(unclosed));
     };
     let inside = &after_open[..size];

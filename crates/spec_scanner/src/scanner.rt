@@ -6,7 +6,7 @@ ghost use Rattle.spec_scanner.specs.Faults.{IsLeastSo};
 ghost use Rattle.spec_scanner.specs.Reads.{Reads, Refuses, body_faults, no_escaped, no_piece, read_items};
 
 use crate::body::read_body;
-use crate::fault::{Fault, SpecFault, least};
+use crate::fault::{Fault, SpecFault, SpecFaultKind, least};
 use crate::findings::Findings;
 use crate::item::Item;
 use crate::labels::Labels;
@@ -39,14 +39,7 @@ fn with_escaped(found: Option<Fault>, is_cut_short: bool, size: u32) -> Option<F
 {
     if is_cut_short {
         let place = size.saturating_sub(1);
-        Some(least(
-            found,
-            Fault {
-                number: 9,
-                argument: 0,
-                place,
-            },
-        ))
+        Some(least(found, SpecFaultKind::LoneEscape.at(place)))
     } else {
         found
     }
@@ -59,14 +52,7 @@ fn with_no_piece(found: Option<Fault>, pipelines: &[Pieces], size: u32) -> Optio
     if has_piece(pipelines) {
         found
     } else {
-        Some(least(
-            found,
-            Fault {
-                number: 1,
-                argument: 0,
-                place: size,
-            },
-        ))
+        Some(least(found, SpecFaultKind::NoPiece.at(size)))
     }
 }
 
@@ -108,11 +94,7 @@ pub fn scan(alloc: Global, text: &[u8]) -> Result<Scanned, SpecFault>
     ensures refused { IfErr result (Refuses text.now) }
 {
     if text.len() > LONGEST {
-        return Err(refused(Fault {
-            number: 10,
-            argument: 0,
-            place: LONGEST as u32,
-        }));
+        return Err(refused(SpecFaultKind::TooLong.at(LONGEST as u32)));
     }
     let begun = begin(text);
     if let Some(fault) = begun.fault {

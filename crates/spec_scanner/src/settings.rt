@@ -1,12 +1,13 @@
 ghost use Rattle.std.specs.Prelude.{◌≡◌, ◌==◌, ◌&&◌, ◌++◌, ◌∷◌, List, [], if◌then◌else◌, nat_lt, option_to_list};
 ghost use Rattle.std.specs.List.{flat_map, list_any};
 ghost use Rattle.spec_scanner.specs.declared.fault.Fault.{Fault};
+ghost use Rattle.spec_scanner.specs.declared.fault.SpecFaultKind.TheVariants.{BadOption};
 ghost use Rattle.spec_scanner.specs.Faults.{IsLeastSo, fault};
 ghost use Rattle.spec_scanner.specs.Options.{Pair, clash, clashes, listed};
 ghost use Rattle.spec_scanner.specs.OptionWords.{pair_of};
 ghost use Rattle.spec_scanner.specs.Settings as Specs;
 
-use crate::fault::{Fault, least};
+use crate::fault::{Fault, SpecFaultKind, least};
 use crate::option_words::{OptionWord, choice_at, named_option, value_fault};
 use crate::signs::{Choice, OptionName, Signs};
 
@@ -28,16 +29,12 @@ pub(crate) struct Settings {
 
 // The fault of an option's word, which is unknown or given already.
 fn word_fault(is_new: bool, place: u32) -> Option<Fault>
-    ensures { option_to_list result ≡ (if is_new then [] else fault 3 place ∷ []) }
+    ensures { option_to_list result ≡ (if is_new then [] else fault BadOption place ∷ []) }
 {
     if is_new {
         None
     } else {
-        Some(Fault {
-            number: 3,
-            argument: 0,
-            place,
-        })
+        Some(SpecFaultKind::BadOption.at(place))
     }
 }
 
@@ -176,11 +173,7 @@ fn clash_fault(settings: &Settings, choice: Option<Choice>) -> Option<Fault>
         || is_chosen_again(settings.end.choice, choice)
         || is_chosen_again(settings.escape.choice, choice)
     {
-        Some(Fault {
-            number: 5,
-            argument: 0,
-            place: choice.place,
-        })
+        Some(SpecFaultKind::BadValue.at(choice.place))
     } else {
         None
     }

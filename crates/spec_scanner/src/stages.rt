@@ -5,7 +5,7 @@ ghost use Rattle.spec_scanner.specs.Pieces.{colon_of};
 ghost use Rattle.spec_scanner.specs.Stretches.{cut, is_end, is_separator};
 
 use crate::cuts::{split_pipeline, split_stage};
-use crate::fault::Fault;
+use crate::fault::SpecFaultKind;
 use crate::findings::Findings;
 use crate::item::Item;
 use crate::labelled::labelled;
@@ -49,11 +49,7 @@ pub(crate) fn read_stage(
     ensures few { OnOk result (2 * load findings.new.labels ≤ 2 * load findings.old.labels + length items.now) }
 {
     if items.is_empty() {
-        findings.note(Fault {
-            number: 2,
-            argument: 0,
-            place: closed,
-        });
+        findings.note(SpecFaultKind::EmptyStage.at(closed));
         return Ok(());
     }
     let piece = read_text(alloc, findings, items)?;

@@ -1,8 +1,9 @@
 use Rattle.std.proofs.Common.{◌∙◌, ap, arith, sym, None}
+use Rattle.spec_scanner.specs.declared.fault.SpecFaultKind.TheVariants.{UnknownLabel}
 use Rattle.spec_scanner.specs.Faults.{fault}
 use Rattle.spec_scanner.specs.Labels.{number_of, refer}
 use Rattle.spec_scanner.specs.Pieces.{reference_piece}
-use Rattle.spec_scanner.proofs.Adds.{piece_noted}
+use Rattle.spec_scanner.proofs.Adds.{piece_noted, with_fault}
 use Rattle.spec_scanner.proofs.Loads.{labels_in_load, uses_in_load}
 use Rattle.spec_scanner.proofs.labelled.refer.Goals as goal
 
@@ -10,7 +11,7 @@ pub returns-in_default : goal.returns-in_default
 returns-in_default c =
     let labels = c.args.findings.now.labels in
     let name = c.args.name.now in
-    piece_noted c.args.findings.now c.note.new.self (fault 7 c.args.place) c.note.ensures
+    piece_noted c.args.findings.now c.note.new.self (fault UnknownLabel c.args.place) (c.note.ensures ∙ ap (with_fault c.args.findings.now) c.at.ensures)
     (refer labels name c.args.place c.args.end (number_of labels name)) (reference_piece None 0 c.args.place c.args.end)
     (ap (refer labels name c.args.place c.args.end) (sym c.number_of.ensures.number ∙ c.in_default.is))
     c.reference_piece.result c.reference_piece.ensures

@@ -15,7 +15,7 @@ returns-in_default-clause-begins c =
 pub returns-in_default-find_byte-clause-begins : goal.returns-in_default-find_byte-clause-begins
 returns-in_default-find_byte-clause-begins c =
     let opens : get_or c.without_blanks-front.result.now 0 0 ≡ 40 = search rules in
-    rw c.without_options-in_default-find_byte.ensures (begins_unclosed c.args.text.now c.without_blanks-front.result.now c.without_blanks-front.ensures opens c.in-40.len_at_least c.in_default-find_byte.ensures)
+    rw (c.without_options-in_default-find_byte.ensures, c.at-unclosed.ensures) (begins_unclosed c.args.text.now c.without_blanks-front.result.now c.without_blanks-front.ensures opens c.in-40.len_at_least c.in_default-find_byte.ensures)
 
 pub returns-clause-begins : goal.returns-clause-begins
 returns-clause-begins c =

@@ -1,11 +1,14 @@
-use Rattle.std.proofs.Common.{ap, arith, drop, length, length-drop, rules, subst, sym}
+use Rattle.std.proofs.Common.{◌∙◌, ap, arith, drop, length, length-drop, rules, subst, sym}
+use Rattle.spec_scanner.specs.declared.fault.Fault.{Fault}
+use Rattle.spec_scanner.specs.declared.fault.SpecFault.TheVariants.{Refused}
 use Rattle.spec_scanner.specs.Reads.{IsRefused, Refuses}
 use Rattle.spec_scanner.proofs.Bare.{refused_told}
 use Rattle.spec_scanner.proofs.Scans.{items_in_text, too_long}
 use Rattle.spec_scanner.proofs.scanner.scan.Goals as goal
 
 pub returns-then-text-gt-LONGEST-clause-refused : goal.returns-then-text-gt-LONGEST-clause-refused
-returns-then-text-gt-LONGEST-clause-refused c = subst (Refuses c.args.text.now) (sym c.refused.ensures) (too_long c.args.text.now c.if-text-gt-LONGEST.true)
+returns-then-text-gt-LONGEST-clause-refused c =
+    subst (Refuses c.args.text.now) (sym (c.refused.ensures ∙ ap (λ (fault : Fault). Refused fault.number fault.place) c.at.ensures)) (too_long c.args.text.now c.if-text-gt-LONGEST.true)
 
 pub read_items-requires : goal.read_items-requires
 read_items-requires c =
