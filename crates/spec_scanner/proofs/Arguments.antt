@@ -1,5 +1,5 @@
 -- The places of an argument rise below its end.
-use Rattle.std.proofs.Common.{◌≡◌, ℕ, zero, suc, ◌+◌, ◌<◌, ◌≤◌, Bool, true, false, not, cond, List, [], ◌∷◌, ◌++◌, length, map, take, drop, refl, sym, ◌∙◌, arith, subst, Option, Some, None, slice_get}
+use Rattle.std.proofs.Common.{◌≡◌, ℕ, zero, suc, ◌<◌, ◌≤◌, Bool, true, false, cond, List, [], ◌∷◌, ◌++◌, length, map, take, drop, refl, sym, ◌∙◌, arith, subst, Option, Some, None, slice_get}
 use Rattle.std.specs.Prelude.{⊤}
 use Rattle.std.specs.List.{last_or, prefix_len}
 use Rattle.std.specs.Option.{option_map_or}
