@@ -14,20 +14,18 @@ use Rattle.pipe_model.specs.Form.{inputs_by, most_of}
 use Rattle.pipe_model.specs.Shape.{Shape, Width}
 use Rattle.pipe_model.specs.Shape.Width.{Two, All}
 use Rattle.pipe_model.specs.Shape.Shape.{Absent, Sources, Lists, Sinks, Firsts, Turns, Rounds, Gates, Dams, Queues}
-use Rattle.pipe_model.proofs.Truths.{not_second}
 use Rattle.spec_scanner.specs.declared.piece.Piece.{Piece}
 use Rattle.spec_scanner.specs.declared.piece.PieceKind.{PieceKind}
 use Rattle.spec_scanner.specs.declared.piece.PieceKind.TheVariants.{Stage, Reference, Connector}
 use Rattle.net_graph.specs.Flags.{AreFlags}
 use Rattle.net_graph.specs.Nets.{inputs_of, is_linked_in, is_linked_out, links_of, net_of, outputs_of, strand_of, strands_from}
 use Rattle.net_graph.specs.Numbered.{AreNumbered, AreScanned, pieces_of, uses_after}
-use Rattle.net_graph.specs.Stands.{Stand, is_label, is_of_reference, is_of_stage, is_stage, refers_to, stage_of, stages_of, stands_in, stands_of}
+use Rattle.net_graph.specs.Stands.{Stand, is_label, is_of_stage, is_stage, refers_to, stage_of, stages_of, stands_in, stands_of}
 use Rattle.net_graph.specs.Searches.{stand}
 use Rattle.net_graph.specs.Strands.{row_by, strand_by, strands_by}
 use Rattle.net_graph.specs.Uses.{later_by, later_of, more_streams, uses_past}
 use Rattle.net_graph.specs.Joins.{AreSmall, links_by_all}
 use Rattle.net_graph.proofs.Joined.{all_links_same}
-use Rattle.net_graph.proofs.FormedLists.{count_more}
 use Rattle.net_graph.proofs.FormedPositions.{position_finds}
 use Rattle.net_graph.proofs.Usages.{later_both}
 use Rattle.std.proofs.Math.Nat.{min-le_right}

@@ -4,7 +4,7 @@ use Rattle.std.proofs.lemmas.Bool.{eqb-true}
 use Rattle.std.specs.Prelude.{Ok}
 use Rattle.std.specs.List.{count_by}
 use Rattle.pipe_model.specs.declared.kind.Kind.{Kind}
-use Rattle.pipe_model.proofs.Truths.{both, not_second}
+use Rattle.pipe_model.proofs.Truths.{both}
 use Rattle.pipe_model.proofs.Lists.{get_seam}
 use Rattle.stage_syntax.proofs.TypedKinds.{typed_kind}
 use Rattle.spec_scanner.specs.declared.piece.Piece.{Piece}
@@ -16,7 +16,7 @@ use Rattle.net_graph.specs.Numbered.{AreScanned, IsNumbered}
 use Rattle.net_graph.specs.Faults.{faults_of}
 use Rattle.net_graph.proofs.FormedFaults.{few_streams, input_there, output_there}
 use Rattle.net_graph.proofs.FormedKinds.{kind_here}
-use Rattle.net_graph.proofs.FormedLabels.{counted_with, counted_without, numbered_at, reference_is, stage_is, stages_with, none_referred}
+use Rattle.net_graph.proofs.FormedLabels.{counted_with, numbered_at, reference_is, stage_is, stages_with, none_referred}
 use Rattle.net_graph.proofs.FormedLists.{last_counted}
 use Rattle.net_graph.proofs.FormedPositions.{position_finds}
 use Rattle.net_graph.proofs.FormedSpots.{Defines, Refers, StandsFor, found_whole, told_of}
