@@ -1,10 +1,12 @@
 -- What is kept of each level after a call.
-use Rattle.std.proofs.Common.{rules, ◌≡◌, ◌≢◌, ◌⊎◌, inl, inr, ℕ, zero, suc, ◌+◌, ◌-◌, ◌^◌, ◌<◌, ◌≤◌, Bool, true, false, List, [], ◌∷◌, ◌++◌, length, take, get_or, set, replicate, refl, sym, ◌∙◌, ap, subst, arith, ℤ, pos, Option, Some, None, slice_get}
+use Rattle.std.proofs.Common.{◌≡◌, ◌≢◌, ◌⊎◌, inl, inr, ℕ, zero, suc, ◌+◌, ◌-◌, ◌^◌, ◌<◌, ◌≤◌, Bool, true, false, List, ◌++◌, length, take, get_or, set, replicate, refl, sym, ◌∙◌, ap, subst, arith, ℤ, pos, Option, Some, None, slice_get}
 use Rattle.std.specs.Option.{option_map}
 use Rattle.std.proofs.lemmas.Bool.Decides.{nat_tests}
 use Rattle.std.proofs.lemmas.Grind.{common_steps}
 use Rattle.std.proofs.lemmas.Option.{slice_get_read}
 use Rattle.std.proofs.lemmas.List.{length-set, length-replicate, get_or-set_same, get_or-set_other}
+use Rattle.pipe_model.proofs.Numbers.{equal_or_not}
+use Rattle.pipe_model.proofs.Lists.{get_set_same, get_set_other, get_copy, read_copy}
 use Rattle.commit_levels.specs.declared.unit.Level.{Level}
 use Rattle.commit_levels.specs.declared.member.Progress.{Progress}
 use Rattle.commit_levels.specs.declared.member.Progress.TheVariants.{NotAsked, Asked, Reached}
@@ -12,22 +14,7 @@ use Rattle.commit_levels.specs.UnitState.{Member, level_count, new_member, progr
 use Rattle.commit_levels.specs.Kept.{standing_at, IsLevelOf, IsKept, closed_level}
 use Rattle.commit_levels.proofs.Tallies.{standing_same, standing_more, standing_fewer, standing_all, worst_same, worst_more}
 
-equal_or_not : (a b : ℕ) → (a ≡ b) ⊎ (a ≢ b)
-equal_or_not a b = search rules
-
 -- Lists
-
-pub get_set_same : {X : Type 0} (xs : List X) (k : ℕ) (x y : X) → slice_get xs k ≡ Some x → slice_get (set xs k y) k ≡ Some y
-get_set_same [] k x y at = cc
-get_set_same (z ∷ xs) zero x y at = refl
-get_set_same (z ∷ xs) (suc k) x y at = get_set_same xs k x y at
-
-pub get_set_other : {X : Type 0} (xs : List X) (k j : ℕ) (y : X) → j ≢ k → slice_get (set xs k y) j ≡ slice_get xs j
-get_set_other [] k j y apart = refl
-get_set_other (z ∷ xs) zero zero y apart = absurd (apart refl)
-get_set_other (z ∷ xs) zero (suc j) y apart = refl
-get_set_other (z ∷ xs) (suc k) zero y apart = refl
-get_set_other (z ∷ xs) (suc k) (suc j) y apart = get_set_other xs k j y (λ e. apart (ap suc e))
 
 pub change_is : (unit : List Member) (k : ℕ) (m : Member) (change : Member → Member) → slice_get unit k ≡ Some m → set unit k (change m) ≡ changed unit k change
 change_is unit k m change at = rw at refl
@@ -41,7 +28,7 @@ changed_more f xs old n x below above at = (λ k m. first k m (equal_or_not k n)
     first : (k : ℕ) → k < n + 1 → (k ≡ n) ⊎ (k ≢ n) → slice_get (set xs n (f n x)) k ≡ option_map (f k) (slice_get old k)
     first k m (inl e) =
         let P : ℕ → Type 0 = λ j. slice_get (set xs n (f n x)) j ≡ option_map (f j) (slice_get old j) in
-        subst P (sym e) (get_set_same xs n x (f n x) at ∙ ap (option_map (f n)) (sym at ∙ above n (omega arith)))
+        subst P (sym e) (get_set_same xs n (f n x) x at ∙ ap (option_map (f n)) (sym at ∙ above n (omega arith)))
     first k m (inr apart) = get_set_other xs n k (f n x) apart ∙ below k (grind (arith, m, apart))
 
 -- a list that was written over, taken back
@@ -121,7 +108,7 @@ module _ (unit : List Member) (levels : List Level) (kept : IsKept unit levels) 
             (other ≡ place) ⊎ (other ≢ place) → IsLevelOf other (set unit k (moved place Asked m)) now
         by other now now_at (inl e) =
             let P : ℕ → Type 0 = λ p. slice_get (set levels place (one_more level)) p ≡ Some now → IsLevelOf p (set unit k (moved place Asked m)) now in
-            subst P (sym e) (λ at_place. here_now now (some_is (sym (get_set_same levels place level (one_more level) level_at) ∙ at_place))) now_at
+            subst P (sym e) (λ at_place. here_now now (some_is (sym (get_set_same levels place (one_more level) level level_at) ∙ at_place))) now_at
         by other now now_at (inr apart) = elsewhere Asked other now apart (sym (get_set_other levels place other (one_more level) apart) ∙ now_at)
 
     -- the member reaches the level
@@ -221,16 +208,6 @@ module _ (unit : List Member) (levels : List Level) (kept : IsKept unit levels) 
   ends code closed each count = kept_ended unit levels kept k m member_at (live m member_at) code closed each (count ∙ kept.places)
 
 -- A new unit
-
-get_copy : {X : Type 0} (n : ℕ) (x y : X) (k : ℕ) → slice_get (replicate n x) k ≡ Some y → y ≡ x
-get_copy zero x y k at = cc
-get_copy (suc n) x y zero at = cc
-get_copy (suc n) x y (suc k) at = get_copy n x y k at
-
-read_copy : {X : Type 0} (n : ℕ) (x : X) (k : ℕ) → get_or (replicate n x) k x ≡ x
-read_copy zero x k = refl
-read_copy (suc n) x zero = refl
-read_copy (suc n) x (suc k) = read_copy n x k
 
 none_asked : (place : ℕ) → progress_at place new_member ≡ NotAsked
 none_asked place = read_copy level_count NotAsked place

@@ -4,16 +4,11 @@ use Rattle.std.specs.List.{list_all}
 use Rattle.std.proofs.lemmas.Bool.Decides.{nat_tests}
 use Rattle.std.proofs.lemmas.Grind.{common_steps}
 use Rattle.pipe_model.specs.Code.{worst_of}
+use Rattle.pipe_model.proofs.Codes.{worst_order, worst_groups}
 use Rattle.commit_levels.specs.UnitState.{Member, stands_at, early_code, worst_early}
 use Rattle.commit_levels.specs.Kept.{standing_at}
 
 -- Codes
-
-worst_order : (a b : ℤ) → worst_of a b ≡ worst_of b a
-worst_order a b = search rules
-
-worst_groups : (a b c : ℤ) → worst_of (worst_of a b) c ≡ worst_of a (worst_of b c)
-worst_groups a b c = search rules
 
 worst_zero : (a : ℤ) → worst_of (pos 0) a ≡ a
 worst_zero a = search rules

@@ -1,5 +1,6 @@
 -- What a strand that follows wants to write its whole history puts next, and one that was cut off ends.
 use Rattle.std.proofs.Common.{◌≡◌, inl, inr, ℕ, true, false, cond, not, List, [], ◌∷◌, refl, sym, ◌∙◌, ap, subst, Some, None, pos}
+use Rattle.std.proofs.lemmas.Bool.{not-true}
 use Rattle.std.specs.Prelude.{filter}
 use Rattle.pipe_model.specs.declared.net.Strand.{Strand}
 use Rattle.pipe_model.specs.Event.{Event, puts_on, has_ended, has_seen, answers}
@@ -11,10 +12,10 @@ use Rattle.pipe_model.specs.Row.Goal.{Asks, Ends}
 use Rattle.pipe_model.specs.Table.{form}
 use Rattle.pipe_model.specs.Next.{Phase, Past, is_live, refused_after, past_by, want_in, next, IsOwn}
 use Rattle.pipe_model.proofs.Pasts.{after}
+use Rattle.pipe_model.proofs.Truths.{both}
 use Rattle.pipe_model.specs.Members.{has, flag_at}
 use Rattle.pipe_model.specs.Next.Phase.{Starting, Doing, Lost}
 use Rattle.pipe_model.specs.Alone.{Given, takes_more, IsAllAlone}
-use Rattle.confluence_laws.proofs.Basics.{both, not_so}
 use Rattle.confluence_laws.proofs.Facts.{IsFiniteLook, NoRepeats, asked_by}
 use Rattle.confluence_laws.proofs.Fitting.{PhaseFits, own_fits, still_wants}
 use Rattle.confluence_laws.proofs.Pending.{IsBare, mk}
@@ -100,6 +101,6 @@ module _ (s : Strand) (plain : IsPlainStrand s) (g : Given) (unlimited : (o : �
             y,
             subst (λ z. Within W (z ∷ y.other)) same_put
                 (grows s g W done y.other (Put p r) (Write p r) y.within (wants_in s y.other (mk y.known [] (Doing (Writes p r ∷ acts) goal)) (y.closed ∙ going) at_other) (alone_put g y.other p r (ap (λ z. takes_more z (puts_on p y.other)) (unlimited p)))),
-            subst (λ z. has y.refused z ≡ false) same_o (not_so (has y.refused p) open_there.1),
+            subst (λ z. has y.refused z ≡ false) same_o (not-true (has y.refused p) open_there.1),
             subst (λ z. flag_at s.ports.has_output z ≡ true) same_o open_there.0,
           )

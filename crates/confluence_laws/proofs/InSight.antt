@@ -1,9 +1,11 @@
 -- What is in sight on the inputs, and how many records of each.
 use Rattle.std.proofs.Common.{◌≡◌, ◌≢◌, ℕ, suc, ◌≤◌, Bool, true, false, cond, ◌&&◌, ◌||◌, not, ◌==◌, List, [], ◌∷◌, ◌++◌, refl, sym, ◌∙◌, ap, subst, arith}
 use Rattle.std.proofs.lemmas.Bool.Decides.{nat_tests}
+use Rattle.std.proofs.lemmas.Bool.{eqb-true, ne_eqb}
+use Rattle.std.proofs.Math.Bool.{and-false}
 use Rattle.pipe_model.specs.Event.{one_more}
 use Rattle.pipe_model.specs.Row.{Pair, sees, without}
-use Rattle.confluence_laws.proofs.Basics.{test_apart, same_number}
+use Rattle.pipe_model.proofs.Truths.{neither}
 
 -- each input has one record in sight at most
 abbrev pub IsOnce : List Pair → Type 0
@@ -28,10 +30,6 @@ once_more (p ∷ ps) j rec once unseen =
     let parts = neither (p.0 == j) (sees j ps) unseen in
     (sees_more p.0 ps j rec ∙ ap (λ b. b || sees p.0 ps) (other p.0 j parts.0) ∙ once.0, once_more ps j rec once.1 parts.1)
   where
-    neither : (a b : Bool) → (a || b) ≡ false → (a ≡ false) × (b ≡ false)
-    neither true b e = cc
-    neither false b e = (refl, e)
-
     other : (a b : ℕ) → (a == b) ≡ false → (b == a) ≡ false
     other a b e = grind (arith, nat_tests)
 
@@ -40,7 +38,7 @@ pub sees_without : (i j : ℕ) (sight : List Pair) → IsOnce sight → sees i (
 sees_without i j [] once = (elim (j == i) as (λ b. false ≡ (not b && false)) [ true ↦ refl | false ↦ refl ])
 sees_without i j (p ∷ ps) once = (elim (p.0 == j) as (λ b. (p.0 == j) ≡ b → sees i (cond b ps (p ∷ without j ps)) ≡ (not (j == i) && ((p.0 == i) || sees i ps))) [
   | true ↦ λ is. (
-      let same : p.0 ≡ j = same_number p.0 j is in
+      let same : p.0 ≡ j = eqb-true p.0 j is in
       let gone : sees j ps ≡ false = subst (λ z. sees z ps ≡ false) same once.0 in
       taken_one gone (ap (λ z. z == i) same)
       )
@@ -49,7 +47,7 @@ sees_without i j (p ∷ ps) once = (elim (p.0 == j) as (λ b. (p.0 == j) ≡ b �
   where
     taken_one : sees j ps ≡ false → (p.0 == i) ≡ (j == i) → sees i ps ≡ (not (j == i) && ((p.0 == i) || sees i ps))
     taken_one gone same = (elim (j == i) as (λ b. (j == i) ≡ b → (p.0 == i) ≡ b → sees i ps ≡ (not b && ((p.0 == i) || sees i ps))) [
-      | true ↦ λ is q. subst (λ z. sees z ps ≡ false) (same_number j i is) gone
+      | true ↦ λ is q. subst (λ z. sees z ps ≡ false) (eqb-true j i is) gone
       | false ↦ λ is q. ap (λ b. b || sees i ps) (sym q)
     ]) refl same
 
@@ -67,12 +65,8 @@ pub once_without : (j : ℕ) (sight : List Pair) → IsOnce sight → IsOnce (wi
 once_without j [] once = tt
 once_without j (p ∷ ps) once = elim (p.0 == j) as (λ b. IsOnce (cond b ps (p ∷ without j ps))) [
   | true ↦ once.1
-  | false ↦ (sees_without p.0 j ps once.1 ∙ ap (λ b. not (j == p.0) && b) once.0 ∙ none (not (j == p.0)), once_without j ps once.1)
+  | false ↦ (sees_without p.0 j ps once.1 ∙ ap (λ b. not (j == p.0) && b) once.0 ∙ and-false (not (j == p.0)), once_without j ps once.1)
 ]
-  where
-    none : (b : Bool) → (b && false) ≡ false
-    none true = refl
-    none false = refl
 
 -- how many records are in sight on an input
 abbrev pub count_on : ℕ → List Pair → ℕ
@@ -126,7 +120,7 @@ count_other i j [] apart = refl
 count_other i j (p ∷ ps) apart = go (p.0 == i) refl (count_other i j ps apart)
   where
     go : (b : Bool) → (p.0 == i) ≡ b → count_on j (without i ps) ≡ count_on j ps → count_on j (cond b ps (p ∷ without i ps)) ≡ one_more (p.0 == j) (count_on j ps)
-    go true is rest = ap (λ b. one_more b (count_on j ps)) (sym (test_apart p.0 j (λ e. apart (sym (same_number p.0 i is) ∙ e))))
+    go true is rest = ap (λ b. one_more b (count_on j ps)) (sym (ne_eqb p.0 j (λ e. apart (sym (eqb-true p.0 i is) ∙ e))))
     go false is rest = ap (one_more (p.0 == j)) rest
 
 -- an input of which each record in sight is another's shows one at most
@@ -135,5 +129,5 @@ count_once i [] once = omega arith
 count_once i (p ∷ ps) once = by_test (p.0 == i) refl (count_once i ps once.1)
   where
     by_test : (b : Bool) → (p.0 == i) ≡ b → count_on i ps ≤ 1 → one_more b (count_on i ps) ≤ 1
-    by_test true is rest = let a = count_none i ps (subst (λ z. sees z ps ≡ false) (same_number p.0 i is) once.0) in omega (arith, a)
+    by_test true is rest = let a = count_none i ps (subst (λ z. sees z ps ≡ false) (eqb-true p.0 i is) once.0) in omega (arith, a)
     by_test false is rest = rest

@@ -1,5 +1,7 @@
 -- How far the strands on the ways to a strand have come, against what the first pass says of a record at hand and of one that comes later.
 use Rattle.std.proofs.Common.{◌≡◌, ℕ, zero, suc, ◌≤◌, ◌<◌, Bool, true, false, ◌&&◌, ◌||◌, ◌==◌, List, [], ◌∷◌, length, refl, sym, ◌∙◌, ap, subst, arith, Some, None, slice_get, is_some, is_none}
+use Rattle.std.proofs.lemmas.Bool.{eqb-true}
+use Rattle.std.proofs.lemmas.Option.{slice_get_within}
 use Rattle.pipe_model.specs.declared.net.Net.{Net}
 use Rattle.pipe_model.specs.declared.net.Link.{Link}
 use Rattle.pipe_model.specs.declared.net.Strand.{Strand}
@@ -15,8 +17,10 @@ use Rattle.pipe_model.specs.Settled.{is_thin, walk, joins_at, first_link, fork, 
 use Rattle.pipe_model.specs.Plain.{IsPlain}
 use Rattle.pipe_model.specs.Tags.{written, before_put}
 use Rattle.pipe_model.specs.Alone.{Given, list_on, whole, lists_of, tag_orders, IsFirstPass, IsTaggedPass}
+use Rattle.pipe_model.proofs.Truths.{both}
+use Rattle.pipe_model.proofs.Lists.{found_at}
 use Rattle.confluence_laws.proofs.Asked.{plain_strand}
-use Rattle.confluence_laws.proofs.Basics.{both, the_event, same_number, not_ended, found_at, at_place, from_in, more_tooks, put_asked}
+use Rattle.confluence_laws.proofs.Basics.{the_event, not_ended, from_in, more_tooks, put_asked}
 use Rattle.confluence_laws.proofs.Sound.{sound_line}
 use Rattle.confluence_laws.proofs.Owns.{thin_writes}
 use Rattle.confluence_laws.proofs.Braids.{plain_link, writes_there}
@@ -56,7 +60,7 @@ module _ (net : Net) (first : State) (pass : IsTaggedPass net first) where
       let sight = thin_writes p t.0 h own.1 l.output want.0 want.1 in
       let seen = sight_listed p (whole net (tag_orders net first) (lists_of first) l.from) h 0 put.1 sight in
       let on_list : slice_get (records_on m.output (past first m.from)) (tooks_on 0 h) ≡ Some seen.0 = ap (λ z. slice_get (list_on (lists_of first) z) (tooks_on 0 h)) (sym at) ∙ seen.1 in
-      let place = at_place (records_on m.output (past first m.from)) (tooks_on 0 h) on_list in
+      let place = slice_get_within (records_on m.output (past first m.from)) (tooks_on 0 h) _ on_list in
       let count = count_is m.output (past first m.from) in
       omega (arith, place, count)
 
@@ -149,7 +153,7 @@ module _ (net : Net) (formed : IsWellFormed net) (plain : IsPlain net) (calm : H
       pub put_next : (q : Strand) (e : strand_at net nothing_yet l.from ≡ Some q) → (y : Following st l.from q e) × Within (past first l.from) (Put l.output wants.0 ∷ y.other) × (before_put l.output k (past first l.from) ≡ y.other)
       put_next q e =
           let u = next_put q (plain_strand net plain l.from q e) (given l.from) (λ o. refl) (past first l.from) (pass l.from q e) (past st l.from) l.output wants.0 (way.own l.from q e) writer_goes (follows_there l x.into q e) (wants_it q e) in
-          let n : k ≡ puts_on l.output u.0.other = x.next_is ∙ sym (same_number (puts st l) (tooks st l) x.writing.level) ∙ sym (same_puts l x.into q e u.0) in
+          let n : k ≡ puts_on l.output u.0.other = x.next_is ∙ sym (eqb-true (puts st l) (tooks st l) x.writing.level) ∙ sym (same_puts l x.into q e u.0) in
           (u.0, u.1, ap (λ z. before_put l.output z (past first l.from)) n ∙ found_put (past first l.from) u.0.other l.output wants.0 u.1)
 
       pub low_puts : (rec : List ℕ) × Within (past first l.from) (Put l.output rec ∷ before_put l.output k (past first l.from)) × Low l.from (written (before_put l.output k (past first l.from)))

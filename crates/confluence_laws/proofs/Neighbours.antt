@@ -5,6 +5,7 @@ use Rattle.pipe_model.specs.Event.{Event, one_more, tooks_on, records_on, taken_
 use Rattle.pipe_model.specs.Event.Event.{Took, Refused}
 use Rattle.pipe_model.specs.State.{same}
 use Rattle.pipe_model.specs.Licence.{Sight, offered}
+use Rattle.pipe_model.proofs.Lists.{length_more}
 use Rattle.confluence_laws.proofs.StraightRows.{Role}
 use Rattle.confluence_laws.proofs.StraightRows.Role.{Selects}
 use Rattle.confluence_laws.proofs.Modes.{Mode, Stands, Told, then_in, has_passed, want_of, is_over as is_over_mode}
@@ -33,11 +34,6 @@ IsAhead from to put took = (rec : List ℕ) × (rest : List (List ℕ)) × (from
 -- the records put on a link and taken from it, by where its two ends stand
 abbrev pub IsPaced : Mode → Mode → List (List ℕ) → List (List ℕ) → Type 0
 IsPaced from to put took = ((put ≡ took) × Suits to from) ⊎ IsAhead from to put took
-
--- one element more
-pub length_more : {A : Type 0} (xs : List A) (x : A) → length (xs ++ x ∷ []) ≡ suc (length xs)
-length_more [] x = refl
-length_more (z ∷ zs) x = ap suc (length_more zs x)
 
 -- where as much was taken as was put, it is the same
 paced_level : (from to : Mode) (put took : List (List ℕ)) → IsPaced from to put took → length put ≡ length took → (put ≡ took) × Suits to from

@@ -1,8 +1,9 @@
 -- How many outputs have not refused.
 use Rattle.std.proofs.Common.{◌≡◌, ◌≢◌, ℕ, zero, suc, ◌+◌, ◌≤◌, Bool, true, false, ◌&&◌, ◌||◌, not, ◌==◌, List, [], ◌∷◌, length, subst, arith}
+use Rattle.std.proofs.lemmas.Bool.{ne_eqb}
 use Rattle.pipe_model.specs.Event.{one_more}
 use Rattle.pipe_model.specs.Members.{has, flag_at}
-use Rattle.confluence_laws.proofs.Basics.{test_same, test_apart}
+use Rattle.pipe_model.proofs.Numbers.{test_same}
 
 -- how many outputs have not refused
 abbrev pub open_from : ℕ → List Bool → List ℕ → ℕ
@@ -42,7 +43,7 @@ less_open k (f ∷ flags) refused zero n flag e free = now (let z : n ≡ k = om
 less_open k (f ∷ flags) refused (suc o) n flag e free =
     let r = less_open (suc k) flags refused o n flag (omega (arith, e)) free in
     let apart : n ≢ k = λ z. omega (arith, z, e) in
-    by_test (n == k) f (has refused k) (test_apart n k apart) r
+    by_test (n == k) f (has refused k) (ne_eqb n k apart) r
   where
     by_test : (a b c : Bool) → a ≡ false → {x y : ℕ} → suc x ≤ y → suc (one_more (b && not (a || c)) x) ≤ one_more (b && not c) y
     by_test true b c e p = cc

@@ -1,5 +1,6 @@
 -- The second pass and the plain reading of a plain net exist, and there is one.
 use Rattle.std.proofs.Common.{◌≡◌, ℕ, zero, suc, ◌+◌, ◌<◌, Bool, true, false, cond, List, [], length, refl, sym, ◌∙◌, ap, subst, arith, Option, Some, None}
+use Rattle.std.proofs.lemmas.Option.{slice_get_within}
 use Rattle.std.specs.Bool.{MatchBool}
 use Rattle.std.specs.List.{list_any}
 use mathlib.Core.Path.{fun_ext}
@@ -12,7 +13,7 @@ use Rattle.pipe_model.specs.State.{State, Who, past, nothing_yet, strand_at, lin
 use Rattle.pipe_model.specs.WellFormed.{IsWellFormed}
 use Rattle.pipe_model.specs.Alone.{Given, inputs_of, primes, limit_of, cut, lists_of, tag_orders, IsAllAlone, IsTaggedPass, IsSecondPass, is_early, worst_of_early, barred_history, IsBarred, IsPlainReading}
 use Rattle.pipe_model.specs.Plain.{IsPlain}
-use Rattle.confluence_laws.proofs.Basics.{at_some, at_place}
+use Rattle.pipe_model.proofs.Lists.{at_some}
 use Rattle.confluence_laws.proofs.Passes.{rises_out, consumer, fair, ran, ran_done, same_given, first_pass, one_first, one_whole, mk_given, below_top, rounds}
 
 module _ (net : Net) (formed : IsWellFormed net) (plain : IsPlain net) where
@@ -43,7 +44,7 @@ module _ (net : Net) (formed : IsWellFormed net) (plain : IsPlain net) where
 
     -- a strand does the same again after more rounds than there are ranks above it
     settles_back : (n s : ℕ) (p : Strand) → strand_at net nothing_yet s ≡ Some p → rounds net formed plain < n + plain.acyclic.rank s → back (suc n) s ≡ back n s
-    settles_back zero s p here lt = let r = below_top plain.acyclic.rank (length net.strands) s (at_place net.strands s here) in absurd (omega (arith, lt, r))
+    settles_back zero s p here lt = let r = below_top plain.acyclic.rank (length net.strands) s (slice_get_within net.strands s _ here) in absurd (omega (arith, lt, r))
     settles_back (suc n) s p here lt =
         let e = same_limits (back (suc n)) (back n) s (λ o l q is there. let r = rises_out net formed plain s o l is in settles_back n l.to q there (omega (arith, lt, r))) in
         let g = ap (λ z. mk_given (inputs_of net (lists_of first) s) (tag_orders net first s) (primes net (lists_of first) s) z) e in
@@ -77,7 +78,7 @@ module _ (net : Net) (formed : IsWellFormed net) (plain : IsPlain net) where
     -- two second passes are the same, from the last strands on
     same_from : (first first' : State) → IsTaggedPass net first → IsTaggedPass net first' → IsSecondPass net (tag_orders net first) (lists_of first) a → IsSecondPass net (tag_orders net first') (lists_of first') b →
         (n s : ℕ) (p : Strand) → rounds net formed plain < n + plain.acyclic.rank s → strand_at net nothing_yet s ≡ Some p → past a s ≡ past b s
-    same_from first first' x y u v zero s p lt here = let r = below_top plain.acyclic.rank (length net.strands) s (at_place net.strands s here) in absurd (omega (arith, lt, r))
+    same_from first first' x y u v zero s p lt here = let r = below_top plain.acyclic.rank (length net.strands) s (slice_get_within net.strands s _ here) in absurd (omega (arith, lt, r))
     same_from first first' x y u v (suc n) s p lt here =
         let limits = same_limits b a s (λ o l q is there. let r = rises_out net formed plain s o l is in sym (same_from first first' x y u v n l.to q (omega (arith, lt, r)) there)) in
         let g = same_given net formed plain first' first s p here (λ t q there less. one_first net formed plain first' first y x t q there) (limits_of b s) in

@@ -9,10 +9,12 @@ use Rattle.pipe_model.specs.Event.Event.{Saw, Took}
 use Rattle.pipe_model.specs.Event.Want.{Read, Any, Gate}
 use Rattle.pipe_model.specs.Next.{IsOwn}
 use Rattle.pipe_model.specs.State.{State, Who, past, nothing_yet, with_event, with_some_event, strand_at, link_in, link_out}
-use Rattle.pipe_model.specs.Licence.{none_left, want_after, want_at, tooks, is_level, offered, shown, at_hand, is_over, read_answer, any_answer, all_over, answer, licence, sight_of}
+use Rattle.pipe_model.specs.Licence.{none_left, want_after, want_at, tooks, is_level, offered, shown, at_hand, is_over, read_answer, any_answer, all_over, answer, licence, sight_of, Left}
 use Rattle.pipe_model.specs.Play.{step, IsLicensed, play_from, IsLegalFrom, play, IsLegal}
 use Rattle.pipe_model.specs.WellFormed.{IsWellFormed}
-use Rattle.confluence_laws.proofs.Basics.{cond_some, the_event, equal_or_not, at_same, at_other, from_in}
+use Rattle.pipe_model.proofs.Truths.{cond_some}
+use Rattle.pipe_model.proofs.Numbers.{equal_or_not}
+use Rattle.confluence_laws.proofs.Basics.{the_event, at_same, at_other, from_in}
 use Rattle.confluence_laws.proofs.Later.{not_writer, same_want, actor_goes_on}
 use Rattle.confluence_laws.proofs.Owns.{answers_it, saw_asked, sight_before}
 
@@ -40,12 +42,12 @@ seen_there net st l rec plain got =
     let c = cond_some (is_level st l) (offered l.output (want_at net st none_left l.from)) open_now in
     record { shown_there = (rec, c.1); level = c.0 }
 
--- a look at an input that saw a record
-pub saw_it : (net : Net) (st : State) (t : Who) (k i : ℕ) (rec : List ℕ) → licence net st none_left t k ≡ Some (Saw i rec) → at_hand net st none_left (link_in net st t i) ≡ Some rec
-saw_it net st t k i rec may = by_look (saw_asked (want_at net st none_left t) i rec (answers_it net st t k (Saw i rec) may))
+-- a look at an input that saw a record, where others may be left out
+pub saw_it : (net : Net) (st : State) (left : Left) (s : Who) (k i : ℕ) (rec : List ℕ) → licence net st left s k ≡ Some (Saw i rec) → at_hand net st left (link_in net st s i) ≡ Some rec
+saw_it net st left s k i rec may = by_look (saw_asked (want_at net st left s) i rec (answers_it net st left s k (Saw i rec) may))
   where
     hand : ℕ → Option (List ℕ)
-    hand j = at_hand net st none_left (link_in net st t j)
+    hand j = at_hand net st left (link_in net st s j)
 
     read : (j : ℕ) (a : Option (List ℕ)) (over : Bool) → read_answer j a over ≡ Some (Saw i rec) → (j ≡ i) × (a ≡ Some rec)
     read j (Some x) over p = (cc, cc)
@@ -57,17 +59,16 @@ saw_it net st t k i rec may = by_look (saw_asked (want_at net st none_left t) i 
     any j None true p = cc
     any j None false p = cc
 
-    at : (j : ℕ) → (j ≡ i) × (at_hand net st none_left (link_in net st t j) ≡ Some rec) → at_hand net st none_left (link_in net st t i) ≡ Some rec
-    at j x = subst (λ z. at_hand net st none_left (link_in net st t z) ≡ Some rec) x.0 x.1
+    at : (j : ℕ) → (j ≡ i) × (hand j ≡ Some rec) → hand i ≡ Some rec
+    at j x = subst (λ z. hand z ≡ Some rec) x.0 x.1
 
-    does : (want : Want) → want_at net st none_left t ≡ Some want → answer (sight_of net st none_left t) k (Some want) ≡ Some (Saw i rec)
-    does want is = ap (answer (sight_of net st none_left t) k) (sym is) ∙ may
+    does : (want : Want) → want_at net st left s ≡ Some want → answer (sight_of net st left s) k (Some want) ≡ Some (Saw i rec)
+    does want is = ap (answer (sight_of net st left s) k) (sym is) ∙ may
 
-    by_look : (want_at net st none_left t ≡ Some (Read i)) ⊎ ((want_at net st none_left t ≡ Some Any) ⊎ (want_at net st none_left t ≡ Some Gate)) → at_hand net st none_left (link_in net st t i) ≡ Some rec
-    by_look (inl is) =
-        at i (read i (at_hand net st none_left (link_in net st t i)) (is_over st (link_in net st t i)) (cond_some (k == i) (read_answer i (at_hand net st none_left (link_in net st t i)) (is_over st (link_in net st t i))) (does (Read i) is)).1)
-    by_look (inr (inl is)) = at k (any k (at_hand net st none_left (link_in net st t k)) (k == 0 && all_over net st t) (does Any is))
-    by_look (inr (inr is)) = at k (read k (at_hand net st none_left (link_in net st t k)) (k == 0 && is_over st (link_in net st t k)) (does Gate is))
+    by_look : (want_at net st left s ≡ Some (Read i)) ⊎ ((want_at net st left s ≡ Some Any) ⊎ (want_at net st left s ≡ Some Gate)) → hand i ≡ Some rec
+    by_look (inl is) = at i (read i (hand i) (is_over st (link_in net st s i)) (cond_some (k == i) (read_answer i (hand i) (is_over st (link_in net st s i))) (does (Read i) is)).1)
+    by_look (inr (inl is)) = at k (any k (hand k) (k == 0 && all_over net st s) (does Any is))
+    by_look (inr (inr is)) = at k (read k (hand k) (k == 0 && is_over st (link_in net st s k)) (does Gate is))
 
 -- what is in sight after an event isn't what it took
 not_took : (i : ℕ) (f : Event) (h : List Event) → in_sight i (f ∷ h) ≡ true → is_took i f ≡ false
@@ -81,7 +82,7 @@ module _ (net : Net) (formed : IsWellFormed net) (st : State) (reached : IsReach
   own_after : (s : Who) (p : Strand) → strand_at net st s ≡ Some p → IsOwn p (past (with_event st t f) s)
   own_after s p e = elim (equal_or_not s t) [
     | inl it ↦ subst (IsOwn p) (sym (ap (past (with_event st t f)) it ∙ at_same st t f))
-        (subst (λ w. answers w f ≡ true) (ap (λ x. want_after x (past st t)) (sym (ap (strand_at net st) it) ∙ e)) (answers_it net st t k f licensed), reached.own t p (sym (ap (strand_at net st) it) ∙ e))
+        (subst (λ w. answers w f ≡ true) (ap (λ x. want_after x (past st t)) (sym (ap (strand_at net st) it) ∙ e)) (answers_it net st none_left t k f licensed), reached.own t p (sym (ap (strand_at net st) it) ∙ e))
     | inr other ↦ subst (IsOwn p) (sym (at_other st t f s other)) (reached.own s p e)
   ]
 
@@ -102,7 +103,7 @@ module _ (net : Net) (formed : IsWellFormed net) (st : State) (reached : IsReach
       by_sight : link_in net st t i ≡ Some l → (in_sight i (past st t) ≡ true) ⊎ ((rec : List ℕ) × (f ≡ Saw i rec)) → IsWriting net st l
       by_sight linked (inl before) = reached.waits t i l linked plain (actor_goes_on net formed st t f k licensed) before
       by_sight linked (inr now) =
-          let x = saw_it net st t k i now.0 (licensed ∙ ap Some now.1) in
+          let x = saw_it net st none_left t k i now.0 (licensed ∙ ap Some now.1) in
           seen_there net st l now.0 plain (ap (at_hand net st none_left) (sym linked) ∙ x)
 
       open_there : has_ended (past st s) ≡ false

@@ -1,10 +1,11 @@
 -- Plans that fit: writes, and takings of what is in sight.
-use Rattle.std.proofs.Common.{◌≡◌, ℕ, Bool, true, false, cond, ◌||◌, ◌==◌, List, [], ◌∷◌, ◌++◌, refl, sym, ◌∙◌, ap, subst}
+use Rattle.std.proofs.Common.{◌≡◌, ℕ, true, false, cond, ◌||◌, ◌==◌, List, [], ◌∷◌, ◌++◌, refl, sym, ◌∙◌, ap, subst}
+use Rattle.std.proofs.Math.Bool.{or-true}
 use Rattle.pipe_model.specs.Event.{Want}
 use Rattle.pipe_model.specs.Row.{Pair, Act, Goal, Known, sees, without}
 use Rattle.pipe_model.specs.Row.Act.{Writes, Repeats, Takes}
 use Rattle.pipe_model.specs.Shape.{writes}
-use Rattle.confluence_laws.proofs.Basics.{test_same}
+use Rattle.pipe_model.proofs.Numbers.{test_same}
 use Rattle.confluence_laws.proofs.Facts.{Fits, ThinActs, NoRepeats, has_take, taken}
 
 -- writes come first: what follows them fits
@@ -47,11 +48,7 @@ both_repeats (Takes i ∷ acts) more none none_more = both_repeats acts more non
 -- a record that was just seen is in sight
 pub sees_new : (sight : List Pair) (i : ℕ) (rec : List ℕ) → sees i (sight ++ (i, rec) ∷ []) ≡ true
 sees_new [] i rec = ap (λ b. b || false) (test_same i)
-sees_new (p ∷ ps) i rec = ap (λ b. (p.0 == i) || b) (sees_new ps i rec) ∙ or_true (p.0 == i)
-  where
-    or_true : (b : Bool) → (b || true) ≡ true
-    or_true true = refl
-    or_true false = refl
+sees_new (p ∷ ps) i rec = ap (λ b. (p.0 == i) || b) (sees_new ps i rec) ∙ or-true (p.0 == i)
 
 -- and where none was in sight before, none is once it is taken
 pub without_new : (sight : List Pair) (i : ℕ) (rec : List ℕ) → sight ≡ [] → without i (without i sight ++ (i, rec) ∷ []) ≡ []

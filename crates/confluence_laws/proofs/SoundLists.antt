@@ -12,7 +12,7 @@ use Rattle.pipe_model.specs.Shape.Order.{WritesFirst, TakesFirst}
 use Rattle.pipe_model.specs.Form.{has_none, are_finite}
 use Rattle.pipe_model.specs.Next.{hears, nothing_known}
 use Rattle.pipe_model.specs.Members.{has}
-use Rattle.confluence_laws.proofs.Basics.{both}
+use Rattle.pipe_model.proofs.Truths.{both}
 use Rattle.confluence_laws.proofs.Facts.{Fits, IsLook, IsSound, IsThin, IsFiniteRow, IsFiniteLook, ReadsOne, NoWrites, ThinActs, NoRepeats, taken}
 use Rattle.confluence_laws.proofs.SoundActs.{fits_writes, fits_only, thin_writes, no_repeats, only_writes, sees_new, without_new}
 

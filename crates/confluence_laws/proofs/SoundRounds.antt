@@ -1,5 +1,6 @@
 -- The rows of stages that read a record of each input and then act are sound: they take only what they see, and read only what they don't.
 use Rattle.std.proofs.Common.{◌≡◌, ℕ, zero, suc, ◌+◌, ◌≤◌, ◌<◌, Bool, true, false, cond, ◌&&◌, ◌||◌, not, ◌==◌, List, [], ◌∷◌, refl, sym, ◌∙◌, ap, subst, arith, Option, Some, None, pos}
+use Rattle.std.proofs.lemmas.Bool.{not-true, eqb-true}
 use Rattle.std.specs.Prelude.{find, filter, map}
 use Rattle.std.specs.List.{range_with_len}
 use Rattle.pipe_model.specs.Event.{Event, Want, answers}
@@ -10,7 +11,8 @@ use Rattle.pipe_model.specs.Row.Act.{Takes}
 use Rattle.pipe_model.specs.Shape.{Rounding, row, ends, lacks, all_inputs, look, has_any, round_of, read_or_act, round_plan}
 use Rattle.pipe_model.specs.Next.{hears, nothing_known}
 use Rattle.pipe_model.specs.Members.{has}
-use Rattle.confluence_laws.proofs.Basics.{both, not_so, found_at, same_number}
+use Rattle.pipe_model.proofs.Truths.{both}
+use Rattle.pipe_model.proofs.Lists.{found_at}
 use Rattle.confluence_laws.proofs.Facts.{Fits, IsLook, IsSound, IsFiniteRow, IsFiniteLook, NoRepeats, ReadsInRound, has_all, taken}
 use Rattle.confluence_laws.proofs.SoundActs.{fits_writes, no_repeats}
 
@@ -33,7 +35,7 @@ sees_other i j (p ∷ ps) above seen = by_first (p.0 == j) refl (p.0 == i) refl 
   where
     by_first : (a : Bool) → (p.0 == j) ≡ a → (b : Bool) → (p.0 == i) ≡ b → (b || sees i ps) ≡ true → (sees i ps ≡ true → sees i (without j ps) ≡ true) → sees i (cond a ps (p ∷ without j ps)) ≡ true
     by_first true is true it q rest =
-        let same : j ≡ i = sym (same_number p.0 j is) ∙ same_number p.0 i it in
+        let same : j ≡ i = sym (eqb-true p.0 j is) ∙ eqb-true p.0 i it in
         absurd (omega (arith, above, same))
     by_first true is false it q rest = q
     by_first false is true it q rest = ap (λ b. b || sees i (without j ps)) it
@@ -82,7 +84,7 @@ module _ (inputs : ℕ) (t : Rounding) where
   reads : (k : Known) (i : ℕ) → has_all k.told ≡ false → find (lacks k.sight k.ends) (all_inputs inputs) ≡ Some i → ReadsInRound inputs k (Read i)
   reads k i on found =
       let lacking = both (not (sees i k.sight)) (not (has k.ends i)) (found_at (lacks k.sight k.ends) (all_inputs inputs) found).0 in
-      record { input = i; want_is = refl; within = let a = in_range (lacks k.sight k.ends) 0 inputs i found in omega (arith, a); unseen = not_so (sees i k.sight) lacking.0; unended = not_so (has k.ends i) lacking.1; goes_on = on }
+      record { input = i; want_is = refl; within = let a = in_range (lacks k.sight k.ends) 0 inputs i found in omega (arith, a); unseen = not-true (sees i k.sight) lacking.0; unended = not-true (has k.ends i) lacking.1; goes_on = on }
 
   -- what it looks for fits
   fits_look : (k : Known) (next : Option ℕ) → has_all k.told ≡ false → find (lacks k.sight k.ends) (all_inputs inputs) ≡ next → Fits (ReadsInRound inputs) k [] (look next)

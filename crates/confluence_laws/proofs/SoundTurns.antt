@@ -2,6 +2,7 @@
 use Rattle.std.proofs.Common.{◌≡◌, ℕ, true, false, not, List, [], ◌∷◌, ◌++◌, refl, sym, ap, subst, arith, Option, Some, None, pos}
 use Rattle.std.specs.Prelude.{find, nat_lt}
 use Rattle.std.proofs.lemmas.Bool.Decides.{nat_tests}
+use Rattle.std.proofs.lemmas.Bool.{not-true}
 use Rattle.pipe_model.specs.Event.{Event, answers}
 use Rattle.pipe_model.specs.Event.Event.{Saw, SawEnd}
 use Rattle.pipe_model.specs.Event.Want.{Read}
@@ -11,7 +12,8 @@ use Rattle.pipe_model.specs.Row.Goal.{Asks, Ends}
 use Rattle.pipe_model.specs.Shape.{Turning, row, writes, can_read, read_next, turn_plan}
 use Rattle.pipe_model.specs.Next.{hears, nothing_known}
 use Rattle.pipe_model.specs.Members.{has}
-use Rattle.confluence_laws.proofs.Basics.{both, not_so, found_at}
+use Rattle.pipe_model.proofs.Truths.{both}
+use Rattle.pipe_model.proofs.Lists.{found_at}
 use Rattle.confluence_laws.proofs.Facts.{Fits, IsLook, IsSound, IsFiniteRow, IsFiniteLook, NoRepeats, ReadsInTurn, has_all, taken}
 use Rattle.confluence_laws.proofs.SoundActs.{fits_writes, fits_only, fits_then, no_repeats, only_writes, both_repeats, sees_new, without_new}
 
@@ -24,7 +26,7 @@ module _ (inputs : ℕ) (t : Turning) where
   reads : (k : Known) (i : ℕ) → k.sight ≡ [] → has_all k.told ≡ false → find (can_read inputs k.ends) (t.order inputs k.seen) ≡ Some i → ReadsInTurn inputs k (Read i)
   reads k i none on found =
       let able = both (nat_lt i inputs) (not (has k.ends i)) (found_at (can_read inputs k.ends) (t.order inputs k.seen) found).0 in
-      record { input = i; want_is = refl; within = let p = able.0 in grind (arith, nat_tests); sight = none; unended = not_so (has k.ends i) able.1; goes_on = on }
+      record { input = i; want_is = refl; within = let p = able.0 in grind (arith, nat_tests); sight = none; unended = not-true (has k.ends i) able.1; goes_on = on }
 
   -- what it does where nothing is in sight fits
   fits_reading : (k : Known) (next : Option ℕ) → k.sight ≡ [] → has_all k.told ≡ false → find (can_read inputs k.ends) (t.order inputs k.seen) ≡ next →

@@ -1,13 +1,10 @@
 -- How far a strand went through the commit levels, by its history.
-use Rattle.std.proofs.Common.{◌≡◌, ◌≢◌, ◌⊎◌, inl, inr, ℕ, zero, suc, Bool, true, false, cond, ◌&&◌, ◌||◌, List, [], ◌∷◌, refl, sym, ◌∙◌, ap, subst, arith, Option, Some, None, ℤ, pos, negsuc}
-use Rattle.std.specs.Prelude.{filter, int_lt}
-use Rattle.std.specs.Int.{int_min, int_max}
+use Rattle.std.proofs.Common.{◌≡◌, ◌≢◌, ◌⊎◌, inl, inr, zero, suc, Bool, true, false, cond, ◌&&◌, ◌||◌, List, [], ◌∷◌, refl, sym, ◌∙◌, ap, subst, Option, Some, None, ℤ, pos, negsuc}
+use Rattle.std.specs.Prelude.{filter}
 use Rattle.std.specs.Ordering.{int_eq}
 use Rattle.std.proofs.lemmas.Bool.Decides.{Decides-int_eq}
-use Rattle.std.proofs.lemmas.Int.{ints, int_min_is, int_max_is}
 use Rattle.pipe_model.specs.declared.net.Strand.{Strand}
-use Rattle.pipe_model.specs.Code.{worst_of}
-use Rattle.pipe_model.specs.Event.{Event, Want, answers, has_ended, has_reached, has_up, moves}
+use Rattle.pipe_model.specs.Event.{Event, answers, has_ended, has_reached, has_up, moves}
 use Rattle.pipe_model.specs.Event.Event.{Up, Saw, Took, Put, Refused, Ended}
 use Rattle.pipe_model.specs.Event.Want.{Commit, Done}
 use Rattle.pipe_model.specs.Row.{Act, Goal, Row}
@@ -15,27 +12,12 @@ use Rattle.pipe_model.specs.Row.Act.{Writes, Repeats, Takes}
 use Rattle.pipe_model.specs.Row.Goal.{Asks, Ends}
 use Rattle.pipe_model.specs.Table.{form}
 use Rattle.pipe_model.specs.Next.{Phase, Past, want_in, next, hears, first_phase, is_live, is_refused, begins_plan, doing, IsOwn, refused_after, gives_up}
-use Rattle.pipe_model.proofs.Pasts.{after, after_answer, when_asked}
+use Rattle.pipe_model.proofs.Pasts.{after, when_asked}
+use Rattle.pipe_model.proofs.Truths.{or_second}
 use Rattle.pipe_model.specs.Next.Phase.{Starting, Doing, Lost}
-use Rattle.confluence_laws.proofs.Basics.{or_second}
 use Rattle.confluence_laws.proofs.Fitting.{past_of, still_wants, stands_for}
 use Rattle.confluence_laws.proofs.Later.{reach_stays}
-
--- Codes
-
--- a number that isn't negative
-not_negative : (m : ℕ) → int_lt (pos m) (pos 0) ≡ false
-not_negative m = grind (arith, ints)
-
--- where the worst of two codes is 0, both are
-pub worst_parts : (a b : ℤ) → worst_of a b ≡ pos 0 → (a ≡ pos 0) × (b ≡ pos 0)
-worst_parts (pos m) (pos n) p =
-    let q : int_max (pos m) (pos n) ≡ pos 0 = sym (ap (λ t. cond (t || int_lt (pos n) (pos 0)) (int_min (pos m) (pos n)) (int_max (pos m) (pos n))) (not_negative m) ∙ ap (λ t. cond t (int_min (pos m) (pos n)) (int_max (pos m) (pos n))) (not_negative n)) ∙ p in
-    (omega (arith, ints, int_max_is (pos m) (pos n)), omega (arith, ints, int_max_is (pos m) (pos n)))
-worst_parts (pos m) (negsuc n) p =
-    let q : int_min (pos m) (negsuc n) ≡ pos 0 = sym (ap (λ t. cond (t || true) (int_min (pos m) (negsuc n)) (int_max (pos m) (negsuc n))) (not_negative m)) ∙ p in
-    absurd (omega (arith, ints, int_min_is (pos m) (negsuc n)))
-worst_parts (negsuc m) b p = let q : int_min (negsuc m) b ≡ pos 0 = p in absurd (omega (arith, ints, int_min_is (negsuc m) b))
+use Rattle.confluence_laws.proofs.Basics.{done_asked}
 
 -- How far a strand went
 
@@ -162,12 +144,6 @@ commit_moves l _ it move = cc
 done_moves : (c : ℤ) (e : Event) → answers (Some (Done c)) e ≡ true → moves e ≡ true → ⊥
 done_moves c (Ended d) it move = cc
 done_moves c _ it move = cc
-
--- whoever ends wanted to
-done_asked : (want : Option Want) (code : ℤ) → answers want (Ended code) ≡ true → want ≡ Some (Done code)
-done_asked (Some (Done c)) code it = ap (λ z. Some (Done z)) (sym ((Decides-int_eq code c).0 it))
-done_asked None code it = cc
-done_asked (Some _) code it = cc
 
 -- after its end a strand has no event
 nothing_more : (s : Strand) (e : Event) (h : List Event) → answers (next s h) e ≡ true → has_ended h ≡ true → ⊥

@@ -1,5 +1,8 @@
 -- The places that are out, and the strands that they leave out.
 use Rattle.std.proofs.Common.{◌≡◌, ◌≢◌, inl, inr, ℕ, zero, suc, ◌+◌, ◌≤◌, ◌<◌, Bool, true, false, cond, ◌||◌, not, ◌==◌, List, [], ◌∷◌, ◌++◌, length, refl, sym, ◌∙◌, ap, subst, arith, Option, Some, None, slice_get}
+use Rattle.std.proofs.lemmas.Bool.{eqb-true, ne_eqb}
+use Rattle.std.proofs.Math.Bool.{or-false, or-true}
+use Rattle.std.proofs.Math.Seq.{take-length}
 use Rattle.std.specs.Prelude.{take}
 use Rattle.std.specs.List.{list_any}
 use mathlib.Core.Path.{fun_ext}
@@ -8,7 +11,9 @@ use Rattle.pipe_model.specs.declared.step.Entry.{Entry}
 use Rattle.pipe_model.specs.Event.{one_more}
 use Rattle.pipe_model.specs.State.{past}
 use Rattle.pipe_model.specs.Play.{play}
-use Rattle.confluence_laws.proofs.Basics.{same_number, equal_or_not, test_same, test_apart}
+use Rattle.pipe_model.proofs.Numbers.{equal_or_not, test_same}
+use Rattle.pipe_model.proofs.Truths.{neither, or_second}
+use Rattle.pipe_model.proofs.Lists.{get_seam, length_more}
 use Rattle.run_desk.specs.Kept.{left_out, left_in}
 use Rattle.core_machine.specs.Machine.{is_of, is_at, left_by, without, is_among}
 use Rattle.core_machine.specs.Sound.{IsLast, AreLast, AreApart}
@@ -23,20 +28,8 @@ get_before [] ys i p = absurd (omega arith)
 get_before (x ∷ xs) ys zero p = refl
 get_before (x ∷ xs) ys (suc i) p = get_before xs ys i (omega (arith, p))
 
-pub get_end : {A : Type 0} (xs : List A) (x : A) → slice_get (xs ++ x ∷ []) (length xs) ≡ Some x
-get_end [] x = refl
-get_end (y ∷ ys) x = get_end ys x
-
-pub neither : (a b : Bool) → (a || b) ≡ false → (a ≡ false) × (b ≡ false)
-neither true b z = cc
-neither false b z = (refl, z)
-
 any_append : (p : ℕ → Bool) (xs : List ℕ) (y : ℕ) → list_any p (xs ++ y ∷ []) ≡ (list_any p xs || p y)
-any_append p [] y = or_false (p y)
-  where
-    or_false : (b : Bool) → (b || false) ≡ b
-    or_false true = refl
-    or_false false = refl
+any_append p [] y = or-false (p y)
 any_append p (x ∷ xs) y = ap (λ b. p x || b) (any_append p xs y) ∙ assoc (p x) (list_any p xs) (p y)
   where
     assoc : (a b c : Bool) → (a || (b || c)) ≡ ((a || b) || c)
@@ -54,7 +47,7 @@ module _ (net : Net) (journal : List Entry) (e : Entry) where
   at_old s (suc p) m = ap (is_of s) (get_before journal (e ∷ []) p (omega (arith, m)))
 
   at_new : (s : ℕ) → is_at longer s (suc (length journal)) ≡ (e.strand == s)
-  at_new s = ap (is_of s) (get_end journal e)
+  at_new s = ap (is_of s) (get_seam journal e [])
 
   pub left_old : (s : ℕ) (out : List ℕ) → AreLast net journal out → left_by longer out s ≡ left_by journal out s
   left_old s [] last = refl
@@ -64,16 +57,8 @@ module _ (net : Net) (journal : List Entry) (e : Entry) where
   left_turned out last = fun_ext (λ u. each u)
     where
       flip : (u : ℕ) (b : Bool) → (e.strand == u) ≡ b → (left_by journal out u || b) ≡ cond (u == e.strand) true (left_by journal out u)
-      flip u true is = go (left_by journal out u) ∙ sym (ap (λ b. cond b true (left_by journal out u)) (ap (λ z. u == z) (same_number _ _ is) ∙ test_same u))
-        where
-          go : (b : Bool) → (b || true) ≡ true
-          go true = refl
-          go false = refl
-      flip u false is = go (left_by journal out u) ∙ sym (ap (λ b. cond b true (left_by journal out u)) (test_apart u e.strand (λ z. absurd (let q : true ≡ false = sym (test_same u) ∙ ap (λ y. y == u) z ∙ is in (let r : ⊥ = cc in r)))))
-        where
-          go : (b : Bool) → (b || false) ≡ b
-          go true = refl
-          go false = refl
+      flip u true is = or-true (left_by journal out u) ∙ sym (ap (λ b. cond b true (left_by journal out u)) (ap (λ z. u == z) (eqb-true _ _ is) ∙ test_same u))
+      flip u false is = or-false (left_by journal out u) ∙ sym (ap (λ b. cond b true (left_by journal out u)) (ne_eqb u e.strand (λ z. absurd (let q : true ≡ false = sym (test_same u) ∙ ap (λ y. y == u) z ∙ is in (let r : ⊥ = cc in r)))))
 
       each : (u : ℕ) → left_by longer (out ++ suc (length journal) ∷ []) u ≡ left_out (left_by journal out) e.strand u
       each u = any_append (is_at longer u) out (suc (length journal)) ∙ ap (λ b. b || is_at longer u (suc (length journal))) (left_old u out last)
@@ -85,40 +70,28 @@ module _ (net : Net) (journal : List Entry) (e : Entry) where
   take_longer (x ∷ xs) ys zero m = refl
   take_longer (x ∷ xs) ys (suc n) m = ap (λ z. x ∷ z) (take_longer xs ys n (omega (arith, m)))
 
-  take_whole : (xs : List Entry) → take (length xs) xs ≡ xs
-  take_whole [] = refl
-  take_whole (x ∷ xs) = ap (λ z. x ∷ z) (take_whole xs)
-
-  end_length : (xs : List Entry) (x : Entry) → length (xs ++ x ∷ []) ≡ suc (length xs)
-  end_length [] x = refl
-  end_length (y ∷ ys) x = ap suc (end_length ys x)
-
   module _ (inside : e.strand < length net.strands) (others : (u : ℕ) → u ≢ e.strand → past (play net longer) u ≡ past (play net journal) u) where
     last_old : (out : List ℕ) → AreLast net journal out → left_by journal out e.strand ≡ false → AreLast net longer out
     last_old [] last home = tt
     last_old (p ∷ ps) last home = (
       record {
         some = last.0.some;
-        there = let a = last.0.there in (let b = end_length journal e in omega (arith, a, b));
+        there = let a = last.0.there in (let b = length_more journal e in omega (arith, a, b));
         whose = (last.0.whose.0, last.0.whose.1, at_old last.0.whose.0 p last.0.there ∙ last.0.whose.2);
         since = λ s at.
             let was : is_at journal s p ≡ true = sym (at_old s p last.0.there) ∙ at in
-            others s (λ z. (let no : true ≡ false = sym was ∙ ap (λ y. is_at journal y p) z ∙ (none (is_at journal e.strand p) (left_by journal ps e.strand) home).0 in (let r : ⊥ = cc in r)))
+            others s (λ z. (let no : true ≡ false = sym was ∙ ap (λ y. is_at journal y p) z ∙ (neither (is_at journal e.strand p) (left_by journal ps e.strand) home).0 in (let r : ⊥ = cc in r)))
             ∙ last.0.since s was ∙ ap (λ z. past (play net z) s) (sym (take_longer journal (e ∷ []) p last.0.there));
       },
-      last_old ps last.1 (none (is_at journal e.strand p) (left_by journal ps e.strand) home).1,
+      last_old ps last.1 (neither (is_at journal e.strand p) (left_by journal ps e.strand) home).1,
     )
-      where
-        none : (a b : Bool) → (a || b) ≡ false → (a ≡ false) × (b ≡ false)
-        none true b q = cc
-        none false b q = (refl, q)
 
     new_last : IsLast net longer (suc (length journal))
     new_last = record {
       some = omega arith;
-      there = let b = end_length journal e in omega (arith, b);
+      there = let b = length_more journal e in omega (arith, b);
       whose = (e.strand, inside, at_new e.strand ∙ test_same e.strand);
-      since = λ s at. ap (λ z. past (play net z) s) (sym (ap (λ n. take n longer) (sym (end_length journal e)) ∙ take_whole longer));
+      since = λ s at. ap (λ z. past (play net z) s) (sym (ap (λ n. take n longer) (sym (length_more journal e)) ∙ take-length longer));
     }
 
     append_last : (out : List ℕ) (p : ℕ) → AreLast net longer out → IsLast net longer p → AreLast net longer (out ++ p ∷ [])
@@ -133,16 +106,12 @@ module _ (net : Net) (journal : List Entry) (e : Entry) where
   apart_turned (p ∷ ps) last apart home = (
     λ s at.
         let was : is_at journal s p ≡ true = sym (at_old s p last.0.there) ∙ at in
-        let n = none (is_at journal e.strand p) (left_by journal ps e.strand) home in
+        let n = neither (is_at journal e.strand p) (left_by journal ps e.strand) home in
         any_append (is_at longer s) ps (suc (length journal))
         ∙ ap (λ b. b || is_at longer s (suc (length journal))) (left_old s ps last.1 ∙ apart.0 s was)
-        ∙ at_new s ∙ test_apart e.strand s (λ z. (let no : true ≡ false = sym was ∙ ap (λ y. is_at journal y p) (sym z) ∙ n.0 in (let r : ⊥ = cc in r))),
-    apart_turned ps last.1 apart.1 (none (is_at journal e.strand p) (left_by journal ps e.strand) home).1,
+        ∙ at_new s ∙ ne_eqb e.strand s (λ z. (let no : true ≡ false = sym was ∙ ap (λ y. is_at journal y p) (sym z) ∙ n.0 in (let r : ⊥ = cc in r))),
+    apart_turned ps last.1 apart.1 (neither (is_at journal e.strand p) (left_by journal ps e.strand) home).1,
   )
-    where
-      none : (a b : Bool) → (a || b) ≡ false → (a ≡ false) × (b ≡ false)
-      none true b q = cc
-      none false b q = (refl, q)
 
 -- Coming home
 
@@ -153,7 +122,7 @@ module _ (net : Net) (journal : List Entry) (s p : ℕ) (mine : is_at journal s 
     where
       go : (x : Option Entry) → is_of s x ≡ true → is_of u x ≡ true → u ≡ s
       go None a b = cc
-      go (Some e) a b = sym (same_number _ _ b) ∙ same_number _ _ a
+      go (Some e) a b = sym (eqb-true _ _ b) ∙ eqb-true _ _ a
 
   not_mine : (u : ℕ) → u ≢ s → is_at journal u p ≡ false
   not_mine u apart = go (is_at journal u p) refl
@@ -176,20 +145,16 @@ module _ (net : Net) (journal : List Entry) (s p : ℕ) (mine : is_at journal s 
   same_others u apart (q ∷ qs) = go (same_others u apart qs) (q == p) refl
     where
       go : left_by journal (without p qs) u ≡ left_by journal qs u → (b : Bool) → (q == p) ≡ b → left_by journal (cond (not b) (q ∷ without p qs) (without p qs)) u ≡ (is_at journal u q || left_by journal qs u)
-      go rest true is = rest ∙ ap (λ b. b || left_by journal qs u) (sym (ap (is_at journal u) (same_number q p is) ∙ not_mine u apart))
+      go rest true is = rest ∙ ap (λ b. b || left_by journal qs u) (sym (ap (is_at journal u) (eqb-true q p is) ∙ not_mine u apart))
       go rest false is = ap (λ b. is_at journal u q || b) rest
 
   pub among_left : (out : List ℕ) → is_among p out ≡ true → left_by journal out s ≡ true
   among_left [] in' = cc
   among_left (q ∷ qs) in' = go (among_left qs) (q == p) refl in'
     where
-      either : (a b : Bool) → b ≡ true → (a || b) ≡ true
-      either true b e = refl
-      either false b e = e
-
       go : (is_among p qs ≡ true → left_by journal qs s ≡ true) → (b : Bool) → (q == p) ≡ b → (b || is_among p qs) ≡ true → (is_at journal s q || left_by journal qs s) ≡ true
-      go rest true is in' = ap (λ b. b || left_by journal qs s) (ap (is_at journal s) (same_number q p is) ∙ mine)
-      go rest false is in' = either (is_at journal s q) (left_by journal qs s) (rest in')
+      go rest true is in' = ap (λ b. b || left_by journal qs s) (ap (is_at journal s) (eqb-true q p is) ∙ mine)
+      go rest false is in' = or_second (is_at journal s q) (left_by journal qs s) (rest in')
 
   gone : (out : List ℕ) → AreApart journal out → is_among p out ≡ true → left_by journal (without p out) s ≡ false
   gone [] apart in' = cc
@@ -200,7 +165,7 @@ module _ (net : Net) (journal : List Entry) (s p : ℕ) (mine : is_at journal s 
       by rest in' false at = ap (λ b. b || left_by journal (without p qs) s) at ∙ rest in'
 
       go : (is_among p qs ≡ true → left_by journal (without p qs) s ≡ false) → (b : Bool) → (q == p) ≡ b → (b || is_among p qs) ≡ true → left_by journal (cond (not b) (q ∷ without p qs) (without p qs)) s ≡ false
-      go rest true is in' = fewer s qs (apart.0 s (ap (is_at journal s) (same_number q p is) ∙ mine))
+      go rest true is in' = fewer s qs (apart.0 s (ap (is_at journal s) (eqb-true q p is) ∙ mine))
       go rest false is in' = by rest in' (is_at journal s q) refl
 
   pub left_home : (out : List ℕ) → AreApart journal out → is_among p out ≡ true → left_by journal (without p out) ≡ left_in (left_by journal out) s
@@ -209,7 +174,7 @@ module _ (net : Net) (journal : List Entry) (s p : ℕ) (mine : is_at journal s 
       each : (u : ℕ) → left_by journal (without p out) u ≡ cond (u == s) false (left_by journal out u)
       each u = elim (equal_or_not u s) [
         | inl z ↦ ap (left_by journal (without p out)) z ∙ gone out apart in' ∙ sym (ap (λ b. cond b false (left_by journal out u)) (ap (λ y. y == s) z ∙ test_same s))
-        | inr z ↦ same_others u z out ∙ sym (ap (λ b. cond b false (left_by journal out u)) (test_apart u s z))
+        | inr z ↦ same_others u z out ∙ sym (ap (λ b. cond b false (left_by journal out u)) (ne_eqb u s z))
       ]
 
   pub apart_home : (out : List ℕ) → AreApart journal out → AreApart journal (without p out)
@@ -231,7 +196,7 @@ module _ (net : Net) (journal : List Entry) (s p : ℕ) (mine : is_at journal s 
   among_last (q ∷ qs) in' last = go (λ z. among_last qs z last.1) (q == p) refl in'
     where
       go : (is_among p qs ≡ true → IsLast net journal p) → (b : Bool) → (q == p) ≡ b → (b || is_among p qs) ≡ true → IsLast net journal p
-      go rest true is in' = subst (IsLast net journal) (same_number q p is) last.0
+      go rest true is in' = subst (IsLast net journal) (eqb-true q p is) last.0
       go rest false is in' = rest in'
 
 -- No more jobs are out than there are strands
@@ -265,7 +230,7 @@ same_strand journal s u (suc q) a b = go (slice_get journal q) a b
   where
     go : (x : Option Entry) → is_of s x ≡ true → is_of u x ≡ true → u ≡ s
     go None a b = cc
-    go (Some e) a b = sym (same_number _ _ b) ∙ same_number _ _ a
+    go (Some e) a b = sym (eqb-true _ _ b) ∙ eqb-true _ _ a
 
 tally_none : (n : ℕ) → tally (λ s. false) n ≡ 0
 tally_none zero = refl

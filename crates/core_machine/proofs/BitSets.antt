@@ -1,28 +1,15 @@
 -- One bit of one word changed.
-use Rattle.std.proofs.Common.{◌≡◌, ◌≢◌, ◌⊎◌, inl, inr, ℕ, zero, suc, ◌+◌, ◌*◌, ◌/◌, ◌%◌, ◌^◌, ◌<◌, ◌≤◌, List, [], ◌∷◌, length, refl, sym, ◌∙◌, ap, arith, Some, slice_get, slice_set, bit_and, bit_or, w64}
+use Rattle.std.proofs.Common.{◌≡◌, ◌≢◌, inl, inr, ℕ, zero, suc, ◌+◌, ◌*◌, ◌/◌, ◌%◌, ◌^◌, ◌<◌, ◌≤◌, List, [], ◌∷◌, length, refl, sym, ◌∙◌, ap, arith, slice_set, bit_and, bit_or, w64}
 use Rattle.std.specs.Prelude.{unwrap_or, min, max}
 use Rattle.std.specs.Int.{bit_at, trailing_zeros}
 use Rattle.std.proofs.lemmas.Nat.Bits.{bit_at_or, bit_at_and, bit_at-pow_same, bit_at-pow_other, bit_at-trailing_zeros, bit_at-zero}
+use Rattle.pipe_model.proofs.Lists.{get_set_same, get_set_other, at_some}
+use Rattle.pipe_model.proofs.Numbers.{equal_or_not}
 use Rattle.core_machine.specs.Members.{word_at, has, IsLeastBit}
-
-get_same : (xs : List ℕ) (i x : ℕ) → i < length xs → slice_get (slice_set xs i x) i ≡ Some x
-get_same [] i x p = absurd (omega arith)
-get_same (y ∷ ys) zero x p = refl
-get_same (y ∷ ys) (suc i) x p = get_same ys i x (omega (arith, p))
-
-get_other : (xs : List ℕ) (i k x : ℕ) → k ≢ i → slice_get (slice_set xs i x) k ≡ slice_get xs k
-get_other [] i k x p = refl
-get_other (y ∷ ys) zero zero x p = absurd (p refl)
-get_other (y ∷ ys) zero (suc k) x p = refl
-get_other (y ∷ ys) (suc i) zero x p = refl
-get_other (y ∷ ys) (suc i) (suc k) x p = get_other ys i k x (λ e. p (ap suc e))
 
 -- a word that wasn't changed
 pub word_other : (ws : List ℕ) (i k x : ℕ) → k ≢ i → word_at (slice_set ws i x) k ≡ word_at ws k
-word_other ws i k x p = ap (λ z. unwrap_or z 0) (get_other ws i k x p)
-
-pub equal_or_not : (a b : ℕ) → (a ≡ b) ⊎ (a ≢ b)
-equal_or_not a b = grind arith
+word_other ws i k x p = ap (λ z. unwrap_or z 0) (get_set_other ws i k x p)
 
 apart_bits : (s t : ℕ) → t ≢ s → t / 64 ≡ s / 64 → t % 64 ≢ s % 64
 apart_bits s t other same e = other (omega (arith, same, e))
@@ -50,7 +37,7 @@ module _ (ws : List ℕ) (s : ℕ) (inside : s / 64 < length ws) where
   k = s / 64
 
   word_here : (x : ℕ) → word_at (slice_set ws k x) k ≡ x
-  word_here x = ap (λ z. unwrap_or z 0) (get_same ws k x inside)
+  word_here x = ap (λ z. unwrap_or z 0) (let old = at_some ws k inside in get_set_same ws k x old.0 old.1)
 
   pub insert_here : has (slice_set ws k (bit_or (word_at ws k) (2 ^ (s % 64)))) s ≡ 1
   insert_here = ap (λ z. bit_at z (s % 64)) (word_here (bit_or (word_at ws k) (2 ^ (s % 64))))
@@ -65,7 +52,7 @@ module _ (ws : List ℕ) (s : ℕ) (inside : s / 64 < length ws) where
         ∙ bit_at_or (word_at ws k) (2 ^ (s % 64)) (t % 64)
         ∙ ap (max (bit_at (word_at ws k) (t % 64))) (bit_at-pow_other (s % 64) (t % 64) (apart_bits s t other e)) ∙ max_zero (bit_at (word_at ws k) (t % 64))
         ∙ ap (λ z. bit_at (word_at ws z) (t % 64)) (sym e)
-    | inr e ↦ ap (λ z. bit_at (unwrap_or z 0) (t % 64)) (get_other ws k (t / 64) (bit_or (word_at ws k) (2 ^ (s % 64))) e)
+    | inr e ↦ ap (λ z. bit_at (unwrap_or z 0) (t % 64)) (get_set_other ws k (t / 64) (bit_or (word_at ws k) (2 ^ (s % 64))) e)
   ]
 
   module _ (m : ℕ) (not_s : bit_at m (s % 64) ≡ 0) (not_others : (i : ℕ) → i < 64 → i ≢ s % 64 → bit_at m i ≡ 1) where
@@ -80,7 +67,7 @@ module _ (ws : List ℕ) (s : ℕ) (inside : s / 64 < length ws) where
           ∙ bit_at_and (word_at ws k) m (t % 64)
           ∙ ap (min (bit_at (word_at ws k) (t % 64))) (not_others (t % 64) (omega arith) (apart_bits s t other e)) ∙ min_one (bit_at (word_at ws k) (t % 64)) (bit_small (word_at ws k) (t % 64))
           ∙ ap (λ z. bit_at (word_at ws z) (t % 64)) (sym e)
-      | inr e ↦ ap (λ z. bit_at (unwrap_or z 0) (t % 64)) (get_other ws k (t / 64) (bit_and (word_at ws k) m) e)
+      | inr e ↦ ap (λ z. bit_at (unwrap_or z 0) (t % 64)) (get_set_other ws k (t / 64) (bit_and (word_at ws k) m) e)
     ]
 
 -- the lowest bit of word k is held

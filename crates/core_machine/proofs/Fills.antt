@@ -3,8 +3,9 @@ use Rattle.std.proofs.Common.{◌≡◌, inl, inr, ℕ, ◌+◌, ◌-◌, ◌*�
 use Rattle.std.specs.Prelude.{min}
 use Rattle.std.specs.Int.{bit_at}
 use Rattle.std.proofs.lemmas.Nat.Bits.{bit_at_ones, bit_at_ones_above}
+use Rattle.std.proofs.lemmas.Bool.{cases_lt}
 use Rattle.core_machine.specs.Members.{word_at, low_word, has, HasBits}
-use Rattle.core_machine.proofs.Summaries.{some_word, below_or_not}
+use Rattle.core_machine.proofs.Summaries.{some_word}
 
 less_min : (a b c : ℕ) → a < b → a < c → a < min b c
 less_min a b c p q = grind arith
@@ -36,11 +37,11 @@ filled_bits size words summary words' summary' is filled length_is summary_fille
   summary_fits = subst (λ z. z < 64 * length summary') (sym length_is) (subst (λ z. length words < 64 * z) (sym summary_length) is.summary_fits);
   few_summary = subst (λ z. z ≤ 17) (sym summary_length) is.few_summary;
   inside = filled_above words' size filled;
-  full = λ k one. elim (below_or_not k ((size + 63) / 64)) [
+  full = λ k one. elim (cases_lt k ((size + 63) / 64)) [
     | inl p ↦ (let place : (64 * k) / 64 ≡ k = omega arith in subst (λ z. 0 < word_at words' z) place (some_word words' (64 * k) (filled_below words' size filled (64 * k) (omega (arith, p)))))
     | inr p ↦ (let none : 1 ≡ 0 = sym one ∙ filled_above summary' ((size + 63) / 64) summary_filled k p in absurd (omega (arith, none)))
   ];
-  empty = λ k none. elim (below_or_not k ((size + 63) / 64)) [
+  empty = λ k none. elim (cases_lt k ((size + 63) / 64)) [
     | inl p ↦ (let one : 1 ≡ 0 = sym (filled_below summary' ((size + 63) / 64) summary_filled k p) ∙ none in absurd (omega (arith, one)))
     | inr p ↦ (let nothing : size - 64 * k ≡ 0 = omega (arith, p) in filled k ∙ ap low_word nothing)
   ];

@@ -3,7 +3,8 @@ use Rattle.std.proofs.Common.{◌≡◌, ◌≢◌, ◌⊎◌, inl, inr, ℕ, ze
 use Rattle.std.specs.List.{list_all}
 use Rattle.std.specs.Option.{option_map_or}
 use Rattle.std.proofs.lemmas.List.{get_or-set_other}
-use Rattle.confluence_laws.proofs.Basics.{both, equal_or_not, or_second}
+use Rattle.pipe_model.proofs.Truths.{both, or_second}
+use Rattle.pipe_model.proofs.Numbers.{equal_or_not}
 use Rattle.commit_levels.specs.UnitState.{Member, IsAt, worst_early, stands_at, has_asked, progress_at, place_of, moved, reached_by}
 use Rattle.commit_levels.specs.declared.member.Progress.TheVariants.{NotAsked, Asked, Reached}
 use Rattle.run_desk.specs.Desk.{DeskState}

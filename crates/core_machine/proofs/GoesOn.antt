@@ -11,14 +11,14 @@ use Rattle.pipe_model.specs.Event.Event.{Up, Saw, SawEnd, SawAllEnd, Took, Put, 
 use Rattle.pipe_model.specs.State.{Who, past}
 use Rattle.pipe_model.specs.Licence.{licence}
 use Rattle.pipe_model.specs.Play.{play}
+use Rattle.pipe_model.proofs.Numbers.{test_same}
+use Rattle.pipe_model.proofs.Lists.{get_set_same}
 use Rattle.record_pool.specs.declared.pool.Held.{Held}
 use Rattle.stage_steps.specs.Coroutine.{told, bytes_with, CanResume, Resumes}
 use Rattle.run_desk.specs.Desk.{DeskState}
 use Rattle.run_desk.specs.Moves.{made, pool_moved, sight_through, CanCome, bare, ends}
 use Rattle.run_desk.specs.Pure as Pure
-use Rattle.run_desk.proofs.Lists.{get_set_same}
 use Rattle.connectors.specs.WireState.{IsHeldIn}
-use Rattle.confluence_laws.proofs.Basics.{test_same}
 use Rattle.core_machine.specs.declared.actor.Actor.{Actor}
 use Rattle.core_machine.specs.Actors.{is_end, gone_out, gone_on, given_up, asking_for, bytes_told}
 use Rattle.core_machine.specs.Jobs.{JobStands, DoneStands}

@@ -1,5 +1,6 @@
 -- A job that is run on its bytes may be finished.
 use Rattle.std.proofs.Common.{◌≡◌, ℕ, true, false, ◌==◌, List, [], ◌∷◌, length, refl, sym, ◌∙◌, ap, subst, Option, Some, None, slice_get}
+use Rattle.std.proofs.Math.Seq.{take-length}
 use Rattle.std.specs.Prelude.{take, Result, Ok, Err, IfOk}
 use Rattle.std.specs.Option.{option_map_or}
 use Rattle.pipe_model.specs.declared.net.Net.{Net}
@@ -14,25 +15,26 @@ use Rattle.pipe_model.specs.Table.{form}
 use Rattle.pipe_model.specs.State.{past, nothing_yet, with_some_event, strand_at}
 use Rattle.pipe_model.specs.Licence.{none_left, want_after, licence}
 use Rattle.pipe_model.specs.Play.{play}
+use Rattle.pipe_model.proofs.Numbers.{test_same}
+use Rattle.pipe_model.proofs.Lists.{get_seam, length_more}
 use Rattle.stage_steps.specs.Coroutine.{bytes_with, meaning, last_seen, owed, IsTold, CanResume, Resumes}
-use Rattle.confluence_laws.proofs.Basics.{at_same, test_same}
+use Rattle.confluence_laws.proofs.Basics.{at_same}
 use Rattle.confluence_laws.proofs.Owns.{answers_it}
+use Rattle.confluence_laws.proofs.Lengths.{play_last}
 use Rattle.core_machine.specs.Jobs.{JobStands, DoneStands}
 use Rattle.core_machine.specs.Machine.{is_of, is_at, looks_at}
-use Rattle.core_machine.proofs.Away.{get_end}
-use Rattle.core_machine.proofs.Plays.{play_one, end_length}
 
 module _ {S : Type 0} (stands : S → Strand → List Event → Type 0) (net : Net) (journal : List Entry) (s p : ℕ) (seen : Seen) (stage : S) (job : JobStands stands net journal s p seen stage) where
   -- the strand's history is now one event longer
   pub job_past : past (play net journal) s ≡ job.event ∷ past (play net job.before) s
   job_past = ap (λ z. past (play net z) s) job.journal_is
-      ∙ ap (λ z. past z s) (play_one net nothing_yet job.before job.entry)
+      ∙ ap (λ z. past z s) (play_last net nothing_yet job.before job.entry)
       ∙ ap (λ z. past (with_some_event (play net job.before) z (licence net (play net job.before) none_left z job.entry.stream)) s) job.entry_is
       ∙ ap (λ z. past (with_some_event (play net job.before) s z) s) job.licensed
       ∙ at_same (play net job.before) s job.event
 
   pub job_strand : (q : Strand) × (strand_at net nothing_yet s ≡ Some q)
-  job_strand = go (strand_at net nothing_yet s) refl (answers_it net (play net job.before) s job.entry.stream job.event job.licensed)
+  job_strand = go (strand_at net nothing_yet s) refl (answers_it net (play net job.before) none_left s job.entry.stream job.event job.licensed)
     where
       go : (x : Option Strand) → strand_at net nothing_yet s ≡ x → answers (want_after (strand_at net nothing_yet s) (past (play net job.before) s)) job.event ≡ true → (q : Strand) × (strand_at net nothing_yet s ≡ Some q)
       go None is ans = let z : false ≡ true = ap (λ y. answers (want_after y (past (play net job.before) s)) job.event) (sym is) ∙ ans in cc
@@ -41,7 +43,7 @@ module _ {S : Type 0} (stands : S → Strand → List Event → Type 0) (net : N
   told_it : (bytes : List ℕ) → bytes_with (looks_at net s) job.event ≡ bytes → (q : Strand) → strand_at net nothing_yet s ≡ Some q → IsTold stands stage seen bytes q (past (play net job.before) s) job.event
   told_it bytes right q is = record {
     stood = job.stood q is;
-    answer = ap (λ z. answers (want_after z (past (play net job.before) s)) job.event) (sym is) ∙ answers_it net (play net job.before) s job.entry.stream job.event job.licensed;
+    answer = ap (λ z. answers (want_after z (past (play net job.before) s)) job.event) (sym is) ∙ answers_it net (play net job.before) none_left s job.entry.stream job.event job.licensed;
     seen_is = job.seen_is;
     bytes_are = ap (λ x. bytes_with (option_map_or (λ (p : Strand). (form p).looks) x false) job.event) (sym is) ∙ right;
     room = job.room;
@@ -51,8 +53,8 @@ module _ {S : Type 0} (stands : S → Strand → List Event → Type 0) (net : N
   can_run bytes right = (job_strand.0, past (play net job.before) s, job.event, told_it bytes right job_strand.0 job_strand.1)
 
   its_place : is_at journal s p ≡ true
-  its_place = subst (λ z. is_at journal s z ≡ true) (sym (job.place_is ∙ ap length job.journal_is ∙ end_length job.before job.entry))
-      (ap (λ z. is_of s (slice_get z (length job.before))) job.journal_is ∙ ap (is_of s) (get_end job.before job.entry) ∙ ap (λ z. z == s) job.entry_is ∙ test_same s)
+  its_place = subst (λ z. is_at journal s z ≡ true) (sym (job.place_is ∙ ap length job.journal_is ∙ length_more job.before job.entry))
+      (ap (λ z. is_of s (slice_get z (length job.before))) job.journal_is ∙ ap (is_of s) (get_seam job.before job.entry []) ∙ ap (λ z. z == s) job.entry_is ∙ test_same s)
 
   owes_next : (q : Strand) (e : Event) (h : List Event) → has_ended (e ∷ h) ≡ false → owed q (e ∷ h) ≡ next q (e ∷ h)
   owes_next q (Ended c) h going = cc
@@ -78,13 +80,9 @@ module _ {S : Type 0} (stands : S → Strand → List Event → Type 0) (net : N
         (λ going. (resumed q (past (play net job.before) s) job.event (told_it bytes right q is)).1 ∙ owes_next q job.event (past (play net job.before) s) going);
   }
 
-  whole : (xs : List Entry) → take (length xs) xs ≡ xs
-  whole [] = refl
-  whole (x ∷ xs) = ap (λ z. x ∷ z) (whole xs)
-
   pub done_take : (bytes : List ℕ) → bytes_with (looks_at net s) job.event ≡ bytes → (stage' : S) (want : Asked) → Resumes stands stage stage' seen bytes want →
       DoneStands stands net (take p journal) s p stage' want
-  done_take bytes right stage' want resumed = subst (λ z. DoneStands stands net z s p stage' want) (sym (ap (λ n. take n journal) job.place_is ∙ whole journal)) (done_stands bytes right stage' want resumed)
+  done_take bytes right stage' want resumed = subst (λ z. DoneStands stands net z s p stage' want) (sym (ap (λ n. take n journal) job.place_is ∙ take-length journal)) (done_stands bytes right stage' want resumed)
 
 -- a result that is Ok with one fact is Ok with another
 pub if_ok : {A E : Type 0} {P Q : A → Type 0} (r : Result A E) → ((w : A) → P w → Q w) → IfOk r P → IfOk r Q

@@ -1,5 +1,7 @@
 -- Whom a turn concerns is woken by it.
 use Rattle.std.proofs.Common.{◌≡◌, ◌≢◌, ◌⊎◌, ℕ, ◌+◌, ◌<◌, Bool, true, false, cond, ◌&&◌, ◌||◌, not, ◌==◌, List, length, refl, sym, ◌∙◌, ap, subst, arith, Option, Some, None, is_some, slice_get, ℤ, pos, negsuc}
+use Rattle.std.proofs.Math.Bool.{and-false}
+use Rattle.std.proofs.lemmas.Bool.{eqb-true, ne_eqb}
 use Rattle.std.specs.Prelude.{IsSome}
 use Rattle.std.specs.Option.{option_map}
 use Rattle.pipe_model.specs.declared.net.Net.{Net}
@@ -10,7 +12,6 @@ use Rattle.pipe_model.specs.Event.{has_ended}
 use Rattle.pipe_model.specs.State.{State, past}
 use Rattle.pipe_model.specs.Licence.{Left}
 use Rattle.pipe_model.specs.WellFormed.{IsWellFormed}
-use Rattle.confluence_laws.proofs.Basics.{and_false, test_apart, same_number}
 use Rattle.record_pool.specs.declared.pool.Held.{Held}
 use Rattle.connectors.specs.WireState.{WireState, at_hand, taken, settled, cleared}
 use Rattle.run_desk.specs.declared.seat.Seat.{Seat}
@@ -40,13 +41,13 @@ taken_reads : (wire : WireState) → IsSome (at_hand wire) → Reads (Some wire)
 taken_reads wire some = (λ p. no_hand p, λ p. no_over p)
   where
     odd : (wire.puts == wire.tooks + 1) ≡ false
-    odd = test_apart wire.puts (wire.tooks + 1) (λ e. let same = same_number wire.puts wire.tooks (hand_even wire some) in absurd (omega (arith, e, same)))
+    odd = ne_eqb wire.puts (wire.tooks + 1) (λ e. let same = eqb-true wire.puts wire.tooks (hand_even wire some) in absurd (omega (arith, e, same)))
 
     no_hand : is_some (cond (wire.puts == wire.tooks + 1) wire.offer None) ≡ true → Pure.shows (Some wire) ≡ true
     no_hand p = let z : false ≡ true = sym (ap (λ b. is_some (cond b wire.offer None)) odd) ∙ p in cc
 
     no_over : (wire.out_closed && wire.puts == wire.tooks + 1) ≡ true → Pure.is_over (Some wire) ≡ true
-    no_over p = let z : false ≡ true = sym (ap (λ b. wire.out_closed && b) odd ∙ and_false wire.out_closed) ∙ p in cc
+    no_over p = let z : false ≡ true = sym (ap (λ b. wire.out_closed && b) odd ∙ and-false wire.out_closed) ∙ p in cc
 
 -- nor where there is no offer
 hidden : {A : Type 0} (b : Bool) → is_some (cond {A = Option ℕ} b None None) ≡ true → A

@@ -1,5 +1,7 @@
 -- Lists of actors and plays of journals, on which a sound core rests.
-use Rattle.std.proofs.Common.{◌≡◌, ℕ, zero, suc, ◌+◌, ◌≤◌, ◌<◌, Bool, true, false, cond, ◌||◌, ◌==◌, List, [], ◌∷◌, ◌++◌, length, refl, sym, ◌∙◌, ap, arith, Option, Some, None, slice_get}
+use Rattle.std.proofs.Common.{◌≡◌, ℕ, zero, suc, ◌+◌, ◌≤◌, ◌<◌, Bool, true, false, cond, ◌||◌, ◌==◌, List, [], ◌∷◌, length, refl, sym, ◌∙◌, ap, arith, Option, Some, None, slice_get}
+use Rattle.std.proofs.lemmas.Option.{slice_get_within}
+use Rattle.std.proofs.Math.Bool.{or-false}
 use Rattle.std.specs.Prelude.{take}
 use Rattle.pipe_model.specs.declared.net.Net.{Net}
 use Rattle.pipe_model.specs.declared.net.Strand.{Strand}
@@ -13,7 +15,7 @@ use Rattle.pipe_model.specs.Event.Want.{Commit, Read, Any, Gate, Take, Write, Pr
 use Rattle.pipe_model.specs.Next.{IsOwn}
 use Rattle.pipe_model.specs.State.{Who, State, past, with_some_event, strand_at}
 use Rattle.pipe_model.specs.Licence.{Left, none_left, want_at, licence}
-use Rattle.pipe_model.specs.Play.{step, IsLicensed, play_from, IsLegalFrom}
+use Rattle.pipe_model.specs.Play.{step, play_from}
 use Rattle.pipe_model.specs.WellFormed.{IsWellFormed}
 use Rattle.stage_steps.specs.Coroutine.{told, bytes_with, meaning, last_seen}
 use Rattle.run_desk.specs.Desk.{DeskState}
@@ -21,7 +23,6 @@ use Rattle.run_desk.specs.declared.seat.Ask.TheVariants as Now
 use Rattle.run_desk.specs.Kept.{asked, IsKept}
 use Rattle.run_desk.proofs.Early.{wants_early}
 use Rattle.run_desk.proofs.Sees.{ask_is}
-use Rattle.confluence_laws.proofs.Basics.{at_place}
 use Rattle.core_machine.specs.declared.actor.Actor.{Actor}
 use Rattle.run_desk.specs.Moves.{bare}
 use Rattle.core_machine.specs.Actors.{is_end, looks_in}
@@ -34,10 +35,6 @@ pub get_take : {A : Type 0} (xs : List A) (q : ℕ) → slice_get (take (suc q) 
 get_take [] q = refl
 get_take (x ∷ xs) zero = refl
 get_take (x ∷ xs) (suc q) = get_take xs q
-
-pub end_length : (xs : List Entry) (x : Entry) → length (xs ++ x ∷ []) ≡ suc (length xs)
-end_length [] x = refl
-end_length (y ∷ ys) x = ap suc (end_length ys x)
 
 -- which strands look
 pub looks_here : {S : Type 0} (actors : List (Actor S)) (s : ℕ) (a : Actor S) → slice_get actors s ≡ Some a → looks_in actors s ≡ a.looks
@@ -79,15 +76,6 @@ look_of false (Ended c) n room is more = absurd (omega (arith, is, more))
 
 -- Plays
 
--- one entry more
-pub play_one : (net : Net) (st : State) (es : List Entry) (e : Entry) → play_from net st (es ++ e ∷ []) ≡ step net (play_from net st es) e
-play_one net st [] e = refl
-play_one net st (x ∷ es) e = play_one net (step net st x) es e
-
-pub legal_one : (net : Net) (st : State) (es : List Entry) (e : Entry) → IsLegalFrom net st es → IsLicensed net (play_from net st es) e → IsLegalFrom net st (es ++ e ∷ [])
-legal_one net st [] e legal may = (may, tt)
-legal_one net st (x ∷ es) e legal may = (legal.0, legal_one net (step net st x) es e legal.1 may)
-
 -- a history is no longer than its journal
 step_length : (net : Net) (st : State) (e : Entry) (s : Who) → length (past (step net st e) s) ≤ suc (length (past st s))
 step_length net st e s = go (licence net st none_left e.strand e.stream)
@@ -106,10 +94,6 @@ play_length net st (e ∷ es) s = let a = step_length net st e s in let b = play
 
 -- Ends
 
-or_false : (b : Bool) → (b || false) ≡ b
-or_false true = refl
-or_false false = refl
-
 or_turn : (a b : Bool) → (a || b) ≡ (b || a)
 or_turn true true = refl
 or_turn true false = refl
@@ -118,17 +102,17 @@ or_turn false false = refl
 
 pub end_seen : (e : Event) (h : List Event) (b : Bool) → b ≡ has_seen_end 0 h → (b || is_end (told e)) ≡ has_seen_end 0 (e ∷ h)
 end_seen (SawEnd i) h b is = or_turn b (i == 0) ∙ ap (λ z. (i == 0) || z) is
-end_seen (Up l c) h b is = or_false b ∙ is
-end_seen (Saw i r) h b is = or_false b ∙ is
-end_seen SawAllEnd h b is = or_false b ∙ is
-end_seen (Took i) h b is = or_false b ∙ is
-end_seen (Put o r) h b is = or_false b ∙ is
-end_seen (Refused o) h b is = or_false b ∙ is
-end_seen (Primed p) h b is = or_false b ∙ is
-end_seen (Opened k) h b is = or_false b ∙ is
-end_seen (Joined k c) h b is = or_false b ∙ is
-end_seen (Severed s) h b is = or_false b ∙ is
-end_seen (Ended c) h b is = or_false b ∙ is
+end_seen (Up l c) h b is = or-false b ∙ is
+end_seen (Saw i r) h b is = or-false b ∙ is
+end_seen SawAllEnd h b is = or-false b ∙ is
+end_seen (Took i) h b is = or-false b ∙ is
+end_seen (Put o r) h b is = or-false b ∙ is
+end_seen (Refused o) h b is = or-false b ∙ is
+end_seen (Primed p) h b is = or-false b ∙ is
+end_seen (Opened k) h b is = or-false b ∙ is
+end_seen (Joined k c) h b is = or-false b ∙ is
+end_seen (Severed s) h b is = or-false b ∙ is
+end_seen (Ended c) h b is = or-false b ∙ is
 
 -- a new record is shown as an empty one
 pub shows_bare : (h : List Event) (w : Asked) (want : Want) → want ≡ meaning w (last_seen h) → Shows h (bare w) want
@@ -167,6 +151,6 @@ early_on net st formed own texts l x kept t level is = wants_early net st l own 
 pub links_inside : (net : Net) (size : ℕ) → IsWellFormed net → size ≡ length net.strands → AreInside net.links size
 links_inside net size formed is j link at =
     let joined = formed.joined j link at in
-    let from = at_place net.strands link.from joined.from_strand in
-    let to = at_place net.strands link.to joined.to_strand in
+    let from = slice_get_within net.strands link.from _ joined.from_strand in
+    let to = slice_get_within net.strands link.to _ joined.to_strand in
     (omega (arith, from, is), omega (arith, to, is))

@@ -1,7 +1,7 @@
 -- A strand that nothing concerns may go on only where it might before.
-use Rattle.std.proofs.Common.{◌≡◌, ℕ, suc, Bool, true, false, cond, ◌&&◌, ◌==◌, List, [], ◌∷◌, refl, sym, ◌∙◌, ap, subst, Option, Some, None, is_some, slice_get, ℤ}
+use Rattle.std.proofs.Common.{◌≡◌, ℕ, Bool, true, false, cond, ◌&&◌, ◌==◌, List, refl, sym, ◌∙◌, ap, subst, Option, Some, None, is_some, slice_get, ℤ}
 use Rattle.std.specs.List.{list_all}
-use Rattle.confluence_laws.proofs.Basics.{all_at}
+use Rattle.pipe_model.proofs.Lists.{all_at, all_from}
 use Rattle.run_desk.specs.declared.seat.Ask.{Ask}
 use Rattle.run_desk.specs.declared.seat.Ask.TheVariants as Now
 use Rattle.run_desk.specs.Desk.{DeskState}
@@ -58,10 +58,6 @@ primed_up : (x y : Option Bool) → (is_some y ≡ true → is_some x ≡ true) 
 primed_up (Some c) y f p = refl
 primed_up None (Some c) f p = let z = f refl in cc
 primed_up None None f p = cc
-
-all_from : {A : Type 0} (p : A → Bool) (xs : List A) → ((j : ℕ) (x : A) → slice_get xs j ≡ Some x → p x ≡ true) → list_all p xs ≡ true
-all_from p [] f = refl
-all_from p (x ∷ xs) f = ap (λ b. b && list_all p xs) (f 0 x refl) ∙ all_from p xs (λ j y e. f (suc j) y e)
 
 -- The strand
 

@@ -1,5 +1,7 @@
 -- A sound core stays sound through a turn and a coming home.
 use Rattle.std.proofs.Common.{◌≡◌, ◌≢◌, inl, inr, ℕ, zero, suc, ◌<◌, Bool, true, false, cond, ◌||◌, ◌==◌, List, [], ◌∷◌, ◌++◌, length, refl, sym, ◌∙◌, ap, subst, arith, Option, Some, None, slice_get, slice_set, length-set, is_some}
+use Rattle.std.proofs.lemmas.Bool.{ne_eqb}
+use Rattle.std.proofs.lemmas.Option.{slice_get_within}
 use Rattle.std.specs.Prelude.{take}
 use Rattle.std.specs.Option.{option_map, option_map_or}
 use Rattle.pipe_model.specs.declared.net.Net.{Net}
@@ -15,6 +17,8 @@ use Rattle.pipe_model.specs.Table.{form}
 use Rattle.pipe_model.specs.State.{Who, State, past, nothing_yet, with_event, with_some_event, strand_at, link_in}
 use Rattle.pipe_model.specs.Licence.{Left, none_left, want_after, want_at, at_hand, answer, sight_of, licence}
 use Rattle.pipe_model.specs.Play.{play}
+use Rattle.pipe_model.proofs.Numbers.{equal_or_not, test_same}
+use Rattle.pipe_model.proofs.Lists.{at_some, get_set_same, get_set_other, length_more}
 use Rattle.record_pool.specs.declared.pool.Held.{Held}
 use Rattle.record_pool.specs.Places.{bytes_at}
 use Rattle.stage_steps.specs.Coroutine.{told, bytes_with, meaning, last_seen}
@@ -25,16 +29,16 @@ use Rattle.connectors.specs.WireState.{IsHeldIn}
 use Rattle.run_desk.specs.Order.{IsRun}
 use Rattle.run_desk.specs.Pure as Pure
 use Rattle.run_desk.proofs.Runs.{run_can, run_made, run_can_come, run_home, run_gone}
-use Rattle.run_desk.proofs.Acts.{goes, saw_at_hand}
+use Rattle.run_desk.proofs.Acts.{goes}
 use Rattle.run_desk.proofs.Conditions as conditions
 use Rattle.run_desk.proofs.Limits.{sights_held}
 use Rattle.run_desk.proofs.Offers.{sight_text}
 use Rattle.run_desk.proofs.Shown.{shows_it}
 use Rattle.run_desk.proofs.Sees.{seen_is}
-use Rattle.run_desk.proofs.Lists.{get_set_same, get_set_other}
-use Rattle.confluence_laws.proofs.Basics.{equal_or_not, at_same, at_other, test_same, test_apart, at_some, at_place}
-use Rattle.confluence_laws.proofs.Reached.{play_reached}
+use Rattle.confluence_laws.proofs.Basics.{at_same, at_other}
+use Rattle.confluence_laws.proofs.Reached.{play_reached, saw_it}
 use Rattle.confluence_laws.proofs.LeftOut.{licensed_too}
+use Rattle.confluence_laws.proofs.Lengths.{play_last, legal_last}
 use Rattle.core_machine.specs.declared.actor.Actor.{Actor}
 use Rattle.core_machine.specs.Actors.{is_end, come_back, looks_in, bytes_told}
 use Rattle.core_machine.specs.Answered.{LeastReady, LeastEvent, Shows}
@@ -44,7 +48,7 @@ use Rattle.core_machine.specs.Members.{Members}
 use Rattle.core_machine.specs.Sound.{IsLast, IsActor, AreActors, IsSound}
 use Rattle.core_machine.specs.Woken.{IsCovering, AsksEarly, AreInside, HasReturned, LeastAwake, LeastEventAwake}
 use Rattle.core_machine.proofs.Away.{left_turned, last_turned, apart_turned, left_home, apart_home, last_home, among_last, among_left, one_strand, fewer_out}
-use Rattle.core_machine.proofs.Plays.{get_take, end_length, looks_here, looks_nowhere, play_one, legal_one, play_length, end_seen, shows_bare, early_on, links_inside}
+use Rattle.core_machine.proofs.Plays.{get_take, looks_here, looks_nowhere, play_length, end_seen, shows_bare, early_on, links_inside}
 
 module _ {S : Type 0} (stands : S → Strand → List Event → Type 0) (net : Net) (budget : ℕ) (journal : List Entry) (out : List ℕ) (actors : List (Actor S)) (d : DeskState) (places : List (Option Held)) (ready : Members)
     (sound : IsSound stands net budget journal out actors d places ready) where
@@ -144,7 +148,7 @@ module _ {S : Type 0} (stands : S → Strand → List Event → Type 0) (net : N
       go : (f : Event) → licence net st left s k ≡ Some f → told f ≡ Told.Saw i → length (option_map_or (bytes_at places) (hand_on (Pure.wire_in d s i)) []) ≡ length (bytes_with true f)
       go (Saw j rec) may is =
           let same : j ≡ i = cc in
-          let there = shows_it net (bytes_at places) st left d sound.run.kept s i rec (subst (λ z. at_hand net st left (link_in net st s z) ≡ Some rec) same (saw_at_hand net st left s k j rec may)) in
+          let there = shows_it net (bytes_at places) st left d sound.run.kept s i rec (subst (λ z. at_hand net st left (link_in net st s z) ≡ Some rec) same (saw_it net st left s k j rec may)) in
           ap (λ x. length (option_map_or (bytes_at places) x [])) there.1 ∙ ap length there.2
       go (Up l c) may is = cc
       go (SawEnd j) may is = cc
@@ -208,8 +212,8 @@ module _ {S : Type 0} (stands : S → Strand → List Event → Type 0) (net : N
 
       go : (x : Option (Actor S)) → slice_get actors s ≡ x → (y : Option Strand) → slice_get net.strands s ≡ y → looks_in actors s ≡ looks_at net s
       go None off None out = looks_nowhere actors s off ∙ ap (λ y. option_map_or (λ (p : Strand). (form p).looks) y false) (sym out)
-      go None off (Some p) is = let n = at_place net.strands s is in let c = sound.strands.count in absurd (none_some actors (omega (arith, n, c)) off)
-      go (Some a) at None out = let n = at_place actors s at in let c = sound.strands.count in absurd (none_some net.strands (omega (arith, n, c)) out)
+      go None off (Some p) is = let n = slice_get_within net.strands s _ is in let c = sound.strands.count in absurd (none_some actors (omega (arith, n, c)) off)
+      go (Some a) at None out = let n = slice_get_within actors s _ at in let c = sound.strands.count in absurd (none_some net.strands (omega (arith, n, c)) out)
       go (Some a) at (Some p) is = looks_here actors s a at ∙ (sound.strands.each s p a is at).looks ∙ ap (λ y. option_map_or (λ (p : Strand). (form p).looks) y false) (sym is)
 
   -- the links join strands of the set
@@ -233,7 +237,7 @@ module _ {S : Type 0} (stands : S → Strand → List Event → Type 0) (net : N
     may_all = licensed_too net st left s k e may
 
     pub now : play net (journal ++ entry ∷ []) ≡ with_event st s e
-    now = play_one net nothing_yet journal entry ∙ ap (with_some_event st s) may_all
+    now = play_last net nothing_yet journal entry ∙ ap (with_some_event st s) may_all
 
     pub in_range : s < length net.strands
     in_range = go (strand_at net st s) refl
@@ -245,7 +249,7 @@ module _ {S : Type 0} (stands : S → Strand → List Event → Type 0) (net : N
             nothing : (b : Bool) → cond b None (want_after None (past st s)) ≡ None
             nothing true = refl
             nothing false = refl
-        go (Some p) is = at_place net.strands s is
+        go (Some p) is = slice_get_within net.strands s _ is
 
     pub out_room : length out < length net.strands
     out_room = fewer_out net journal out s sound.last sound.apart in_range is_home
@@ -274,8 +278,8 @@ module _ {S : Type 0} (stands : S → Strand → List Event → Type 0) (net : N
 
     pub lawful_turned : length journal < budget → (b : Bool) → IsLawful (record { net = net; budget = budget; journal = journal ++ entry ∷ []; out = out ++ suc (length journal) ∷ []; is_broken = b })
     lawful_turned space b = record {
-      legal = legal_one net nothing_yet journal entry sound.legal (ap is_some may_all);
-      within = let a = end_length journal entry in omega (arith, a, space);
+      legal = legal_last net nothing_yet journal entry sound.legal (ap is_some may_all);
+      within = let a = length_more journal entry in omega (arith, a, space);
       bounded = sound.bounded;
     }
 
@@ -299,7 +303,7 @@ module _ {S : Type 0} (stands : S → Strand → List Event → Type 0) (net : N
 
       want_same : (u : Who) → u ≢ s → want_at net (play net longer) (left_by longer out') u ≡ want_at net st left u
       want_same u apart = ap (λ l. want_at net (play net longer) l u) left_is
-          ∙ ap (λ b. cond (cond b true (left u)) None (want_after (strand_at net st u) (past (play net longer) u))) (test_apart u s apart)
+          ∙ ap (λ b. cond (cond b true (left u)) None (want_after (strand_at net st u) (past (play net longer) u))) (ne_eqb u s apart)
           ∙ ap (λ h. cond (left u) None (want_after (strand_at net st u) h)) (same_past u apart)
 
       want_none : want_at net (play net longer) (left_by longer out') s ≡ None
@@ -318,7 +322,7 @@ module _ {S : Type 0} (stands : S → Strand → List Event → Type 0) (net : N
             let l : left_out left s u ≡ false = ap (λ z. z u) (sym left_is) ∙ home in
             (elim (equal_or_not u s) [
               | inl z ↦ (let no : true ≡ false = sym (ap (λ b. cond b true (left u)) (ap (λ y. y == s) z ∙ test_same s)) ∙ l in absurd (let q : ⊥ = cc in q))
-              | inr z ↦ sound.strands.home u x (sym (get_set_other actors s u b z) ∙ at) (sym (ap (λ b. cond b true (left u)) (test_apart u s z)) ∙ l)
+              | inr z ↦ sound.strands.home u x (sym (get_set_other actors s u b z) ∙ at) (sym (ap (λ b. cond b true (left u)) (ne_eqb u s z)) ∙ l)
             ]);
       }
         where
@@ -346,8 +350,8 @@ module _ {S : Type 0} (stands : S → Strand → List Event → Type 0) (net : N
       sound_turned = record {
         formed = sound.formed;
         few = sound.few;
-        legal = legal_one net nothing_yet journal entry sound.legal (ap is_some may_all);
-        within = let a = end_length journal entry in omega (arith, a, space);
+        legal = legal_last net nothing_yet journal entry sound.legal (ap is_some may_all);
+        within = let a = length_more journal entry in omega (arith, a, space);
         bounded = sound.bounded;
         last = last_turned net journal entry in_range same_past out sound.last is_home;
         apart = apart_turned net journal entry out sound.last sound.apart is_home;
@@ -364,7 +368,7 @@ module _ {S : Type 0} (stands : S → Strand → List Event → Type 0) (net : N
 
       pub job_turned : JobStands stands net longer s (suc (length journal)) seen stage
       job_turned = record {
-        place_is = sym (end_length journal entry);
+        place_is = sym (length_more journal entry);
         before = journal;
         entry = entry;
         entry_is = refl;
@@ -436,7 +440,7 @@ module _ {S : Type 0} (stands : S → Strand → List Event → Type 0) (net : N
 
       want_stays : (u : Who) → u ≢ s → want_at net st (left_by journal (without p out)) u ≡ want_at net st left u
       want_stays u apart = ap (λ l. want_at net st l u) left_now
-          ∙ ap (λ b. cond (cond b false (left u)) None (want_after (strand_at net st u) (past st u))) (test_apart u s apart)
+          ∙ ap (λ b. cond (cond b false (left u)) None (want_after (strand_at net st u) (past st u))) (ne_eqb u s apart)
 
       want_now : want_at net st (left_by journal (without p out)) s ≡ next strand.0 (past st s)
       want_now = ap (λ l. want_at net st l s) left_now ∙ ap (λ b. cond (cond b false (left s)) None (want_after (strand_at net st s) (past st s))) (test_same s)
@@ -457,7 +461,7 @@ module _ {S : Type 0} (stands : S → Strand → List Event → Type 0) (net : N
               ap (λ y. is_some y.stage) (sym x_is)
           | inr z ↦
               let l : left_in left s u ≡ false = ap (λ y. y u) (sym left_now) ∙ home in
-              sound.strands.home u x (sym (get_set_other actors s u new z) ∙ at) (sym (ap (λ b. cond b false (left u)) (test_apart u s z)) ∙ l)
+              sound.strands.home u x (sym (get_set_other actors s u new z) ∙ at) (sym (ap (λ b. cond b false (left u)) (ne_eqb u s z)) ∙ l)
         ];
       }
         where

@@ -1,6 +1,8 @@
 -- A core before the first step is sound.
 use Rattle.std.proofs.Common.{◌≡◌, ◌≢◌, inl, inr, ℕ, zero, suc, ◌≤◌, ◌<◌, Bool, true, false, cond, ◌&&◌, not, nat_lt, ◌==◌, List, [], ◌∷◌, length, refl, sym, ◌∙◌, ap, subst, arith, Option, Some, None, slice_get, slice_set, length-set, is_some}
 use Rattle.std.proofs.lemmas.Bool.Decides.{nat_tests}
+use Rattle.std.proofs.lemmas.Bool.{ne_eqb}
+use Rattle.std.proofs.lemmas.Option.{slice_get_within}
 use Rattle.std.specs.Option.{option_map}
 use Rattle.std.specs.Prelude.{Result, Ok, Err, IfOk, OnErr}
 use Rattle.std.specs.Result.{is_err}
@@ -13,6 +15,8 @@ use Rattle.pipe_model.specs.Next.{next, IsOwn}
 use Rattle.pipe_model.specs.State.{Who, past, nothing_yet, strand_at}
 use Rattle.pipe_model.specs.Licence.{none_left, want_after, want_at, answer, sight_of, licence}
 use Rattle.pipe_model.specs.WellFormed.{IsWellFormed}
+use Rattle.pipe_model.proofs.Numbers.{equal_or_not, test_same}
+use Rattle.pipe_model.proofs.Lists.{at_some, get_set_same, get_set_other}
 use Rattle.record_pool.specs.declared.pool.Held.{Held}
 use Rattle.record_pool.specs.Places.{bytes_at}
 use Rattle.stage_steps.specs.Coroutine.{told, meaning, last_seen}
@@ -23,8 +27,6 @@ use Rattle.run_desk.specs.Order.{IsRun, out_from}
 use Rattle.run_desk.specs.Pure as Pure
 use Rattle.run_desk.proofs.Runs.{run_can_come, run_home}
 use Rattle.run_desk.proofs.Sees.{seen_is}
-use Rattle.run_desk.proofs.Lists.{get_set_same, get_set_other}
-use Rattle.confluence_laws.proofs.Basics.{equal_or_not, test_same, test_apart, at_some, at_place}
 use Rattle.core_machine.specs.declared.actor.Actor.{Actor}
 use Rattle.core_machine.specs.Actors.{asking_for}
 use Rattle.core_machine.specs.Members.{Members}
@@ -53,7 +55,7 @@ next_in s n = fun_ext (λ t. each t)
           let off : nat_lt t (suc s) ≡ true = ap (λ y. nat_lt y (suc s)) z ∙ below s in
           ap (λ b. cond b false (out_from s n t)) here ∙ sym (ap (λ b. not b && nat_lt t n) off)
       | inr z ↦
-          ap (λ b. cond b false (out_from s n t)) (test_apart t s z) ∙ ap (λ b. not b && nat_lt t n) (same t z)
+          ap (λ b. cond b false (out_from s n t)) (ne_eqb t s z) ∙ ap (λ b. not b && nat_lt t n) (same t z)
     ]
       where
         below : (x : ℕ) → nat_lt x (suc x) ≡ true
@@ -149,7 +151,7 @@ module _ {S : Type 0} (stands : S → Strand → List Event → Type 0) (net : N
       }
         where
           want_same : (t : Who) → t ≢ s → want_at net nothing_yet (out_from s n) t ≡ want_at net nothing_yet (out_from (suc s) n) t
-          want_same t apart = ap (λ b. cond (cond b false (out_from s n t)) None (want_after (strand_at net nothing_yet t) [])) (sym (test_apart t s apart))
+          want_same t apart = ap (λ b. cond (cond b false (out_from s n t)) None (want_after (strand_at net nothing_yet t) [])) (sym (ne_eqb t s apart))
               ∙ ap (λ l. want_at net nothing_yet l t) (next_in s n)
 
           want_now : want_at net nothing_yet (out_from (suc s) n) s ≡ next its_strand.0 []
@@ -182,7 +184,7 @@ module _ {S : Type 0} (stands : S → Strand → List Event → Type 0) (net : N
 
       go : (x : Option Strand) → strand_at net nothing_yet t ≡ x → want_at net nothing_yet (out_from 0 n) t ≡ None
       go None is = ap (λ y. cond (out_from 0 n t) None (want_after y [])) is ∙ nothing (out_from 0 n t)
-      go (Some p) is = ap (λ b. cond b None (want_after (strand_at net nothing_yet t) [])) (all_out t n (at_place net.strands t is))
+      go (Some p) is = ap (λ b. cond b None (want_after (strand_at net nothing_yet t) [])) (all_out t n (slice_get_within net.strands t _ is))
 
   pub none_called : (stages : List S) (actors : List (Actor S)) (d : DeskState) (ready : Members) → length net.links < 2147483648 → AreFresh stands net.strands stages → AreNew stands stages actors → IsRun net nothing_yet (out_from 0 n) d [] → ready.size ≡ n →
       IsCalled stands net 0 actors d [] ready

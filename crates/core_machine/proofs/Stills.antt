@@ -1,10 +1,13 @@
 -- What changes on wires lets a strand go on only where it is next to the change.
-use Rattle.std.proofs.Common.{◌≡◌, ◌≢◌, ◌⊎◌, inl, inr, ℕ, zero, suc, true, false, ◌&&◌, ◌==◌, List, [], ◌∷◌, length, refl, sym, ◌∙◌, ap, subst, arith, Option, Some, None, is_some, slice_get}
+use Rattle.std.proofs.Common.{◌≡◌, ◌≢◌, ◌⊎◌, inl, inr, ℕ, suc, true, false, ◌&&◌, ◌==◌, List, [], ◌∷◌, refl, sym, ◌∙◌, ap, subst, Option, Some, None, is_some, slice_get}
+use Rattle.std.proofs.lemmas.Bool.{eqb-true}
 use Rattle.std.specs.Option.{option_map}
 use Rattle.pipe_model.specs.declared.net.Net.{Net}
 use Rattle.pipe_model.specs.declared.net.Link.{Link}
 use Rattle.pipe_model.specs.State.{State, same, link_in, link_out}
-use Rattle.confluence_laws.proofs.Basics.{both, same_number, equal_or_not, found_at}
+use Rattle.pipe_model.proofs.Truths.{both}
+use Rattle.pipe_model.proofs.Numbers.{equal_or_not}
+use Rattle.pipe_model.proofs.Lists.{found_at, beside}
 use Rattle.connectors.specs.WireState.{WireState}
 use Rattle.run_desk.specs.Desk.{DeskState}
 use Rattle.run_desk.specs.Kept.{IsLaid, link_through}
@@ -118,24 +121,18 @@ still_closed links u before f g outputs inputs writes reads no_reader no_writer 
 
 -- What the strand sees through its doors
 
-beside : {A B : Type 0} (xs : List A) (ys : List B) (j : ℕ) (x : A) → length xs ≡ length ys → slice_get xs j ≡ Some x → (y : B) × (slice_get ys j ≡ Some y)
-beside [] ys j x n at = cc
-beside (z ∷ zs) [] j x n at = absurd (omega (arith, n))
-beside (z ∷ zs) (y ∷ ys) zero x n at = (y, refl)
-beside (z ∷ zs) (y ∷ ys) (suc j) x n at = beside zs ys j x (omega (arith, n)) at
-
 module _ (net : Net) (st : State) (d : DeskState) (laid : IsLaid net st d) (s : ℕ) where
   -- the link at an input leads to the strand
   pub leads_to : (i j : ℕ) (link : Link) → Pure.in_door d s i ≡ Some j → slice_get net.links j ≡ Some link → link.to ≡ s
   leads_to i j link door at =
       let l : link_in net st s i ≡ Some link = laid.in_doors s i ∙ ap (link_through net.links) door ∙ at in
-      same_number _ _ (both (same link.to s) (link.input == i) (found_at (λ k. same k.to s && k.input == i) net.links l).0).0
+      eqb-true _ _ (both (same link.to s) (link.input == i) (found_at (λ k. same k.to s && k.input == i) net.links l).0).0
 
   -- and the one at an output from it
   pub leads_from : (o j : ℕ) (link : Link) → Pure.out_door d s o ≡ Some j → slice_get net.links j ≡ Some link → link.from ≡ s
   leads_from o j link door at =
       let l : link_out net st s o ≡ Some link = laid.out_doors s o ∙ ap (link_through net.links) door ∙ at in
-      same_number _ _ (both (same link.from s) (link.output == o) (found_at (λ k. same k.from s && k.output == o) net.links l).0).0
+      eqb-true _ _ (both (same link.from s) (link.output == o) (found_at (λ k. same k.from s && k.output == o) net.links l).0).0
 
 module _ (net : Net) (st : State) (d : DeskState) (laid : IsLaid net st d) (u : ℕ) (after : List WireState) (still : IsStill net.links u d.wires after) where
   -- it sees no more at its inputs

@@ -1,9 +1,11 @@
 -- A summary stays right when one member changes, and leads to the least member.
-use Rattle.std.proofs.Common.{◌≡◌, ◌≢◌, ◌⊎◌, ◌%◌, inl, inr, ℕ, zero, suc, ◌+◌, ◌*◌, ◌/◌, ◌<◌, ◌≤◌, ◌==◌, List, length, sym, ◌∙◌, ap, subst, arith, w64}
+use Rattle.std.proofs.Common.{◌≡◌, ◌≢◌, ◌%◌, inl, inr, ℕ, zero, suc, ◌+◌, ◌*◌, ◌/◌, ◌<◌, ◌≤◌, ◌==◌, List, length, sym, ◌∙◌, ap, subst, arith, w64}
 use Rattle.std.specs.Int.{bit_at, trailing_zeros}
 use Rattle.std.proofs.lemmas.Nat.Bits.{bit_at-zero}
+use Rattle.std.proofs.lemmas.Bool.{cases_lt}
+use Rattle.pipe_model.proofs.Numbers.{equal_or_not}
 use Rattle.core_machine.specs.Members.{Members, word_at, has, HasBits, IsLeast, IsLeastBit}
-use Rattle.core_machine.proofs.BitSets.{equal_or_not, least_is, bit_here, low_bit}
+use Rattle.core_machine.proofs.BitSets.{least_is, bit_here, low_bit}
 
 -- a word with a bit isn't 0
 pub some_word : (ws : List ℕ) (s : ℕ) → has ws s ≡ 1 → 0 < word_at ws (s / 64)
@@ -36,9 +38,6 @@ some_before words words' s w at some fits gone others =
 
     apart : t ≢ s
     apart e = let none : 0 ≡ 1 = sym gone ∙ ap (has words') (sym e) ∙ held in absurd (omega (arith, none))
-
-pub below_or_not : (a b : ℕ) → (a < b) ⊎ (b ≤ a)
-below_or_not a b = grind arith
 
 module _ (size : ℕ) (words summary words' summary' : List ℕ) (s : ℕ) (less : s < size) (is : HasBits size words summary)
     (others : (t : ℕ) → t ≢ s → has words' t ≡ has words t) (apart : (k : ℕ) → k ≢ s / 64 → word_at words' k ≡ word_at words k)
@@ -109,7 +108,7 @@ least_found size words summary k w is at fits first =
     least_is words k w at (subst (λ z. 0 < z) at (is.full k first.0)) fits (λ j p. is.empty j (first.1 j p))
 
 pub least_inside : (size : ℕ) (words summary : List ℕ) (s : ℕ) → HasBits size words summary → has words s ≡ 1 → s < size
-least_inside size words summary s is held = elim (below_or_not s size) [
+least_inside size words summary s is held = elim (cases_lt s size) [
   | inl p ↦ p
   | inr p ↦ (let none : 0 ≡ 1 = sym (is.inside s p) ∙ held in absurd (omega (arith, none)))
 ]

@@ -1,5 +1,7 @@
 -- What a sound core tells is what its journal says.
 use Rattle.std.proofs.Common.{◌≡◌, ◌⊎◌, inl, inr, ℕ, zero, suc, ◌≤◌, ◌<◌, Bool, true, false, List, [], ◌∷◌, length, refl, sym, ◌∙◌, ap, arith, Option, Some, None, slice_get, is_some, ℤ}
+use Rattle.std.proofs.lemmas.Option.{slice_get_within}
+use Rattle.std.proofs.lemmas.Bool.{cases_lt}
 use Rattle.std.specs.Prelude.{slice_index_or}
 use Rattle.pipe_model.specs.declared.net.Net.{Net}
 use Rattle.pipe_model.specs.declared.net.Strand.{Strand}
@@ -7,6 +9,7 @@ use Rattle.pipe_model.specs.declared.step.Entry.{Entry}
 use Rattle.pipe_model.specs.Event.{Event, Want}
 use Rattle.pipe_model.specs.State.{Who, past, nothing_yet, strand_at}
 use Rattle.pipe_model.specs.Play.{play}
+use Rattle.pipe_model.proofs.Lists.{at_some}
 use Rattle.record_pool.specs.declared.pool.Held.{Held}
 use Rattle.record_pool.specs.Places.{bytes_at}
 use Rattle.commit_levels.specs.UnitState.{Member}
@@ -14,7 +17,6 @@ use Rattle.run_desk.specs.Desk.{DeskState}
 use Rattle.run_desk.specs.Kept.{asked}
 use Rattle.run_desk.specs.Pure as Pure
 use Rattle.run_desk.proofs.Sees.{ask_is}
-use Rattle.confluence_laws.proofs.Basics.{at_some, at_place}
 use Rattle.core_machine.specs.declared.actor.Actor.{Actor}
 use Rattle.core_machine.specs.Answered.{LeastStream, Shows, end_of}
 use Rattle.core_machine.specs.Machine.{Machine, left_by, licence_of, want_of, state_of, HasStopped}
@@ -76,11 +78,8 @@ module _ {S : Type 0} (stands : S → Strand → List Event → Type 0) (net : N
 
   -- where none is out and no strand may go on, it has stopped
   pub stopped : out ≡ [] → ((s k : ℕ) → s < length actors → Pure.seen_at d s k ≡ None) → HasStopped seen_as
-  stopped none each = (none, λ s k. by s k (less_or_not s (length actors)))
+  stopped none each = (none, λ s k. by s k (cases_lt s (length actors)))
     where
-      less_or_not : (s n : ℕ) → (s < n) ⊎ (n ≤ s)
-      less_or_not s n = grind arith
-
       by : (s k : ℕ) → (s < length actors) ⊎ (length actors ≤ s) → licence_of seen_as s k ≡ None
       by s k (inl a) = none_is stands net budget journal out actors d places ready sound s k (each s k a)
       by s k (inr b) = nobody_goes s k b
@@ -111,7 +110,7 @@ module _ {S : Type 0} (stands : S → Strand → List Event → Type 0) (net : N
       (x.0, x.1, (sound.strands.each s p.0 actor p.1 at).asked x.0 x.1)
     where
       its_strand : (s : Who) (actor : Actor S) → slice_get actors s ≡ Some actor → (p : Strand) × (strand_at net (play net journal) s ≡ Some p)
-      its_strand s actor at = let a = at_place actors s at in let b = sound.strands.count in at_some net.strands s (omega (arith, a, b))
+      its_strand s actor at = let a = slice_get_within actors s _ at in let b = sound.strands.count in at_some net.strands s (omega (arith, a, b))
 
   -- the unit keeps the code with which a strand ended
   pub end_is : (s : Who) (r : Option ℤ) → s < length net.strands → ((m : Member) → slice_get d.unit s ≡ Some m → r ≡ m.ended) → r ≡ end_of seen_as s

@@ -1,9 +1,10 @@
 -- The set goes on covering the strands that may go on.
 use Rattle.std.proofs.Common.{◌≡◌, ◌≢◌, ◌⊎◌, inl, inr, ℕ, ◌<◌, Bool, true, false, length, refl, sym, ◌∙◌, ap, subst, arith, Option, Some, None, is_some, slice_get, ℤ, pos, negsuc}
+use Rattle.std.proofs.lemmas.Option.{slice_get_within}
 use Rattle.pipe_model.specs.declared.net.Net.{Net}
 use Rattle.pipe_model.specs.State.{State}
 use Rattle.pipe_model.specs.WellFormed.{IsWellFormed}
-use Rattle.confluence_laws.proofs.Basics.{equal_or_not, at_place}
+use Rattle.pipe_model.proofs.Numbers.{equal_or_not}
 use Rattle.run_desk.specs.declared.seat.Ask.TheVariants as Ask
 use Rattle.run_desk.specs.declared.seat.Seat.{Seat}
 use Rattle.run_desk.specs.Desk.{DeskState}
@@ -37,7 +38,7 @@ module _ (net : Net) (st : State) (formed : IsWellFormed net) (d n : DeskState) 
     seated k p = go (slice_get d.seats u) refl
       where
         go : (x : Option Seat) → slice_get d.seats u ≡ x → u < new.size
-        go (Some seat) at = let m = at_place d.seats u at in (let e = laid.seat_count in omega (arith, m, e, size))
+        go (Some seat) at = let m = slice_get_within d.seats u _ at in (let e = laid.seat_count in omega (arith, m, e, size))
         go None at =
             let nobody : is_some (Pure.seen_by n u k (Pure.ask_of None)) ≡ true = subst (λ z. is_some (Pure.seen_by n u k (Pure.ask_of z)) ≡ true) (around.seats u apart ∙ at) p in
             absurd (let r : ⊥ = cc in r)

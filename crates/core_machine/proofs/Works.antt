@@ -6,8 +6,9 @@ use Rattle.pipe_model.specs.declared.step.Entry.{Entry}
 use Rattle.pipe_model.specs.Event.{Event}
 use Rattle.pipe_model.specs.Licence.{licence, none_left}
 use Rattle.pipe_model.specs.Play.{play}
+use Rattle.pipe_model.proofs.Truths.{or_second}
+use Rattle.pipe_model.proofs.Lists.{length_more}
 use Rattle.stage_steps.specs.Coroutine.{bytes_with, CanResume, Resumes}
-use Rattle.confluence_laws.proofs.Basics.{or_second}
 use Rattle.confluence_laws.proofs.LeftOut.{licensed_too}
 use Rattle.core_machine.specs.declared.job.Job.{Job}
 use Rattle.core_machine.specs.declared.job.Finished.{Finished}
@@ -17,7 +18,6 @@ use Rattle.core_machine.specs.Jobs.{JobStands, DoneStands}
 use Rattle.core_machine.specs.Machine.{Machine, left_by, is_among, looks_at, state_of}
 use Rattle.core_machine.proofs.GoesOn.{one_among}
 use Rattle.core_machine.proofs.Jobs.{can_run, done_take, if_ok}
-use Rattle.core_machine.proofs.Plays.{end_length}
 
 front_and_last : {X : Type 0} (xs ys : List X) (x y : X) → xs ++ x ∷ [] ≡ ys ++ y ∷ [] → (xs ≡ ys) × (x ≡ y)
 front_and_last [] [] x y e = (refl, cc)
@@ -77,5 +77,5 @@ module _ {S : Type 0} (stands : S → Strand → List Event → Type 0) (m n : M
   -- and its place is one of those that are out
   pub work_among : (done : Finished S) → done.place ≡ job.place → is_among done.place n.out ≡ true
   work_among done place =
-      let here : done.place ≡ suc (length m.journal) = place ∙ given.place_is ∙ ap (λ (z : Machine). length z.journal) turned.2 ∙ end_length m.journal (record { strand = s; stream = k }) in
+      let here : done.place ≡ suc (length m.journal) = place ∙ given.place_is ∙ ap (λ (z : Machine). length z.journal) turned.2 ∙ length_more m.journal (record { strand = s; stream = k }) in
       ap (λ p. is_among p n.out) here ∙ ap (λ (z : Machine). is_among (suc (length m.journal)) z.out) turned.2 ∙ among_end (suc (length m.journal)) m.out

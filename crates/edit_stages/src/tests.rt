@@ -2,23 +2,11 @@ use crate::duplicate::Duplicates;
 use crate::edits::Edits;
 use crate::reverse::Reverses;
 use crate::strip::Strips;
-use pipe_model::{Out, Rec, Seen, Times, Want};
+use pipe_model::{Rec, Seen, Times};
 use stage_steps::Stage;
-use std::alloc::{AllocError, Global};
+use std::alloc::Global;
 use std::process::Abort;
 use std::test::Fail;
-
-// What is asked for, as text.
-fn shown(alloc: Global, want: &Want) -> Result<String, AllocError> {
-    match want {
-        Want::Commit(level) => format!(in alloc; "commit {level}"),
-        Want::Read(i) => format!(in alloc; "read {i}"),
-        Want::Take(i) => format!(in alloc; "take {i}"),
-        Want::Write(o, Out::Same(i)) => format!(in alloc; "write {o} same {i}"),
-        Want::Done(code) => format!(in alloc; "done {code}"),
-        _ => format!(in alloc; "another"),
-    }
-}
 
 // Goes through these events with a DUPLICATE, and looks at what is asked for after each.
 fn driven(
@@ -30,8 +18,8 @@ fn driven(
     let mut stage = Duplicates::stage(alloc, copies, &[true])?;
     assert!(rt; !stage.looks());
     for (seen, want) in steps {
-        let asked = stage.resume(alloc, *seen, b"")?;
-        assert_eq!(rt; shown(alloc, &asked)?.as_str(), *want, "after {seen:?}");
+        let asked = format!(in alloc; "{:?}", stage.resume(alloc, *seen, b"")?)?;
+        assert_eq!(rt; asked.as_str(), *want, "after {seen:?}");
     }
     Ok(())
 }
@@ -40,30 +28,30 @@ fn driven(
 fn a_record_is_written_once_and_its_copies(rt: HostRuntime) -> Result<(), Fail> {
     let alloc = rt.alloc();
     let steps = [
-        (Seen::Up(-1, 0), "commit 0"),
-        (Seen::Up(0, 0), "read 0"),
-        (Seen::Saw(0), "write 0 same 0"),
-        (Seen::Put(0), "take 0"),
-        (Seen::Took(0), "read 0"),
-        (Seen::SawEnd(0), "done 0"),
+        (Seen::Up(-1, 0), "Commit(0)"),
+        (Seen::Up(0, 0), "Read(0)"),
+        (Seen::Saw(0), "Write(0, Same(0))"),
+        (Seen::Put(0), "Take(0)"),
+        (Seen::Took(0), "Read(0)"),
+        (Seen::SawEnd(0), "Done(0)"),
     ];
     driven(&rt, alloc, Times::Only(0), &steps)?;
     let steps = [
-        (Seen::Up(-1, 0), "commit 0"),
-        (Seen::Up(0, 0), "read 0"),
-        (Seen::Saw(0), "write 0 same 0"),
-        (Seen::Put(0), "write 0 same 0"),
-        (Seen::Put(0), "write 0 same 0"),
-        (Seen::Put(0), "take 0"),
+        (Seen::Up(-1, 0), "Commit(0)"),
+        (Seen::Up(0, 0), "Read(0)"),
+        (Seen::Saw(0), "Write(0, Same(0))"),
+        (Seen::Put(0), "Write(0, Same(0))"),
+        (Seen::Put(0), "Write(0, Same(0))"),
+        (Seen::Put(0), "Take(0)"),
     ];
     driven(&rt, alloc, Times::Only(2), &steps)?;
     let steps = [
-        (Seen::Up(-1, 0), "commit 0"),
-        (Seen::Up(0, 0), "read 0"),
-        (Seen::Saw(0), "write 0 same 0"),
-        (Seen::Put(0), "write 0 same 0"),
-        (Seen::Put(0), "write 0 same 0"),
-        (Seen::Refused(0), "done 0"),
+        (Seen::Up(-1, 0), "Commit(0)"),
+        (Seen::Up(0, 0), "Read(0)"),
+        (Seen::Saw(0), "Write(0, Same(0))"),
+        (Seen::Put(0), "Write(0, Same(0))"),
+        (Seen::Put(0), "Write(0, Same(0))"),
+        (Seen::Refused(0), "Done(0)"),
     ];
     driven(&rt, alloc, Times::All, &steps)
 }

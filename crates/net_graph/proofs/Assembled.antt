@@ -4,7 +4,7 @@ use Rattle.std.specs.List.{range_with_len}
 use Rattle.std.proofs.lemmas.List.{append-nil, length-map, get_or-drop, get_or-take, get_or_past, length-take-le, map-append}
 use Rattle.std.proofs.lemmas.List.Elements.{filter-append}
 use Rattle.std.proofs.lemmas.List.FromFn.{fill_by_all}
-use Rattle.std.proofs.lemmas.Option.{slice_get_cases, get_or_from_slice_get}
+use Rattle.std.proofs.lemmas.Option.{slice_get_cases, get_or_from_slice_get, slice_get_within}
 use Rattle.pipe_model.specs.declared.kind.Kind.{Kind}
 use Rattle.pipe_model.specs.declared.net.Link.{Link}
 use Rattle.pipe_model.specs.declared.net.Net.{Net}
@@ -20,17 +20,16 @@ use Rattle.spec_scanner.specs.declared.piece.PieceKind.TheVariants.{Stage, Refer
 use Rattle.net_graph.specs.Flags.{AreFlags}
 use Rattle.net_graph.specs.Nets.{inputs_of, is_linked_in, is_linked_out, links_of, net_of, outputs_of, strand_of, strands_from}
 use Rattle.net_graph.specs.Numbered.{AreNumbered, AreScanned, pieces_of, uses_after}
-use Rattle.net_graph.specs.Stands.{Stand, is_label, is_of_reference, is_of_stage, is_stage, refers_to, stage_of, stages_of, stands_in, stands_of}
+use Rattle.net_graph.specs.Stands.{Stand, is_label, is_of_stage, is_stage, refers_to, stage_of, stages_of, stands_in, stands_of}
 use Rattle.net_graph.specs.Searches.{stand}
 use Rattle.net_graph.specs.Strands.{row_by, strand_by, strands_by}
 use Rattle.net_graph.specs.Uses.{later_by, later_of, more_streams, uses_past}
 use Rattle.net_graph.specs.Joins.{AreSmall, links_by_all}
 use Rattle.net_graph.proofs.Joined.{all_links_same}
-use Rattle.net_graph.proofs.FormedLists.{count_more, get_below, not_second}
 use Rattle.net_graph.proofs.FormedPositions.{position_finds}
 use Rattle.net_graph.proofs.Usages.{later_both}
 use Rattle.std.proofs.Math.Nat.{min-le_right}
-use Rattle.net_graph.proofs.FormedLabels.{Told, pieces_are, told_more, told_nothing}
+use Rattle.net_graph.proofs.FormedLabels.{Told, pieces_are, told_more, told_nothing, none_referred}
 
 -- at the end of all stands the labels have their uses
 told_all : (done rest : List Stand) (uses : List ℕ) → Told done uses → AreNumbered uses (map (λ (s : Stand). s.piece) rest) → Told (done ++ rest) (uses_past uses (map (λ (s : Stand). s.piece) rest))
@@ -53,16 +52,9 @@ counted_uses stands uses told label = by (slice_get_cases uses label).1 where
   by (inl here) = get_or_from_slice_get uses label here.0 0 here.2 ∙ sym (told.counted label here.0 here.2)
   by (inr past) = get_or_past uses label 0 past.0 ∙ sym (told.unused label past.0)
 
-no_reference : (stands : List Stand) → count_by (refers_to None) stands ≡ 0
-no_reference [] = refl
-no_reference (s ∷ stands) =
-    let test : refers_to None s ≡ false = not_second (is_of_reference s.piece.kind) false refl in
-    let one = ap {B = ℕ} (λ (b : Bool). if b then 1 else 0) test in
-    omega (arith, count_more (refers_to None) s stands, one, no_reference stands)
-
 module _ (stands : List Stand) (uses : List ℕ) (counts : (label : ℕ) → get_or uses label 0 ≡ count_by (refers_to (Some label)) stands) where
   of_label : (label : Option ℕ) → later_of uses Stage label ≡ count_by (refers_to label) stands ∷ []
-  of_label None = ap (λ (n : ℕ). n ∷ []) (sym (no_reference stands))
+  of_label None = ap (λ (n : ℕ). n ∷ []) (sym (none_referred stands))
   of_label (Some label) = ap (λ (n : ℕ). n ∷ []) (counts label)
 
   later_front : (s : Stand) (rest : List Stand) (more : List ℕ) → more ≡ map (more_streams stands) (stages_of rest) →
@@ -144,7 +136,7 @@ small_table stands table labelled few i = by (slice_get_cases table i).1 where
   by : ((stage : ℕ) × (i < length table) × (slice_get table i ≡ Some stage) × (get_or table i stage ≡ stage)) ⊎ ((length table ≤ i) × (slice_get table i ≡ None)) → get_or table i 0 < 65536
   by (inl here) =
       let found = position_finds (λ (s : Stand). is_label (Some i) s.piece.label) (stages_of stands) here.0 (sym (labelled i) ∙ here.2) in
-      let below = get_below (stages_of stands) here.0 found.0 found.1 in
+      let below = slice_get_within (stages_of stands) here.0 found.0 found.1 in
       rw (get_or_from_slice_get table i here.0 0 here.2) (omega arith)
   by (inr past) = rw (get_or_past table i 0 past.0) (omega arith)
 

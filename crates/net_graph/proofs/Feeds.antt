@@ -12,9 +12,10 @@ use Rattle.pipe_model.specs.Table.{form, line_of}
 use Rattle.pipe_model.specs.Form.{Parting, parting_by}
 use Rattle.pipe_model.specs.Form.Parting.{Whole}
 use Rattle.pipe_model.specs.WellFormed.{IsJoined, IsOfStage, IsQueue, IsWellFormed, TellsPorts, places_of, strands_of}
+use Rattle.pipe_model.proofs.Numbers.{equal_or_not}
+use Rattle.pipe_model.proofs.Lists.{get_set_same, get_set_other}
 use Rattle.net_graph.specs.Nets.{inputs_of, outputs_of}
 use Rattle.net_graph.specs.Fed.{fed, reader_of, reads_input, with_kind}
-use Rattle.net_graph.proofs.FormedLists.{equal_or_not, get_set_other, get_set_same}
 use Rattle.net_graph.proofs.FormedPositions.{position_finds}
 
 -- a kind that a net's form can't tell from another, of which a stage has one strand

@@ -2,6 +2,7 @@
 use Rattle.std.proofs.Common.{◌≡◌, ◌⊎◌, inl, inr, ℕ, suc, ◌+◌, ◌-◌, ◌≤◌, ◌<◌, true, false, ◌&&◌, ◌==◌, List, [], refl, sym, ◌∙◌, ap, subst, arith, Some, slice_get, map}
 use Rattle.std.specs.Prelude.{min, Ok, ◌↔◌}
 use Rattle.std.proofs.lemmas.List.FromFn.{length-map-range_with_len}
+use Rattle.std.proofs.lemmas.Bool.{eqb-true}
 use Rattle.pipe_model.specs.declared.kind.Kind.{Kind}
 use Rattle.pipe_model.specs.declared.net.Link.{Link}
 use Rattle.pipe_model.specs.declared.net.Net.{Net}
@@ -10,6 +11,7 @@ use Rattle.pipe_model.specs.State.{Who, nothing_yet, strand_at}
 use Rattle.pipe_model.specs.Table.{form}
 use Rattle.pipe_model.specs.Form.Parting.{Whole, Queued}
 use Rattle.pipe_model.specs.WellFormed.{IsJoined, IsOfStage, IsQueue, IsWellFormed, TellsPorts, places_of, strands_of}
+use Rattle.pipe_model.proofs.Truths.{both}
 use Rattle.stage_syntax.proofs.TypedKinds.{IsTyped, typed_kind}
 use Rattle.spec_scanner.specs.declared.piece.Piece.{Piece}
 use Rattle.net_graph.specs.Stands.{Stand, stages_of, stands_of, streams_of}
@@ -20,7 +22,7 @@ use Rattle.net_graph.proofs.FormedFaults.{few_stages}
 use Rattle.net_graph.proofs.FormedFits.{few_streams_of, fits}
 use Rattle.net_graph.proofs.FormedKinds.{kind_here}
 use Rattle.net_graph.proofs.FormedLinks.{IsLead, lead_at, leads_of}
-use Rattle.net_graph.proofs.FormedLists.{both, same_number, true_or_not}
+use Rattle.net_graph.proofs.FormedLists.{true_or_not}
 use Rattle.net_graph.proofs.FormedLone.{lone_in, lone_out}
 use Rattle.net_graph.proofs.FormedStrands.{few_strands, flag_is, found_or_not, passes_at, strand_there, strand_was}
 
@@ -87,9 +89,9 @@ module _ (pipelines : List (List Piece)) (kinds : List Kind) (scanned : AreScann
           let r = passes_at (λ (link : Link). (link.to == s) && (link.input == i)) links some in
           let tests = both (r.1.to == s) (r.1.input == i) r.3 in
           let join = joined r.0 r.1 r.2 in
-          let there : Some join.consumer ≡ Some p = sym join.to_strand ∙ ap (strand_at net nothing_yet) (same_number r.1.to s tests.0) ∙ is in
+          let there : Some join.consumer ≡ Some p = sym join.to_strand ∙ ap (strand_at net nothing_yet) (eqb-true r.1.to s tests.0) ∙ is in
           let same : join.consumer ≡ p = cc in
-          absurd (omega (arith, join.input, ap (λ (q : Strand). q.ports.inputs) same, same_number r.1.input i tests.1, past))
+          absurd (omega (arith, join.input, ap (λ (q : Strand). q.ports.inputs) same, eqb-true r.1.input i tests.1, past))
 
   past_out : (s o : ℕ) (p : Strand) → strand_at net nothing_yet s ≡ Some p → p.ports.outputs ≤ o → is_linked_out links s o ≡ false
   past_out s o p is past = go (true_or_not (is_linked_out links s o))
@@ -100,9 +102,9 @@ module _ (pipelines : List (List Piece)) (kinds : List Kind) (scanned : AreScann
           let r = passes_at (λ (link : Link). (link.from == s) && (link.output == o)) links some in
           let tests = both (r.1.from == s) (r.1.output == o) r.3 in
           let join = joined r.0 r.1 r.2 in
-          let there : Some join.producer ≡ Some p = sym join.from_strand ∙ ap (strand_at net nothing_yet) (same_number r.1.from s tests.0) ∙ is in
+          let there : Some join.producer ≡ Some p = sym join.from_strand ∙ ap (strand_at net nothing_yet) (eqb-true r.1.from s tests.0) ∙ is in
           let same : join.producer ≡ p = cc in
-          absurd (omega (arith, join.output, ap (λ (q : Strand). q.ports.outputs) same, same_number r.1.output o tests.1, past))
+          absurd (omega (arith, join.output, ap (λ (q : Strand). q.ports.outputs) same, eqb-true r.1.output o tests.1, past))
 
   -- the flags of a stage's strand tell of its links
   told_at : (s : ℕ) (stage : Stand) (kind : Kind) → strand_at net nothing_yet s ≡ Some (strand_of whole links s stage kind) → TellsPorts net s (strand_of whole links s stage kind)

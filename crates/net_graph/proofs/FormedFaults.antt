@@ -8,6 +8,7 @@ use Rattle.std.proofs.lemmas.Bool.Decides.{nat_tests}
 use Rattle.std.proofs.lemmas.List.Sums.{length-filter}
 use Rattle.std.proofs.lemmas.Option.{slice_get-map}
 use Rattle.pipe_model.specs.declared.kind.Kind.{Kind}
+use Rattle.pipe_model.proofs.Truths.{neither}
 use Rattle.stage_syntax.specs.declared.fault.KindFault.{KindFault}
 use Rattle.spec_scanner.specs.declared.fault.Fault.{Fault}
 use Rattle.spec_scanner.specs.declared.piece.Piece.{Piece}
@@ -18,7 +19,7 @@ use Rattle.spec_scanner.specs.Faults.{fault}
 use Rattle.net_graph.specs.Stands.{Stand, is_of_stage, is_stage, stage_of, stages_of, stands_of}
 use Rattle.net_graph.specs.Nets.{inputs_of, outputs_of}
 use Rattle.net_graph.specs.Faults.{faults_from, faults_of, faults_of_kind, is_past, kind_at, most_stages, most_streams, stage_faults, stream_faults}
-use Rattle.net_graph.proofs.FormedLists.{below_unless_not, last_counted, neither, nothing_joined}
+use Rattle.net_graph.proofs.FormedLists.{below_unless_not, last_counted, nothing_joined}
 
 -- each stand has no fault, after the stages before it
 good_from : (whole : List Stand) (outcomes : List (Result Kind KindFault)) (earlier between rest : List Stand) (stand : Stand)

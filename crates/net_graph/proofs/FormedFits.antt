@@ -1,8 +1,11 @@
 -- The stream that a stand is for is one that its stage has.
 use Rattle.std.proofs.Common.{◌≡◌, ◌⊎◌, inl, inr, ℕ, zero, suc, ◌≤◌, ◌<◌, true, false, List, [], ◌∷◌, ◌++◌, refl, sym, ◌∙◌, ap, subst, arith, Option, Some, None, slice_get, length, map}
+use Rattle.std.proofs.lemmas.Bool.{eqb-true}
 use Rattle.std.specs.Prelude.{Ok}
 use Rattle.std.specs.List.{count_by}
 use Rattle.pipe_model.specs.declared.kind.Kind.{Kind}
+use Rattle.pipe_model.proofs.Truths.{both}
+use Rattle.pipe_model.proofs.Lists.{get_seam}
 use Rattle.stage_syntax.proofs.TypedKinds.{typed_kind}
 use Rattle.spec_scanner.specs.declared.piece.Piece.{Piece}
 use Rattle.spec_scanner.specs.declared.piece.PieceKind.{PieceKind}
@@ -13,28 +16,20 @@ use Rattle.net_graph.specs.Numbered.{AreScanned, IsNumbered}
 use Rattle.net_graph.specs.Faults.{faults_of}
 use Rattle.net_graph.proofs.FormedFaults.{few_streams, input_there, output_there}
 use Rattle.net_graph.proofs.FormedKinds.{kind_here}
-use Rattle.net_graph.proofs.FormedLabels.{counted_with, counted_without, numbered_at, reference_is, stage_is, stages_with}
-use Rattle.net_graph.proofs.FormedLists.{both, get_seam, last_counted, not_second, same_number}
+use Rattle.net_graph.proofs.FormedLabels.{counted_with, numbered_at, reference_is, stage_is, stages_with, none_referred}
+use Rattle.net_graph.proofs.FormedLists.{last_counted}
 use Rattle.net_graph.proofs.FormedPositions.{position_finds}
 use Rattle.net_graph.proofs.FormedSpots.{Defines, Refers, StandsFor, found_whole, told_of}
 
 -- the label passes the test
 label_found : (l : ℕ) (label : Option ℕ) → is_label (Some l) label ≡ true → label ≡ Some l
 label_found l None is = cc
-label_found l (Some m) is = ap Some (sym (same_number l m is))
+label_found l (Some m) is = ap Some (sym (eqb-true l m is))
 
 reference_kind : (kind : PieceKind) → is_of_reference kind ≡ true → kind ≡ Reference
 reference_kind Stage is = cc
 reference_kind Reference is = refl
 reference_kind Connector is = cc
-
--- no later use is one of no label
-none_referred : (stands : List Stand) → count_by (refers_to None) stands ≡ 0
-none_referred [] = refl
-none_referred (stand ∷ stands) = omega (arith, counted_without (refers_to None) [] stands stand (not_second (is_of_reference stand.piece.kind) false refl), none_referred stands, none)
-  where
-    none : count_by (refers_to None) [] ≡ 0
-    none = refl
 
 -- the stage of a stand's stream, and the kind of it
 pub record Fits (whole : List Stand) (kinds : List Kind) (stand : Stand) (spot : Spot) : Type 0 where

@@ -5,12 +5,17 @@ use Rattle.std.specs.Option.{option_map_or}
 use Rattle.std.proofs.lemmas.List.Elements.{filter-append}
 use Rattle.std.proofs.lemmas.List.{map-append}
 use Rattle.std.proofs.lemmas.List.Sums.{sum_by-append}
+use Rattle.std.proofs.lemmas.Bool.{ne_eqb}
+use Rattle.std.proofs.lemmas.Option.{slice_get_within}
+use Rattle.pipe_model.proofs.Truths.{not_second}
+use Rattle.pipe_model.proofs.Numbers.{equal_or_not, test_same}
+use Rattle.pipe_model.proofs.Lists.{get_set_same, get_set_other}
 use Rattle.spec_scanner.specs.declared.piece.Piece.{Piece}
 use Rattle.spec_scanner.specs.declared.piece.PieceKind.{PieceKind}
 use Rattle.spec_scanner.specs.declared.piece.PieceKind.TheVariants.{Stage, Reference, Connector}
 use Rattle.net_graph.specs.Stands.{Stand, is_label, is_of_reference, is_of_stage, is_stage, refers_to, stage_of, stages_of, stands_in, stands_of}
 use Rattle.net_graph.specs.Numbered.{AreNumbered, AreScanned, IsNumbered, pieces_of, uses_after}
-use Rattle.net_graph.proofs.FormedLists.{count_more, equal_or_not, get_below, get_more, get_set_other, get_set_same, not_second, test_apart, test_same}
+use Rattle.net_graph.proofs.FormedLists.{count_more, get_more}
 use Rattle.net_graph.proofs.FormedPositions.{position_new, position_stays, position_still}
 
 -- One stand more
@@ -27,6 +32,14 @@ counted_with p done rest x is = omega (arith, sum_by-append (λ y. cond (p y) 1 
 pub counted_without : {X : Type 0} (p : X → Bool) (done rest : List X) (x : X) → p x ≡ false → count_by p (done ++ x ∷ rest) ≡ count_by p done + count_by p rest
 counted_without p done rest x is = omega (arith, sum_by-append (λ y. cond (p y) 1 0) done (x ∷ rest), count_more p x rest, ap {B = ℕ} (λ b. cond b 1 0) is)
 
+-- no later use is one of no label
+pub none_referred : (stands : List Stand) → count_by (refers_to None) stands ≡ 0
+none_referred [] = refl
+none_referred (stand ∷ stands) = omega (arith, counted_without (refers_to None) [] stands stand (not_second (is_of_reference stand.piece.kind) false refl), none_referred stands, none)
+  where
+    none : count_by (refers_to None) [] ≡ 0
+    none = refl
+
 -- what a stand of a kind is
 pub stage_is : (stand : Stand) → stand.piece.kind ≡ Stage → is_stage stand ≡ true
 stage_is stand is = ap is_of_stage is
@@ -35,7 +48,7 @@ pub reference_is : (stand : Stand) (l : ℕ) → stand.piece.kind ≡ Reference 
 reference_is stand l is label = ap (λ b. b && is_label (Some l) stand.piece.label) (ap is_of_reference is) ∙ ap (is_label (Some l)) label ∙ test_same l
 
 other_label : (stand : Stand) (l m : ℕ) → stand.piece.label ≡ Some m → l ≢ m → is_label (Some l) stand.piece.label ≡ false
-other_label stand l m label apart = ap (is_label (Some l)) label ∙ test_apart l m apart
+other_label stand l m label apart = ap (is_label (Some l)) label ∙ ne_eqb l m apart
 
 no_label : (stand : Stand) (l : ℕ) → stand.piece.label ≡ None → is_label (Some l) stand.piece.label ≡ false
 no_label stand l label = ap (is_label (Some l)) label
@@ -120,7 +133,7 @@ module _ (done : List Stand) (uses : List ℕ) (told : Told done uses) (stand : 
     unlike l apart = not_second (is_of_reference stand.piece.kind) (is_label (Some l) stand.piece.label) (other_label stand l m label apart)
 
     past : (l : ℕ) → length (slice_set uses m (suc c)) ≤ l → l ≢ m
-    past l above e = absurd (omega (arith, above, e, length-set uses m (suc c), get_below uses m c here))
+    past l above e = absurd (omega (arith, above, e, length-set uses m (suc c), slice_get_within uses m c here))
 
     each : (l d : ℕ) → slice_get (slice_set uses m (suc c)) l ≡ Some d → (l ≡ m) ⊎ (l ≢ m) → count_by (refers_to (Some l)) (done ++ stand ∷ []) ≡ d
     each l d is (inl same) =

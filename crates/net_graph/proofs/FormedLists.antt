@@ -1,37 +1,10 @@
 -- Plain facts of tests and lists, from which the net of a specification is proved to be well-formed.
-use Rattle.std.proofs.Common.{◌≡◌, ◌≢◌, ◌⊎◌, inl, inr, ℕ, zero, suc, ◌+◌, ◌<◌, Bool, true, false, cond, ◌&&◌, ◌||◌, not, nat_lt, ◌==◌, List, [], ◌∷◌, ◌++◌, refl, sym, ◌∙◌, ap, arith, Some, slice_get, slice_set, length}
+use Rattle.std.proofs.Common.{◌≡◌, ◌⊎◌, inl, inr, ℕ, zero, suc, ◌+◌, ◌<◌, Bool, true, false, cond, not, nat_lt, List, [], ◌∷◌, ◌++◌, refl, sym, ◌∙◌, ap, arith, Some, slice_get, length}
 use Rattle.std.specs.List.{count_by}
 use Rattle.std.proofs.lemmas.Bool.Decides.{nat_tests}
 use Rattle.std.proofs.lemmas.List.Sums.{sum_by-cons}
 
 -- Tests
-
-pub both : (a b : Bool) → (a && b) ≡ true → (a ≡ true) × (b ≡ true)
-both true true p = (refl, refl)
-both true false p = cc
-both false b p = cc
-
--- neither of two tests holds
-pub neither : (a b : Bool) → (a || b) ≡ false → (a ≡ false) × (b ≡ false)
-neither true b p = cc
-neither false b p = (refl, p)
-
--- two tests don't both hold where the second doesn't
-pub not_second : (a b : Bool) → b ≡ false → (a && b) ≡ false
-not_second true b p = p
-not_second false b p = refl
-
-pub same_number : (a b : ℕ) → (a == b) ≡ true → a ≡ b
-same_number a b p = grind (arith, nat_tests)
-
-pub equal_or_not : (a b : ℕ) → (a ≡ b) ⊎ (a ≢ b)
-equal_or_not a b = grind (arith, nat_tests)
-
-pub test_same : (a : ℕ) → (a == a) ≡ true
-test_same a = grind (arith, nat_tests)
-
-pub test_apart : (a b : ℕ) → a ≢ b → (a == b) ≡ false
-test_apart a b p = grind (arith, nat_tests)
 
 pub below_unless_not : (a b : ℕ) → not (nat_lt a b) ≡ false → a < b
 below_unless_not a b p = grind (arith, nat_tests)
@@ -47,34 +20,12 @@ pub nothing_joined : {X : Type 0} (xs ys : List X) → xs ++ ys ≡ [] → (xs �
 nothing_joined [] ys p = (refl, p)
 nothing_joined (x ∷ xs) ys p = cc
 
--- what stands just after a list
-pub get_seam : {X : Type 0} (xs : List X) (y : X) (ys : List X) → slice_get (xs ++ y ∷ ys) (length xs) ≡ Some y
-get_seam [] y ys = refl
-get_seam (x ∷ xs) y ys = get_seam xs y ys
-
 -- with one more at the end, something stands where it stood, or it is the one more
 pub get_more : {X : Type 0} (xs : List X) (y : X) (k : ℕ) (x : X) → slice_get (xs ++ y ∷ []) k ≡ Some x → (slice_get xs k ≡ Some x) ⊎ ((k ≡ length xs) × (x ≡ y))
 get_more [] y zero x is = inr (refl, cc)
 get_more [] y (suc k) x is = cc
 get_more (z ∷ xs) y zero x is = inl is
 get_more (z ∷ xs) y (suc k) x is = elim (get_more xs y k x is) [ inl at ↦ inl at | inr new ↦ inr (ap suc new.0, new.1) ]
-
-pub get_set_same : {X : Type 0} (xs : List X) (i : ℕ) (x y : X) → slice_get xs i ≡ Some y → slice_get (slice_set xs i x) i ≡ Some x
-get_set_same [] i x y at = cc
-get_set_same (z ∷ zs) zero x y at = refl
-get_set_same (z ∷ zs) (suc i) x y at = get_set_same zs i x y at
-
-pub get_set_other : {X : Type 0} (xs : List X) (i k : ℕ) (x : X) → k ≢ i → slice_get (slice_set xs i x) k ≡ slice_get xs k
-get_set_other [] i k x apart = refl
-get_set_other (z ∷ zs) zero zero x apart = absurd (apart refl)
-get_set_other (z ∷ zs) zero (suc k) x apart = refl
-get_set_other (z ∷ zs) (suc i) zero x apart = refl
-get_set_other (z ∷ zs) (suc i) (suc k) x apart = get_set_other zs i k x (λ e. apart (ap suc e))
-
-pub get_below : {X : Type 0} (xs : List X) (k : ℕ) (x : X) → slice_get xs k ≡ Some x → k < length xs
-get_below [] k x e = cc
-get_below (z ∷ xs) zero x e = omega arith
-get_below (z ∷ xs) (suc k) x e = let r = get_below xs k x e in omega arith
 
 -- of two ways to part a list at an element, the one further right has the other's element before it
 pub further_right : {X : Type 0} (a b c d : List X) (x y : X) → a ++ x ∷ b ≡ c ++ y ∷ d → length a < length c → (between : List X) × (c ≡ a ++ x ∷ between)

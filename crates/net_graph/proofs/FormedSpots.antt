@@ -3,12 +3,13 @@ use Rattle.std.proofs.Common.{◌≡◌, ◌⊎◌, inl, inr, ℕ, suc, ◌<◌,
 use Rattle.std.specs.List.{count_by, position}
 use Rattle.std.specs.Option.{option_map}
 use Rattle.std.proofs.lemmas.List.Elements.{filter-append}
+use Rattle.std.proofs.lemmas.Bool.{eqb-true}
 use Rattle.spec_scanner.specs.declared.piece.Piece.{Piece}
 use Rattle.spec_scanner.specs.declared.piece.PieceKind.{PieceKind}
 use Rattle.spec_scanner.specs.declared.piece.PieceKind.TheVariants.{Stage, Reference, Connector}
 use Rattle.net_graph.specs.Stands.{Spot, Stand, is_label, is_stage, refers_to, spot_of, stage_of, stages_of, stands_of}
 use Rattle.net_graph.specs.Numbered.{AreScanned, IsNumbered}
-use Rattle.net_graph.proofs.FormedLists.{further_right, same_number}
+use Rattle.net_graph.proofs.FormedLists.{further_right}
 use Rattle.net_graph.proofs.FormedPositions.{position_finds, position_stays}
 use Rattle.net_graph.proofs.FormedLabels.{Told, counted_with, numbered_at, reference_is, stage_is, stages_with}
 
@@ -92,7 +93,7 @@ module _ (pipelines : List (List Piece)) (scanned : AreScanned pipelines) where
     where
       one : (label : Option ℕ) → is_label (Some l) label ≡ true → is_label (Some m) label ≡ true → l ≡ m
       one None p q = cc
-      one (Some n) p q = same_number l n p ∙ sym (same_number m n q)
+      one (Some n) p q = eqb-true l n p ∙ sym (eqb-true m n q)
 
   -- two stands of which one is further right are for different streams
   apart : (at later : ℕ) (p q : Stand) (a b : Spot) → StandsFor whole at p a → StandsFor whole later q b → at < later → a.stage ≡ b.stage → a.stream ≡ b.stream → ⊥

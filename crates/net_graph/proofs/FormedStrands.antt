@@ -4,6 +4,7 @@ use Rattle.std.specs.Prelude.{find, unwrap_or}
 use Rattle.std.specs.List.{list_any, range_with_len}
 use Rattle.std.proofs.lemmas.List.FromFn.{length-map-range_with_len}
 use Rattle.std.proofs.lemmas.Option.{slice_get_past}
+use Rattle.std.proofs.lemmas.Bool.{cases_lt}
 use Rattle.pipe_model.specs.declared.kind.Kind.{Kind}
 use Rattle.pipe_model.specs.declared.net.Link.{Link}
 use Rattle.pipe_model.specs.declared.net.Strand.{Strand}
@@ -62,11 +63,8 @@ numbered_flag f from (suc n) (suc i) j below is = numbered_flag f (from + 1) n i
 
 -- the flags of the first places tell of each place, where no place after them passes
 pub flag_is : (f : ℕ → Bool) (n i : ℕ) → (n ≤ i → f i ≡ false) → flag_at (map f (range_with_len 0 n)) i ≡ f i
-flag_is f n i past = go (order i n)
+flag_is f n i past = go (cases_lt i n)
   where
-    order : (a b : ℕ) → (a < b) ⊎ (b ≤ a)
-    order a b = grind arith
-
     go : (i < n) ⊎ (n ≤ i) → flag_at (map f (range_with_len 0 n)) i ≡ f i
     go (inl below) = ap (λ o. unwrap_or o false) (numbered_flag f 0 n i i below (omega arith))
     go (inr above) = ap (λ o. unwrap_or o false) (slice_get_past (map f (range_with_len 0 n)) i (omega (arith, above, length-map-range_with_len f 0 n))) ∙ sym (past above)

@@ -8,6 +8,7 @@ use Rattle.spec_scanner.specs.declared.piece.PieceKind.{PieceKind}
 use Rattle.spec_scanner.specs.declared.piece.PieceKind.TheVariants.{Stage, Reference, Connector}
 use Rattle.pipe_model.specs.declared.net.Net.{Net}
 use Rattle.pipe_model.specs.WellFormed.{IsWellFormed}
+use Rattle.pipe_model.proofs.Lists.{get_seam}
 use Rattle.spec_scanner.specs.declared.piece.Piece.{Piece}
 use Rattle.net_graph.specs.Numbered.{AreScanned}
 use Rattle.net_graph.proofs.Formed.{formed}
@@ -15,7 +16,7 @@ use Rattle.net_graph.specs.Faults.{IsGraph, console_faults, faults_from, faults_
 use Rattle.net_graph.specs.Kept.{kinds_in}
 use Rattle.net_graph.specs.Nets.{AreOutcomes, IsOutcome, net_of}
 use Rattle.net_graph.specs.Stands.{Stand, is_of_stage, is_stage, stages_of, stands_of}
-use Rattle.net_graph.proofs.FormedLists.{get_seam, nothing_joined}
+use Rattle.net_graph.proofs.FormedLists.{nothing_joined}
 
 abbrev pub known : Kind → Result Kind KindFault
 known kind = Ok kind

@@ -5,6 +5,7 @@ use Rattle.std.specs.List.{list_any, position, prefix_len}
 use Rattle.std.proofs.lemmas.Bool.Decides.{nat_tests}
 use Rattle.std.proofs.lemmas.List.{append-nil}
 use Rattle.std.proofs.lemmas.List.Folds.{list_any-append}
+use Rattle.std.proofs.Math.Bool.{or-false}
 use Rattle.pipe_model.specs.declared.kind.Kind.{Kind}
 use Rattle.stage_syntax.specs.declared.fault.KindFault.{KindFault}
 use Rattle.spec_scanner.specs.declared.fault.Fault.{Fault}
@@ -40,10 +41,7 @@ pub record Keeps (search : Search) (earlier : List Stand) : Type 0 where
   pub writes : search.writes ≡ list_any (is_console_of false) earlier
 
 one_more : (test : Stand → Bool) (earlier : List Stand) (s : Stand) → list_any test (earlier ++ s ∷ []) ≡ (list_any test earlier || test s)
-one_more test earlier s = list_any-append test earlier (s ∷ []) ∙ ap (λ (b : Bool). list_any test earlier || b) (or_false (test s)) where
-  or_false : (b : Bool) → (b || false) ≡ b
-  or_false true = refl
-  or_false false = refl
+one_more test earlier s = list_any-append test earlier (s ∷ []) ∙ ap (λ (b : Bool). list_any test earlier || b) (or-false (test s))
 
 prefix_all : (stages : List Stand) → prefix_len (λ (s : Stand). not (is_label None s.piece.label)) stages ≡ length stages
 prefix_all [] = refl

@@ -4,6 +4,9 @@ use Rattle.std.specs.List.{position}
 use Rattle.std.specs.Option.{option_map_or}
 use Rattle.std.proofs.lemmas.Option.{slice_get_cases, slice_get_past, slice_get_read}
 use Rattle.std.proofs.lemmas.List.{get_or_append_left}
+use Rattle.std.proofs.lemmas.Bool.{ne_eqb}
+use Rattle.pipe_model.proofs.Numbers.{equal_or_not, test_same}
+use Rattle.pipe_model.proofs.Lists.{get_seam}
 use Rattle.spec_scanner.specs.declared.piece.Piece.{Piece}
 use Rattle.spec_scanner.specs.declared.piece.PieceKind.{PieceKind}
 use Rattle.spec_scanner.specs.declared.piece.PieceKind.TheVariants.{Stage, Reference, Connector}
@@ -12,7 +15,6 @@ use Rattle.net_graph.specs.Numbered.{AreNumbered, AreScanned, IsNumbered, pieces
 use Rattle.net_graph.specs.Outcomes.{tabled, tabled_one}
 use Rattle.net_graph.specs.Stands.{Stand, is_label, is_of_stage, is_stage, stage_of, stages_of, stands_of}
 use Rattle.net_graph.proofs.FormedLabels.{pieces_are, stages_with, stages_without}
-use Rattle.net_graph.proofs.FormedLists.{equal_or_not, get_seam, test_apart, test_same}
 use Rattle.net_graph.proofs.FormedPositions.{position_new, position_stays, position_still}
 
 pub tabled_both : (table : List ℕ) (before : ℕ) (pieces more : List Piece) → tabled table before (pieces ++ more) ≡ tabled (tabled table before pieces) (counted_all before pieces) more
@@ -73,7 +75,7 @@ module _ (done : List Stand) (table uses : List ℕ) (so_far : IsTable done tabl
         rw same (get_seam table (length (stages_of done)) [] ∙ sym (new_stage is named))
     told_at label (inr apart) =
         get_push_other table (length (stages_of done)) label apart
-        ∙ (so_far.told label ∙ sym (other_stage is label (ap (is_label (Some label)) named ∙ test_apart label (length table) apart)))
+        ∙ (so_far.told label ∙ sym (other_stage is label (ap (is_label (Some label)) named ∙ ne_eqb label (length table) apart)))
 
     told : (label : ℕ) → slice_get (table ++ length (stages_of done) ∷ []) label ≡ stage_of (done ++ s ∷ []) (Some label)
     told label = told_at label (equal_or_not label (length table))

@@ -4,11 +4,11 @@ use Rattle.std.specs.Option.{option_map_or}
 use Rattle.pipe_model.specs.declared.net.Net.{Net}
 use Rattle.pipe_model.specs.declared.net.Strand.{Strand}
 use Rattle.pipe_model.specs.declared.kind.Kind.TheVariants.{ConsoleIn}
+use Rattle.pipe_model.proofs.Numbers.{equal_or_not}
+use Rattle.pipe_model.proofs.Lists.{get_set_same, get_set_other}
 use Rattle.net_graph.specs.Fed.{reader_of, reads_input, with_kind}
 use Rattle.net_graph.proofs.FormedPositions.{position_finds}
 use Rattle.pipe_cli.specs.Built.{AreBuilt, IsBuilt}
-use Rattle.confluence_laws.proofs.Basics.{equal_or_not}
-use Rattle.net_graph.proofs.FormedLists.{get_set_same, get_set_other}
 
 -- the strand that reads is there
 pub reader_at : (net : Net) (s : ℕ) → reader_of net ≡ Some s → (p : Strand) × (slice_get net.strands s ≡ Some p) × (reads_input p.kind ≡ true)

@@ -4,12 +4,13 @@ use Rattle.std.specs.Option.{option_map_or}
 use Rattle.pipe_model.specs.declared.net.Net.{Net}
 use Rattle.pipe_model.specs.declared.kind.Kind.TheVariants.{ConsoleIn}
 use Rattle.pipe_model.specs.declared.step.Entry.{Entry}
-use Rattle.pipe_model.specs.State.{State, nothing_yet}
-use Rattle.pipe_model.specs.Play.{play, step, play_from, IsLegal, IsLegalFrom, IsLicensed, IsComplete}
+use Rattle.pipe_model.specs.State.{nothing_yet}
+use Rattle.pipe_model.specs.Play.{play, IsLegal, IsLicensed, IsComplete}
 use Rattle.pipe_model.specs.Settled.{IsSettled, Meets}
 use Rattle.pipe_model.specs.WellFormed.{IsWellFormed}
 use Rattle.net_graph.specs.Fed.{fed, reader_of, with_kind}
 use Rattle.confluence_laws.proofs.Prefixes.{beginning_of, alike}
+use Rattle.confluence_laws.proofs.Lengths.{legal_last}
 use Rattle.pipe_cli.specs.Built.{AreBuilt}
 use Rattle.pipe_cli.proofs.Feds.{reader_at, fed_built}
 
@@ -25,16 +26,11 @@ built_on net bytes built = go (reader_of net) (λ s is. fed_built net s bytes (r
     go None each = built
     go (Some s) each = each s refl
 
--- an entry more at the end, which is licensed
-legal_more : (net : Net) (st : State) (es : List Entry) (e : Entry) → IsLegalFrom net st es → IsLicensed net (play_from net st es) e → IsLegalFrom net st (es ++ e ∷ [])
-legal_more net st [] e legal may = (may, tt)
-legal_more net st (d ∷ es) e legal may = (legal.0, legal_more net (step net st d) es e legal.1 may)
-
 module _ (net : Net) (formed : IsWellFormed net) (built : AreBuilt net) where
   -- where one can go on, a complete one is longer
   pub goes_further : (es ds : List Entry) (e : Entry) → IsLegal net es → IsComplete net es → IsLegal net ds → IsLicensed net (play net ds) e → length ds < length es
   goes_further es ds e legal complete other may =
-      let longer = (beginning_of net formed (settled_built net built) (ds ++ e ∷ []) es (legal_more net nothing_yet ds e other may) legal complete).0 in
+      let longer = (beginning_of net formed (settled_built net built) (ds ++ e ∷ []) es (legal_last net nothing_yet ds e other may) legal complete).0 in
       let size = length-append ds (e ∷ []) in
       omega (arith, longer, size)
 

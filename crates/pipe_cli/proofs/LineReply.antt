@@ -1,5 +1,6 @@
 -- What a complete journal of a straight line answers.
 use Rattle.std.proofs.Common.{◌≡◌, ◌≢◌, ℕ, suc, ◌+◌, ◌<◌, true, List, [], ◌∷◌, length, refl, ◌∙◌, ap, subst, arith, Some, is_some, pos, append-nil}
+use Rattle.std.proofs.lemmas.Option.{slice_get_within}
 use Rattle.pipe_model.specs.declared.net.Net.{Net}
 use Rattle.pipe_model.specs.declared.net.Strand.{Strand}
 use Rattle.pipe_model.specs.declared.step.Entry.{Entry}
@@ -14,7 +15,8 @@ use Rattle.pipe_model.specs.Alone.{IsPlainReading}
 use Rattle.confluence_laws.proofs.Readings.{plain_reading}
 use Rattle.pipe_model.specs.Reply.{reply, replied, console_from, files_from, code_from, waits_from}
 use Rattle.pipe_model.specs.WellFormed.{IsWellFormed}
-use Rattle.confluence_laws.proofs.Basics.{the_event, at_some, at_place}
+use Rattle.pipe_model.proofs.Lists.{at_some}
+use Rattle.confluence_laws.proofs.Basics.{the_event}
 use Rattle.confluence_laws.proofs.Flow.{IsFlowing, all_flows}
 use Rattle.confluence_laws.proofs.Progress.{has_ended_at, last_took}
 use Rattle.net_graph.specs.Line.{strands_from, line_net}
@@ -67,7 +69,7 @@ module _ (bytes : List ℕ) (strings : List (List ℕ)) (formed : IsWellFormed (
 
     -- every strand has ended
     pub line_ended : HasEnded net (play net es)
-    line_ended s there = let p = the_event (strand_at net (play net es) s) there in ended s (at_place net.strands s p.1)
+    line_ended s there = let p = the_event (strand_at net (play net es) s) there in ended s (slice_get_within net.strands s _ p.1)
 
     -- the last strand kept the text of the lines that hold every string
     pub line_took : text (taken_from 0 (past (play net es) (suc (length strings)))) ≡ text (selected_by strings (lines bytes))

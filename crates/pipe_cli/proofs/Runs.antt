@@ -11,8 +11,8 @@ use Rattle.pipe_model.specs.Table.{form}
 use Rattle.pipe_model.specs.Shape.{Keeping}
 use Rattle.pipe_model.specs.Shape.Keeping.{Nothing, Console, File}
 use Rattle.stage_steps.specs.Coroutine.{kept_by}
-use Rattle.confluence_laws.proofs.Basics.{at_some}
 use Rattle.pipe_model.specs.Form.{is_shown}
+use Rattle.pipe_model.proofs.Lists.{at_some}
 use Rattle.pipe_cli.specs.Built.{keeping_of}
 
 -- the first member that is left

@@ -1,20 +1,23 @@
 -- A strand with a licensed event, where others may be left out: it goes on, and the wants of the others stay.
-use Rattle.std.proofs.Common.{◌≡◌, ◌≢◌, ◌⊎◌, inl, inr, ℕ, ℤ, ◌<◌, Bool, true, false, cond, ◌&&◌, ◌==◌, List, length, refl, sym, ◌∙◌, ap, subst, Option, Some, None}
+use Rattle.std.proofs.Common.{◌≡◌, ◌≢◌, ℕ, ℤ, ◌<◌, Bool, true, false, cond, length, refl, sym, ◌∙◌, ap, Option, Some, None}
+use Rattle.std.proofs.lemmas.Bool.{ne_eqb}
+use Rattle.std.proofs.lemmas.Option.{slice_get_within}
 use Rattle.pipe_model.specs.declared.net.Net.{Net}
 use Rattle.pipe_model.specs.declared.net.Strand.{Strand}
 use Rattle.pipe_model.specs.Event.{Event, Want, answers, has_ended}
-use Rattle.pipe_model.specs.Event.Event.{Up, Saw}
-use Rattle.pipe_model.specs.Event.Want.{Commit, Read, Any, Gate}
-use Rattle.pipe_model.specs.State.{Who, State, past, with_event, strand_at, link_in}
-use Rattle.pipe_model.specs.Licence.{Left, want_after, want_at, at_hand, is_over, all_over, read_answer, any_answer, answer, sight_of, licence}
-use Rattle.confluence_laws.proofs.Basics.{cond_some, test_same, test_apart, at_other, not_ended, at_place}
-use Rattle.confluence_laws.proofs.Owns.{answer_fits, saw_asked, commit_asked}
+use Rattle.pipe_model.specs.Event.Event.{Up}
+use Rattle.pipe_model.specs.Event.Want.{Commit}
+use Rattle.pipe_model.specs.State.{Who, State, past, with_event, strand_at}
+use Rattle.pipe_model.specs.Licence.{Left, want_after, want_at, licence}
+use Rattle.pipe_model.proofs.Numbers.{test_same}
+use Rattle.confluence_laws.proofs.Basics.{at_other, not_ended}
+use Rattle.confluence_laws.proofs.Owns.{commit_asked, answers_it}
 use Rattle.run_desk.specs.Kept.{left_out}
 
 module _ (net : Net) (st : State) (left : Left) (s : Who) (k : ℕ) (e : Event) (may : licence net st left s k ≡ Some e) where
   -- the event answers the want
   pub answered : answers (want_at net st left s) e ≡ true
-  answered = answer_fits (sight_of net st left s) (λ text. refl) k e (want_at net st left s) may
+  answered = answers_it net st left s k e may
 
   -- the strand isn't left out
   pub is_home : left s ≡ false
@@ -38,7 +41,7 @@ module _ (net : Net) (st : State) (left : Left) (s : Who) (k : ℕ) (e : Event) 
 
   -- so its number is one of the net's
   pub has_strand : s < length net.strands
-  has_strand = at_place net.strands s the_strand.1
+  has_strand = slice_get_within net.strands s _ the_strand.1
 
   -- it hasn't ended
   pub goes : has_ended (past st s) ≡ false
@@ -55,36 +58,8 @@ module _ (net : Net) (st : State) (left : Left) (s : Who) (k : ℕ) (e : Event) 
   -- the wants of the others stay
   pub want_other : (u : Who) → u ≢ s → want_at net (with_event st s e) (left_out left s) u ≡ want_at net st left u
   want_other u apart =
-      ap (λ b. cond (cond b true (left u)) None (want_after (strand_at net st u) (past (with_event st s e) u))) (test_apart u s apart)
+      ap (λ b. cond (cond b true (left u)) None (want_after (strand_at net st u) (past (with_event st s e) u))) (ne_eqb u s apart)
       ∙ ap (λ h. cond (left u) None (want_after (strand_at net st u) h)) (at_other st s e u apart)
-
--- a record that is seen is at hand
-pub saw_at_hand : (net : Net) (st : State) (left : Left) (s : Who) (k i : ℕ) (rec : List ℕ) → licence net st left s k ≡ Some (Saw i rec) → at_hand net st left (link_in net st s i) ≡ Some rec
-saw_at_hand net st left s k i rec may = by_look (saw_asked (want_at net st left s) i rec (answered net st left s k (Saw i rec) may))
-  where
-    hand : ℕ → Option (List ℕ)
-    hand j = at_hand net st left (link_in net st s j)
-
-    read : (j : ℕ) (a : Option (List ℕ)) (over : Bool) → read_answer j a over ≡ Some (Saw i rec) → (j ≡ i) × (a ≡ Some rec)
-    read j (Some x) over p = (cc, cc)
-    read j None true p = cc
-    read j None false p = cc
-
-    any : (j : ℕ) (a : Option (List ℕ)) (over : Bool) → any_answer j a over ≡ Some (Saw i rec) → (j ≡ i) × (a ≡ Some rec)
-    any j (Some x) over p = (cc, cc)
-    any j None true p = cc
-    any j None false p = cc
-
-    at : (j : ℕ) → (j ≡ i) × (hand j ≡ Some rec) → hand i ≡ Some rec
-    at j x = subst (λ z. hand z ≡ Some rec) x.0 x.1
-
-    does : (want : Want) → want_at net st left s ≡ Some want → answer (sight_of net st left s) k (Some want) ≡ Some (Saw i rec)
-    does want is = ap (answer (sight_of net st left s) k) (sym is) ∙ may
-
-    by_look : (want_at net st left s ≡ Some (Read i)) ⊎ ((want_at net st left s ≡ Some Any) ⊎ (want_at net st left s ≡ Some Gate)) → hand i ≡ Some rec
-    by_look (inl is) = at i (read i (hand i) (is_over st (link_in net st s i)) (cond_some (k == i) (read_answer i (hand i) (is_over st (link_in net st s i))) (does (Read i) is)).1)
-    by_look (inr (inl is)) = at k (any k (hand k) (k == 0 && all_over net st s) (does Any is))
-    by_look (inr (inr is)) = at k (read k (hand k) (k == 0 && is_over st (link_in net st s k)) (does Gate is))
 
 -- a commit level that is reached was wanted
 pub up_wanted : (net : Net) (st : State) (left : Left) (s : Who) (k : ℕ) (level code : ℤ) → licence net st left s k ≡ Some (Up level code) → want_at net st left s ≡ Some (Commit level)

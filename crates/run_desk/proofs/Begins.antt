@@ -11,7 +11,7 @@ use Rattle.pipe_model.specs.Row.Act.{Writes, Repeats, Takes}
 use Rattle.pipe_model.specs.Row.Goal.{Asks, Ends}
 use Rattle.pipe_model.specs.Table.{form}
 use Rattle.pipe_model.specs.Next.{Phase, Past, want_in, next, hears, refused_after, gives_up, first_phase, is_refused, begins_plan, doing, IsOwn}
-use Rattle.pipe_model.proofs.Pasts.{after, after_answer, when_asked}
+use Rattle.pipe_model.proofs.Pasts.{after, when_asked}
 use Rattle.pipe_model.specs.Next.Phase.{Starting, Doing, Lost}
 use Rattle.confluence_laws.proofs.Fitting.{past_of, still_wants, stands_for}
 

@@ -1,5 +1,5 @@
 -- The desk of a net before the first step stands for the state in which nothing has happened, where every strand is out.
-use Rattle.std.proofs.Common.{◌≡◌, inl, ℕ, zero, suc, ◌≤◌, Bool, true, false, cond, ◌&&◌, not, nat_lt, List, [], length, get_or, replicate, refl, sym, ◌∙◌, ap, subst, arith, Option, Some, None, slice_get}
+use Rattle.std.proofs.Common.{◌≡◌, inl, ℕ, zero, suc, ◌≤◌, Bool, true, false, cond, ◌&&◌, not, nat_lt, List, [], length, replicate, refl, sym, ◌∙◌, ap, subst, arith, Option, Some, None, slice_get}
 use Rattle.std.specs.Prelude.{count_by}
 use Rattle.std.proofs.lemmas.Bool.Decides.{nat_tests}
 use Rattle.std.proofs.lemmas.Option.{slice_get_past}
@@ -9,6 +9,7 @@ use Rattle.pipe_model.specs.declared.net.Link.{Link}
 use Rattle.pipe_model.specs.State.{Who, nothing_yet, strand_at}
 use Rattle.pipe_model.specs.Licence.{want_after, want_at, offered}
 use Rattle.pipe_model.specs.WellFormed.{IsWellFormed}
+use Rattle.pipe_model.proofs.Lists.{get_copy, read_copy}
 use Rattle.record_pool.specs.Places.{bytes_at}
 use Rattle.connectors.specs.WireState.{WireState, new_wire}
 use Rattle.commit_levels.specs.UnitState.{level_count, place_of, new_member, Member}
@@ -22,16 +23,6 @@ use Rattle.run_desk.proofs.Counts.{one, count_first}
 use Rattle.run_desk.proofs.Laying.{leads_in, leads_out, knows_first}
 
 -- Lists
-
-get_copy : {X : Type 0} (n : ℕ) (x y : X) (k : ℕ) → slice_get (replicate n x) k ≡ Some y → y ≡ x
-get_copy zero x y k at = cc
-get_copy (suc n) x y zero at = cc
-get_copy (suc n) x y (suc k) at = get_copy n x y k at
-
-read_copy : {X : Type 0} (n : ℕ) (x : X) (k : ℕ) → get_or (replicate n x) k x ≡ x
-read_copy zero x k = refl
-read_copy (suc n) x zero = refl
-read_copy (suc n) x (suc k) = read_copy n x k
 
 count_copy : {X : Type 0} (p : X → Bool) (n : ℕ) (x : X) → p x ≡ false → count_by p (replicate n x) ≡ 0
 count_copy p zero x is = refl

@@ -1,8 +1,8 @@
 -- What a run keeps suffices for a strand to come home with what it wants.
-use Rattle.std.proofs.Common.{◌≡◌, ◌⊎◌, inl, inr, ℕ, ◌<◌, true, false, cond, not, List, length, refl, sym, ◌∙◌, ap, subst, arith, Option, Some, None, is_some, slice_get, ℤ, pos, negsuc}
+use Rattle.std.proofs.Common.{◌≡◌, inl, inr, ℕ, ◌<◌, true, false, cond, not, List, length, refl, sym, ◌∙◌, ap, arith, Option, Some, None, is_some, slice_get, ℤ}
 use Rattle.std.specs.Prelude.{IsSome}
 use Rattle.std.specs.Option.{option_map}
-use Rattle.std.proofs.lemmas.Grind.{common_steps}
+use Rattle.std.proofs.lemmas.Option.{slice_get_within}
 use Rattle.pipe_model.specs.declared.net.Net.{Net}
 use Rattle.pipe_model.specs.declared.net.Link.{Link}
 use Rattle.pipe_model.specs.declared.net.Strand.{Strand}
@@ -21,11 +21,12 @@ use Rattle.pipe_model.specs.Table.{line_of}
 use Rattle.pipe_model.specs.State.{Who, State, past, strand_at, link_out}
 use Rattle.pipe_model.specs.Licence.{Left, want_after, want_at, offered}
 use Rattle.pipe_model.specs.WellFormed.{IsWellFormed}
+use Rattle.pipe_model.proofs.Truths.{both}
+use Rattle.pipe_model.proofs.Lists.{at_some}
 use Rattle.stage_steps.specs.Coroutine.{last_seen, written, meaning}
 use Rattle.record_pool.specs.declared.pool.Held.{Held}
 use Rattle.record_pool.specs.Places.{bytes_at}
-use Rattle.commit_levels.specs.UnitState.{IsLevel}
-use Rattle.confluence_laws.proofs.Basics.{both, at_some, at_place, from_out}
+use Rattle.confluence_laws.proofs.Basics.{from_out}
 use Rattle.confluence_laws.proofs.Facts.{asking}
 use Rattle.confluence_laws.proofs.Fitting.{past_of, wants_write, stands_for}
 use Rattle.run_desk.specs.declared.seat.Ask.TheVariants as Now
@@ -36,11 +37,7 @@ use Rattle.run_desk.specs.Order.{IsRun}
 use Rattle.run_desk.specs.Moves.{Behind, CanAsk, CanHold, CanCome}
 use Rattle.run_desk.proofs.Begins.{not_reached}
 use Rattle.run_desk.proofs.Conditions.{sight_held, few_held, within, live, not_asked_at, out_linked}
-
--- the levels that strands want are levels
-early_level : (level : ℤ) → (level ≡ negsuc 0) ⊎ (level ≡ pos 0) → IsLevel level
-early_level level (inl is) = subst IsLevel (sym is) (grind (arith, common_steps), grind (arith, common_steps))
-early_level level (inr is) = subst IsLevel (sym is) (grind (arith, common_steps), grind (arith, common_steps))
+use Rattle.run_desk.proofs.Early.{early_level}
 
 -- nothing is offered where no text is
 no_offer : (texts : ℕ → List ℕ) (x : Option ℕ) → option_map texts x ≡ None → x ≡ None
@@ -79,7 +76,7 @@ module _ (net : Net) (st : State) (left : Left) (d : DeskState) (places : List (
     where
       by_link : (k : ℕ) (x : Option Link) → slice_get net.links k ≡ x → is_some x ≡ true → is_some (slice_get d.wires k) ≡ true
       by_link k None at e = cc
-      by_link k (Some link) at e = ap is_some (at_some d.wires k (omega (arith, at_place net.links k at, run.kept.laid.wire_count))).1
+      by_link k (Some link) at e = ap is_some (at_some d.wires k (omega (arith, slice_get_within net.links k _ at, run.kept.laid.wire_count))).1
 
       by_door : (door : Option ℕ) → is_some (link_through net.links door) ≡ true → IsSome (through d.wires door)
       by_door None e = cc

@@ -3,6 +3,7 @@ use Rattle.std.proofs.Common.{◌≡◌, inl, inr, ℕ, ◌+◌, ◌-◌, ◌^�
 use Rattle.std.specs.Prelude.{IsSome}
 use Rattle.std.specs.Option.{option_map}
 use Rattle.std.proofs.lemmas.Bool.Decides.{Decides-int_eq}
+use Rattle.std.proofs.lemmas.Option.{slice_get_within}
 use Rattle.pipe_model.specs.declared.net.Net.{Net}
 use Rattle.pipe_model.specs.declared.net.Link.{Link}
 use Rattle.pipe_model.specs.declared.net.Strand.{Strand}
@@ -13,13 +14,16 @@ use Rattle.pipe_model.specs.Next.{IsOwn}
 use Rattle.pipe_model.specs.State.{Who, State, past, strand_at, link_in, link_out}
 use Rattle.pipe_model.specs.Licence.{Left, want_after, want_at, offered, may_put, may_refuse, commits_to, licence}
 use Rattle.pipe_model.specs.WellFormed.{IsWellFormed}
+use Rattle.pipe_model.proofs.Truths.{cond_some}
+use Rattle.pipe_model.proofs.Numbers.{test_same}
+use Rattle.pipe_model.proofs.Lists.{beside}
 use Rattle.stage_steps.specs.Coroutine.{told}
 use Rattle.record_pool.specs.declared.pool.Held.{Held}
 use Rattle.record_pool.specs.Places.{IsHeld, holders_at, bytes_at}
 use Rattle.connectors.specs.WireState.{WireState, IsPaced, at_hand, IsHeldIn}
 use Rattle.commit_levels.specs.UnitState.{IsLevel, IsLive, IsAt}
 use Rattle.commit_levels.specs.declared.member.Progress.TheVariants.{NotAsked, Asked, Reached}
-use Rattle.confluence_laws.proofs.Basics.{cond_some, at_place, at_some, from_out, test_same}
+use Rattle.confluence_laws.proofs.Basics.{from_out, took_asked, refused_asked, done_asked}
 use Rattle.confluence_laws.proofs.Owns.{commit_asked}
 use Rattle.confluence_laws.proofs.Fitting.{wants_take}
 use Rattle.run_desk.specs.Desk.{DeskState}
@@ -29,11 +33,7 @@ use Rattle.run_desk.specs.Order.{IsRun}
 use Rattle.run_desk.specs.Moves.{hand_on, sight_through, Behind, CanMove}
 use Rattle.run_desk.proofs.Begins.{not_reached}
 use Rattle.run_desk.proofs.Limits.{few_holders, offers_held, sights_held, can_forget}
-use Rattle.run_desk.proofs.Wants.{take_asked, refusal_asked, end_asked, few_tooks, IsWanting, wanting, fits, put_may, refusal_may, put_ahead, refusal_level}
-
--- a list as long as another reaches as far
-beside : {A B : Type 0} (xs : List A) (ys : List B) (k : ℕ) (x : A) → length xs ≡ length ys → slice_get xs k ≡ Some x → (y : B) × (slice_get ys k ≡ Some y)
-beside xs ys k x same at = at_some ys k (omega (arith, same, at_place xs k at))
+use Rattle.run_desk.proofs.Wants.{few_tooks, IsWanting, wanting, fits, put_may, refusal_may, put_ahead, refusal_level}
 
 -- a wire that stands for a link
 pub record IsLinked (net : Net) (st : State) (left : Left) (d : DeskState) (places : List (Option Held)) (there : Option Link) (wire : WireState) : Type 0 where
@@ -84,7 +84,7 @@ module _ (net : Net) (st : State) (left : Left) (d : DeskState) (places : List (
 
   -- a strand of the net is a member of the unit
   pub within : (s : Who) (strand : Strand) → strand_at net st s ≡ Some strand → s < length d.unit
-  within s strand there = omega (arith, at_place net.strands s there, run.kept.member_count)
+  within s strand there = omega (arith, slice_get_within net.strands s _ there, run.kept.member_count)
 
   -- a strand that goes on is a member that has not ended
   pub live : (s : Who) → has_ended (past st s) ≡ false → IsLive d.unit s
@@ -118,7 +118,7 @@ module _ (net : Net) (st : State) (left : Left) (d : DeskState) (places : List (
     can_take short i may = (shown, offer_held (in_door d s i), few_taken)
       where
         w : IsWanting net st left s (Take i)
-        w = wanting net st left s (Take i) (take_asked (want_at net st left s) i (fits net st left s k (Took i) may))
+        w = wanting net st left s (Take i) (took_asked (want_at net st left s) i (fits net st left s k (Took i) may))
 
         shown : Behind (λ wire. IsSome (at_hand wire)) d.wires (in_door d s i)
         shown wire at = run.pacing.shown s i wire w.going (wants_take w.strand (past st s) (own s w.strand w.there) i w.wants) at
@@ -153,7 +153,7 @@ module _ (net : Net) (st : State) (left : Left) (d : DeskState) (places : List (
         offers wire at =
             let l = out_linked s o wire at in
             let is = from_out net formed st s o l.link l.found in
-            let w = refusal_asked (want_at net st left s) o (fits net st left s k (Refused o) may) in
+            let w = refused_asked (want_at net st left s) o (fits net st left s k (Refused o) may) in
             let offered_here : offered l.link.output (want_at net st left l.link.from) ≡ Some w.0 =
             ap (λ z. offered l.link.output (want_at net st left z)) is.0 ∙ ap (offered l.link.output) w.1 ∙ ap (λ z. cond (o == z) (Some w.0) None) is.1 ∙ ap (λ b. cond b (Some w.0) None) (test_same o) in
             there wire.offer w.0 (l.is.offer ∙ offered_here)
@@ -166,7 +166,7 @@ module _ (net : Net) (st : State) (left : Left) (d : DeskState) (places : List (
 
     can_end : (code : ℤ) → licence net st left s k ≡ Some (Ended code) → CanMove d places s (told (Ended code))
     can_end code may =
-        let w = wanting net st left s (Done code) (end_asked (want_at net st left s) code (fits net st left s k (Ended code) may)) in
+        let w = wanting net st left s (Done code) (done_asked (want_at net st left s) code (fits net st left s k (Ended code) may)) in
         (within s w.strand w.there, live s w.going, can_forget d.wires (inputs_of (slice_get d.doors s)) d.sights places run.pooled)
 
     can_look : length net.links < 2147483648 → (i : ℕ) (rec : List ℕ) → CanMove d places s (told (Saw i rec))

@@ -1,5 +1,5 @@
 -- How many offers and sights hold a record, where one of them changes.
-use Rattle.std.proofs.Common.{◌≡◌, ℕ, zero, suc, ◌+◌, Bool, false, cond, List, [], ◌∷◌, ◌++◌, refl, ◌∙◌, ap, arith, Option, Some, None, slice_get, slice_set}
+use Rattle.std.proofs.Common.{◌≡◌, ℕ, zero, suc, ◌+◌, Bool, false, cond, List, [], ◌∷◌, ◌++◌, refl, ◌∙◌, ap, arith, Option, Some, None, slice_get, slice_set, true, ◌<◌}
 use Rattle.std.specs.Prelude.{count_by}
 use Rattle.std.proofs.lemmas.List.Sums.{sum_by-cons, sum_by_push}
 use Rattle.connectors.specs.WireState.{WireState}
@@ -24,6 +24,12 @@ count_first p x xs = sum_by-cons (λ y. one (p y)) x xs
 -- and so does a last one
 pub count_last : {A : Type 0} (p : A → Bool) (xs : List A) (x : A) → count_by p (xs ++ x ∷ []) ≡ count_by p xs + one (p x)
 count_last p xs x = sum_by_push (λ y. one (p y)) xs x
+
+-- where an item passes the test, some do
+pub count_some : {A : Type 0} (p : A → Bool) (xs : List A) (k : ℕ) (x : A) → slice_get xs k ≡ Some x → p x ≡ true → 0 < count_by p xs
+count_some p [] k x at is = cc
+count_some p (z ∷ zs) zero x at is = let same : z ≡ x = cc in omega (arith, count_first p z zs, ap (λ w. one (p w)) same, ap one is)
+count_some p (z ∷ zs) (suc k) x at is = omega (arith, count_first p z zs, count_some p zs k x at is)
 
 -- where one item changes, the count changes by what the old one and the new one count for
 pub count_set : {A : Type 0} (p : A → Bool) (xs : List A) (k : ℕ) (x y : A) → slice_get xs k ≡ Some x →

@@ -1,5 +1,7 @@
 -- A strand wants the commit levels -1 and 0 alone.
-use Rattle.std.proofs.Common.{◌≡◌, ◌⊎◌, Bool, true, false, cond, Option, Some, None, ℤ, pos, negsuc, refl, sym, ◌∙◌, ap}
+use Rattle.std.proofs.Common.{◌≡◌, ◌⊎◌, Bool, true, false, cond, Option, Some, None, ℤ, pos, negsuc, refl, sym, ◌∙◌, ap, inl, inr, subst, arith}
+use Rattle.std.proofs.lemmas.Int.{ints}
+use Rattle.commit_levels.specs.UnitState.{IsLevel}
 use Rattle.pipe_model.specs.declared.net.Net.{Net}
 use Rattle.pipe_model.specs.declared.net.Strand.{Strand}
 use Rattle.pipe_model.specs.Event.{Want}
@@ -25,3 +27,8 @@ wants_early net st left own s level want = by_strand (strand_at net st s) refl
     by_strand None e = let none : None ≡ Some (Commit level) = sym (ap (λ z. want_after z (past st s)) e) ∙ wanted in cc
     by_strand (Some strand) e =
         (stands_for strand (past st s) (own s strand e) (Commit level) (sym (ap (λ z. want_after z (past st s)) e) ∙ wanted)).2
+
+-- which are levels
+pub early_level : (level : ℤ) → (level ≡ negsuc 0) ⊎ (level ≡ pos 0) → IsLevel level
+early_level level (inl is) = subst IsLevel (sym is) (grind (arith, ints), grind (arith, ints))
+early_level level (inr is) = subst IsLevel (sym is) (grind (arith, ints), grind (arith, ints))

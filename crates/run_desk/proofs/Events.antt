@@ -1,10 +1,11 @@
 -- What one event does to counts and facts of a history, and to a want that it answers.
 use Rattle.std.proofs.Common.{◌≡◌, ℕ, Bool, true, false, cond, ◌||◌, ◌==◌, List, ◌∷◌, refl, sym, ◌∙◌, ap, Option, Some, None}
+use Rattle.std.proofs.lemmas.Bool.{eqb-true}
+use Rattle.std.proofs.Math.Bool.{or-false, or-true}
 use Rattle.pipe_model.specs.Event.{Event, Want, answers, is_put, last_seen_on, has_ended, has_seen}
 use Rattle.pipe_model.specs.Event.Event.{Up, Saw, SawEnd, SawAllEnd, Took, Put, Refused, Primed, Opened, Joined, Severed, Ended}
 use Rattle.pipe_model.specs.Event.Want.{Commit, Write}
 use Rattle.pipe_model.specs.Licence.{offered}
-use Rattle.confluence_laws.proofs.Basics.{same_number}
 use Rattle.commit_levels.specs.Licensed.{WantsNoLevel}
 use Rattle.stage_steps.specs.Coroutine.{told}
 use Rattle.run_desk.specs.Moves.{ends, sees}
@@ -35,52 +36,44 @@ pub last_stays : (i : ℕ) (e : Event) (h : List Event) → looks_at i e ≡ fal
 last_stays i (Saw i' rec) h off = ap (λ b. cond b rec (last_seen_on i h)) off
 last_stays i _ h off = refl
 
-or_false : (b : Bool) → (b || false) ≡ b
-or_false true = refl
-or_false false = refl
-
-or_true : (b : Bool) → (b || true) ≡ true
-or_true true = refl
-or_true false = refl
-
 -- a strand has ended where it had, or is told so now
 pub ended_on : (e : Event) (h : List Event) → has_ended (e ∷ h) ≡ (has_ended h || ends (told e))
-ended_on (Up level code) h = sym (or_false (has_ended h))
-ended_on (Saw i rec) h = sym (or_false (has_ended h))
-ended_on (SawEnd i) h = sym (or_false (has_ended h))
-ended_on SawAllEnd h = sym (or_false (has_ended h))
-ended_on (Took i) h = sym (or_false (has_ended h))
-ended_on (Put o rec) h = sym (or_false (has_ended h))
-ended_on (Refused o) h = sym (or_false (has_ended h))
-ended_on (Primed b) h = sym (or_false (has_ended h))
-ended_on (Opened k) h = sym (or_false (has_ended h))
-ended_on (Joined k code) h = sym (or_false (has_ended h))
-ended_on (Severed s) h = sym (or_false (has_ended h))
-ended_on (Ended code) h = sym (or_true (has_ended h))
+ended_on (Up level code) h = sym (or-false (has_ended h))
+ended_on (Saw i rec) h = sym (or-false (has_ended h))
+ended_on (SawEnd i) h = sym (or-false (has_ended h))
+ended_on SawAllEnd h = sym (or-false (has_ended h))
+ended_on (Took i) h = sym (or-false (has_ended h))
+ended_on (Put o rec) h = sym (or-false (has_ended h))
+ended_on (Refused o) h = sym (or-false (has_ended h))
+ended_on (Primed b) h = sym (or-false (has_ended h))
+ended_on (Opened k) h = sym (or-false (has_ended h))
+ended_on (Joined k code) h = sym (or-false (has_ended h))
+ended_on (Severed s) h = sym (or-false (has_ended h))
+ended_on (Ended code) h = sym (or-true (has_ended h))
 
 -- an event that isn't an end ends nothing
 pub ended_stays : (e : Event) (h : List Event) → ends (told e) ≡ false → has_ended (e ∷ h) ≡ has_ended h
-ended_stays e h off = ended_on e h ∙ ap (λ b. has_ended h || b) off ∙ or_false (has_ended h)
+ended_stays e h off = ended_on e h ∙ ap (λ b. has_ended h || b) off ∙ or-false (has_ended h)
 
 -- it has seen a record where it had, or is told of one now
 pub seen_on : (e : Event) (h : List Event) → has_seen (e ∷ h) ≡ (has_seen h || sees (told e))
-seen_on (Up level code) h = sym (or_false (has_seen h))
-seen_on (Saw i rec) h = sym (or_true (has_seen h))
-seen_on (SawEnd i) h = sym (or_false (has_seen h))
-seen_on SawAllEnd h = sym (or_false (has_seen h))
-seen_on (Took i) h = sym (or_false (has_seen h))
-seen_on (Put o rec) h = sym (or_false (has_seen h))
-seen_on (Refused o) h = sym (or_false (has_seen h))
-seen_on (Primed b) h = sym (or_false (has_seen h))
-seen_on (Opened k) h = sym (or_false (has_seen h))
-seen_on (Joined k code) h = sym (or_false (has_seen h))
-seen_on (Severed s) h = sym (or_false (has_seen h))
-seen_on (Ended code) h = sym (or_false (has_seen h))
+seen_on (Up level code) h = sym (or-false (has_seen h))
+seen_on (Saw i rec) h = sym (or-true (has_seen h))
+seen_on (SawEnd i) h = sym (or-false (has_seen h))
+seen_on SawAllEnd h = sym (or-false (has_seen h))
+seen_on (Took i) h = sym (or-false (has_seen h))
+seen_on (Put o rec) h = sym (or-false (has_seen h))
+seen_on (Refused o) h = sym (or-false (has_seen h))
+seen_on (Primed b) h = sym (or-false (has_seen h))
+seen_on (Opened k) h = sym (or-false (has_seen h))
+seen_on (Joined k code) h = sym (or-false (has_seen h))
+seen_on (Severed s) h = sym (or-false (has_seen h))
+seen_on (Ended code) h = sym (or-false (has_seen h))
 
 -- a want that is answered elsewhere than on an output offers nothing there
 pub no_offer : (o : ℕ) (want : Option Want) (e : Event) → answers want e ≡ true → writes_on o e ≡ false → offered o want ≡ None
-no_offer o (Some (Write o' rec)) (Put o'' rec') it off = ap (λ b. cond b (Some rec) None) (sym (ap (λ z. z == o) (same_number o'' o' it)) ∙ off)
-no_offer o (Some (Write o' rec)) (Refused o'') it off = ap (λ b. cond b (Some rec) None) (sym (ap (λ z. z == o) (same_number o'' o' it)) ∙ off)
+no_offer o (Some (Write o' rec)) (Put o'' rec') it off = ap (λ b. cond b (Some rec) None) (sym (ap (λ z. z == o) (eqb-true o'' o' it)) ∙ off)
+no_offer o (Some (Write o' rec)) (Refused o'') it off = ap (λ b. cond b (Some rec) None) (sym (ap (λ z. z == o) (eqb-true o'' o' it)) ∙ off)
 no_offer o (Some (Write o' rec)) _ it off = cc
 no_offer o None e it off = refl
 no_offer o (Some _) e it off = refl

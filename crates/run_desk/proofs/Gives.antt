@@ -3,7 +3,8 @@ use Rattle.std.proofs.Common.{◌≡◌, ◌≢◌, inl, inr, ℕ, ◌+◌, ◌-
 use Rattle.std.specs.Prelude.{IsSome}
 use Rattle.std.specs.Option.{option_map_or}
 use Rattle.std.proofs.lemmas.Bool.Decides.{nat_tests}
-use Rattle.confluence_laws.proofs.Basics.{equal_or_not, test_same, test_apart}
+use Rattle.std.proofs.lemmas.Bool.{ne_eqb}
+use Rattle.pipe_model.proofs.Numbers.{equal_or_not, test_same}
 use Rattle.record_pool.specs.declared.pool.Held.{Held}
 use Rattle.record_pool.specs.Places.{record_at, IsHeld, holders_of, holders_at, bytes_at, with_record, fresh, one_more, one_less, shared, given}
 use Rattle.record_pool.proofs.Places.{record_at-same, record_at-other}
@@ -64,7 +65,7 @@ holders_held places grip some = go (record_at places grip) some
     go (Some held) some = refl
 
 held_same : (grip other : ℕ) → grip ≢ other → hold grip (Some other) ≡ 0
-held_same grip other apart = ap one (test_apart other grip (λ e. apart (sym e)))
+held_same grip other apart = ap one (ne_eqb other grip (λ e. apart (sym e)))
 
 held_here : (grip other : ℕ) → grip ≡ other → hold grip (Some other) ≡ 1
 held_here grip other is = ap (λ z. one (other == z)) is ∙ ap one (test_same other)

@@ -1,7 +1,7 @@
 -- A desk to which a strand came home stands for the same state, with the strand's want.
-use Rattle.std.proofs.Common.{◌≡◌, ◌≢◌, ◌⊎◌, inl, inr, ℕ, Bool, true, false, cond, List, length, refl, sym, ◌∙◌, ap, subst, Option, Some, None, slice_get, slice_set, ℤ, pos, negsuc, arith}
+use Rattle.std.proofs.Common.{◌≡◌, ◌≢◌, inl, inr, ℕ, Bool, true, false, cond, List, length, refl, sym, ◌∙◌, ap, subst, Option, Some, None, slice_get, slice_set, ℤ}
 use Rattle.std.specs.Option.{option_map_or}
-use Rattle.std.proofs.lemmas.Int.{ints}
+use Rattle.std.proofs.lemmas.Bool.{ne_eqb}
 use Rattle.pipe_model.specs.declared.net.Net.{Net}
 use Rattle.pipe_model.specs.declared.net.Link.{Link}
 use Rattle.pipe_model.specs.declared.net.Strand.{Strand}
@@ -15,7 +15,7 @@ use Rattle.pipe_model.specs.Table.{form}
 use Rattle.pipe_model.specs.State.{Who, State, past, strand_at}
 use Rattle.pipe_model.specs.Licence.{Left, want_after, want_at, offered}
 use Rattle.pipe_model.specs.WellFormed.{IsWellFormed}
-use Rattle.confluence_laws.proofs.Basics.{equal_or_not, test_same, test_apart}
+use Rattle.pipe_model.proofs.Numbers.{equal_or_not, test_same}
 use Rattle.commit_levels.specs.UnitState.{Member, IsLevel, place_of, progress_at, asked_by, IsAt}
 use Rattle.commit_levels.specs.UnitState as unit
 use Rattle.commit_levels.specs.declared.member.Progress.TheVariants.{NotAsked, Asked, Reached}
@@ -35,13 +35,13 @@ use Rattle.run_desk.specs.Moves.{placed, changed, offers, asking, unit_home, ask
 use Rattle.run_desk.specs.Moves.{home as coming}
 use Rattle.run_desk.specs.Order.{IsPooled}
 use Rattle.run_desk.proofs.Behind.{as_long, now_behind, none_before, behind_out, door_out}
-use Rattle.run_desk.proofs.Early.{wants_early}
+use Rattle.run_desk.proofs.Early.{wants_early, early_level}
 use Rattle.run_desk.proofs.Offers.{hold_stay, hold_text}
 use Rattle.run_desk.proofs.Texts.{retext}
 
 -- a want for another output offers nothing here
 elsewhere : (o there : ℕ) (rec : List ℕ) → there ≢ o → offered there (Some (Write o rec)) ≡ None
-elsewhere o there rec apart = ap (λ b. cond b (Some rec) None) (test_apart o there (λ e. apart (sym e)))
+elsewhere o there rec apart = ap (λ b. cond b (Some rec) None) (ne_eqb o there (λ e. apart (sym e)))
 
 module _ (net : Net) (texts : ℕ → List ℕ) (st : State) (left : Left) (d : DeskState) (kept : IsKept net texts st left d)
     (s : Who) (strand : Strand) (away : left s ≡ true) (at : strand_at net st s ≡ Some strand) (wanted : Want) (wants : Some wanted ≡ next strand (past st s)) where
@@ -57,7 +57,7 @@ module _ (net : Net) (texts : ℕ → List ℕ) (st : State) (left : Left) (d : 
   want_now = ap (λ b. cond (cond b false (left s)) None (want_after (strand_at net st s) (past st s))) (test_same s) ∙ ap (λ p. want_after p (past st s)) at ∙ sym wants
 
   want_other : (t : Who) → t ≢ s → want_at net st home t ≡ want_at net st left t
-  want_other t apart = ap (λ b. cond (cond b false (left t)) None (want_after (strand_at net st t) (past st t))) (test_apart t s apart)
+  want_other t apart = ap (λ b. cond (cond b false (left t)) None (want_after (strand_at net st t) (past st t))) (ne_eqb t s apart)
 
   -- Wires
 
@@ -216,10 +216,6 @@ asked_is (come.Join unit) sight = refl
 asked_is (come.Cut i) sight = refl
 asked_is (come.Done code) sight = refl
 
-early_level : (level : ℤ) → (level ≡ negsuc 0) ⊎ (level ≡ pos 0) → IsLevel level
-early_level level (inl e) = subst IsLevel (sym e) (grind (arith, ints))
-early_level level (inr e) = subst IsLevel (sym e) (grind (arith, ints))
-
 module _ (net : Net) (st : State) (left : Left) (d new : DeskState) (places after : List (Option Held)) (s : Who) (strand : Strand)
     (formed : IsWellFormed net) (own : (t : Who) (q : Strand) → strand_at net st t ≡ Some q → IsOwn q (past st t))
     (kept : IsKept net (bytes_at places) st left d) (pooled : IsPooled d.wires d.sights places)
@@ -297,7 +293,7 @@ module _ (net : Net) (texts : ℕ → List ℕ) (st : State) (left : Left) (d : 
     | inl e ↦
         let here : want_at net st (left_in left s) s ≡ want_at net st left s = no_want (left_in left s s) ∙ sym (no_want (left s)) in
         subst (λ z. want_at net st (left_in left s) z ≡ want_at net st left z) (sym e) here
-    | inr apart ↦ ap (λ b. cond (cond b false (left t)) None (want_after (strand_at net st t) (past st t))) (test_apart t s apart)
+    | inr apart ↦ ap (λ b. cond (cond b false (left t)) None (want_after (strand_at net st t) (past st t))) (ne_eqb t s apart)
   ]
 
   -- a strand that has ended may come home with no want

@@ -1,5 +1,5 @@
 -- Before the first step the doors of a desk lead to the links of its net.
-use Rattle.std.proofs.Common.{◌≡◌, ◌≢◌, ◌⊎◌, inl, inr, ℕ, zero, suc, ◌+◌, ◌<◌, Bool, true, false, cond, ◌&&◌, ◌==◌, List, [], ◌∷◌, length, replicate, refl, sym, ◌∙◌, ap, subst, arith, Option, Some, None, slice_get, slice_set}
+use Rattle.std.proofs.Common.{◌≡◌, ◌≢◌, ◌⊎◌, inl, inr, ℕ, zero, suc, ◌+◌, ◌<◌, Bool, true, false, cond, ◌&&◌, ◌==◌, List, [], ◌∷◌, length, replicate, refl, sym, ◌∙◌, ap, subst, arith, Option, Some, None, slice_get}
 use Rattle.std.specs.Prelude.{find}
 use Rattle.std.specs.Option.{option_map}
 use Rattle.pipe_model.specs.declared.net.Link.{Link}
@@ -8,64 +8,27 @@ use Rattle.pipe_model.specs.declared.net.Net.{Net}
 use Rattle.pipe_model.specs.State.{same, nothing_yet, link_in, link_out}
 use Rattle.pipe_model.specs.Licence.{part_down, first_part}
 use Rattle.pipe_model.specs.WellFormed.{IsWellFormed}
+use Rattle.pipe_model.proofs.Truths.{both}
+use Rattle.pipe_model.proofs.Numbers.{equal_or_not, test_same}
+use Rattle.pipe_model.proofs.Lists.{at_some}
 use Rattle.std.proofs.lemmas.List.{length-replicate}
-use Rattle.confluence_laws.proofs.Basics.{both, same_number, equal_or_not, test_same, at_some}
+use Rattle.std.proofs.lemmas.Bool.{eqb-true}
 use Rattle.run_desk.specs.Desk.{DoorsState}
 use Rattle.run_desk.specs.Pure.{joined, inputs_of, outputs_of, first_of}
 use Rattle.run_desk.specs.Kept.{link_through}
-use Rattle.run_desk.specs.Moves.{placed, changed}
+use Rattle.run_desk.specs.Moves.{changed}
 use Rattle.run_desk.specs.Blank.{closed_doors, doors_from, led_in, led_out, with_link, with_links}
+use Rattle.run_desk.proofs.Lists.{changed_here, changed_there, changed_length}
 
 -- Lists
-
-set_here : {A : Type 0} (xs : List A) (k : ℕ) (x y : A) → slice_get xs k ≡ Some x → slice_get (slice_set xs k y) k ≡ Some y
-set_here [] k x y at = cc
-set_here (z ∷ zs) zero x y at = refl
-set_here (z ∷ zs) (suc k) x y at = set_here zs k x y at
-
-set_there : {A : Type 0} (xs : List A) (k j : ℕ) (y : A) → j ≢ k → slice_get (slice_set xs k y) j ≡ slice_get xs j
-set_there [] k j y apart = refl
-set_there (z ∷ zs) zero zero y apart = absurd (apart refl)
-set_there (z ∷ zs) zero (suc j) y apart = refl
-set_there (z ∷ zs) (suc k) zero y apart = refl
-set_there (z ∷ zs) (suc k) (suc j) y apart = set_there zs k j y (λ e. apart (ap suc e))
-
-set_length : {A : Type 0} (xs : List A) (k : ℕ) (y : A) → length (slice_set xs k y) ≡ length xs
-set_length [] k y = refl
-set_length (z ∷ zs) zero y = refl
-set_length (z ∷ zs) (suc k) y = ap suc (set_length zs k y)
-
--- the item behind a door is changed
-pub changed_here : {A : Type 0} (f : A → A) (xs : List A) (k : ℕ) → slice_get (changed xs f (Some k)) k ≡ option_map f (slice_get xs k)
-changed_here {A} f xs k = go (slice_get xs k) refl
-  where
-    go : (x : Option A) → slice_get xs k ≡ x → slice_get (placed xs k f x) k ≡ option_map f x
-    go None at = at
-    go (Some x) at = set_here xs k x (f x) at
-
--- and no other one
-pub changed_there : {A : Type 0} (f : A → A) (xs : List A) (k s : ℕ) → s ≢ k → slice_get (changed xs f (Some k)) s ≡ slice_get xs s
-changed_there {A} f xs k s apart = go (slice_get xs k)
-  where
-    go : (x : Option A) → slice_get (placed xs k f x) s ≡ slice_get xs s
-    go None = refl
-    go (Some x) = set_there xs k s (f x) apart
-
--- and the list stays as long
-pub changed_length : {A : Type 0} (f : A → A) (xs : List A) (k : ℕ) → length (changed xs f (Some k)) ≡ length xs
-changed_length {A} f xs k = go (slice_get xs k)
-  where
-    go : (x : Option A) → length (placed xs k f x) ≡ length xs
-    go None = refl
-    go (Some x) = set_length xs k (f x)
 
 -- what a change doesn't show stays
 stays : {A B : Type 0} (g : Option A → B) (f : A → A) → ((x : Option A) → g (option_map f x) ≡ g x) → (xs : List A) (k s : ℕ) → g (slice_get (changed xs f (Some k)) s) ≡ g (slice_get xs s)
 stays {A} {B} g f hidden xs k s = go (equal_or_not s k)
   where
     go : (s ≡ k) ⊎ (s ≢ k) → g (slice_get (changed xs f (Some k)) s) ≡ g (slice_get xs s)
-    go (inl is) = let P : ℕ → Type 0 = λ z. g (slice_get (changed xs f (Some k)) z) ≡ g (slice_get xs z) in subst P (sym is) (ap g (changed_here f xs k) ∙ hidden (slice_get xs k))
-    go (inr apart) = ap g (changed_there f xs k s apart)
+    go (inl is) = let P : ℕ → Type 0 = λ z. g (slice_get (changed xs f (Some k)) z) ≡ g (slice_get xs z) in subst P (sym is) (ap g (changed_here xs f k) ∙ hidden (slice_get xs k))
+    go (inr apart) = ap g (changed_there xs f k s apart)
 
 -- One link
 
@@ -97,19 +60,19 @@ module _ (doors : List DoorsState) (j : ℕ) (link : Link) where
 
   in_here : ins (with_link doors j link) link.to ≡ changed (ins doors link.to) (λ door. Some j) (Some link.input)
   in_here =
-      ap inputs_of (changed_here (led_in link.input j) between link.to) ∙ in_led link.input j (slice_get between link.to)
+      ap inputs_of (changed_here between (led_in link.input j) link.to) ∙ in_led link.input j (slice_get between link.to)
       ∙ ap (λ xs. changed xs (λ door. Some j) (Some link.input)) (stays inputs_of (led_out link.output j) (in_hidden link.output j) doors link.from link.to)
 
   in_there : (s : ℕ) → s ≢ link.to → ins (with_link doors j link) s ≡ ins doors s
-  in_there s apart = ap inputs_of (changed_there (led_in link.input j) between link.to s apart) ∙ stays inputs_of (led_out link.output j) (in_hidden link.output j) doors link.from s
+  in_there s apart = ap inputs_of (changed_there between (led_in link.input j) link.to s apart) ∙ stays inputs_of (led_out link.output j) (in_hidden link.output j) doors link.from s
 
   out_here : outs (with_link doors j link) link.from ≡ changed (outs doors link.from) (λ door. Some j) (Some link.output)
   out_here =
       stays outputs_of (led_in link.input j) (out_hidden link.input j) between link.to link.from
-      ∙ ap outputs_of (changed_here (led_out link.output j) doors link.from) ∙ out_led link.output j (slice_get doors link.from)
+      ∙ ap outputs_of (changed_here doors (led_out link.output j) link.from) ∙ out_led link.output j (slice_get doors link.from)
 
   out_there : (s : ℕ) → s ≢ link.from → outs (with_link doors j link) s ≡ outs doors s
-  out_there s apart = stays outputs_of (led_in link.input j) (out_hidden link.input j) between link.to s ∙ ap outputs_of (changed_there (led_out link.output j) doors link.from s apart)
+  out_there s apart = stays outputs_of (led_in link.input j) (out_hidden link.input j) between link.to s ∙ ap outputs_of (changed_there doors (led_out link.output j) link.from s apart)
 
   first_there : (s : ℕ) → first_of s (slice_get (with_link doors j link) s) ≡ first_of s (slice_get doors s)
   first_there s = stays (first_of s) (led_in link.input j) in_first between link.to s ∙ stays (first_of s) (led_out link.output j) out_first doors link.from s
@@ -137,7 +100,7 @@ module _ (lists : List DoorsState → ℕ → List (Option ℕ)) (end place : Li
       go : (s ≡ end link) ⊎ (s ≢ end link) → length (lists (with_link doors j link) s) ≡ length (lists doors s)
       go (inl is) =
           let P : ℕ → Type 0 = λ z. length (lists (with_link doors j link) z) ≡ length (lists doors z) in
-          subst P (sym is) (ap length (here doors j link) ∙ changed_length (λ door. Some j) (lists doors (end link)) (place link))
+          subst P (sym is) (ap length (here doors j link) ∙ changed_length (lists doors (end link)) (λ door. Some j) (Some (place link)))
       go (inr apart) = ap length (there doors j link s apart)
 
   long_links : (doors : List DoorsState) (j : ℕ) (links : List Link) (s : ℕ) → length (lists (with_links doors j links) s) ≡ length (lists doors s)
@@ -148,7 +111,7 @@ module _ (lists : List DoorsState → ℕ → List (Option ℕ)) (end place : Li
   leads_here doors j link fits =
       let old = at_some (lists doors (end link)) (place link) fits in
       ap (λ xs. joined (slice_get xs (place link))) (here doors j link)
-      ∙ ap joined (changed_here (λ door. Some j) (lists doors (end link)) (place link) ∙ ap (option_map (λ door. Some j)) old.1)
+      ∙ ap joined (changed_here (lists doors (end link)) (λ door. Some j) (place link) ∙ ap (option_map (λ door. Some j)) old.1)
 
   leads_on : (doors : List DoorsState) (j : ℕ) (link : Link) (s i : ℕ) → is_at s i link ≡ false → joined (slice_get (lists (with_link doors j link) s) i) ≡ joined (slice_get (lists doors s) i)
   leads_on doors j link s i other = go (equal_or_not s (end link)) (equal_or_not i (place link))
@@ -159,7 +122,7 @@ module _ (lists : List DoorsState → ℕ → List (Option ℕ)) (end place : Li
           absurd (let z : true ≡ false = sym it ∙ other in cc)
       go (inl is) (inr apart) =
           let P : ℕ → Type 0 = λ z. joined (slice_get (lists (with_link doors j link) z) i) ≡ joined (slice_get (lists doors z) i) in
-          subst P (sym is) (ap (λ xs. joined (slice_get xs i)) (here doors j link) ∙ ap joined (changed_there (λ door. Some j) (lists doors (end link)) (place link) i apart))
+          subst P (sym is) (ap (λ xs. joined (slice_get xs i)) (here doors j link) ∙ ap joined (changed_there (lists doors (end link)) (λ door. Some j) (place link) i apart))
       go (inr apart) which = ap (λ xs. joined (slice_get xs i)) (there doors j link s apart)
 
   -- a door leads to the link that is found there
@@ -179,7 +142,7 @@ module _ (lists : List DoorsState → ℕ → List (Option ℕ)) (end place : Li
           let fit : place link < length (lists old (end link)) = omega (arith, fits 0 link refl, long_links doors (suc j) links (end link)) in
           let P : ℕ → Type 0 = λ z. joined (slice_get (lists (with_link old j link) z) i) ≡ Some j in
           let Q : ℕ → Type 0 = λ z. joined (slice_get (lists (with_link old j link) (end link)) z) ≡ Some j in
-          subst P (same_number (end link) s t.0) (subst Q (same_number (place link) i t.1) (leads_here old j link fit))
+          subst P (eqb-true (end link) s t.0) (subst Q (eqb-true (place link) i t.1) (leads_here old j link fit))
 
       go : (b : Bool) → is_at s i link ≡ b → find (is_at s i) links ≡ link_through whole (joined (slice_get (lists old s) i)) →
           cond (is_at s i link) (Some link) (find (is_at s i) links) ≡ link_through whole (joined (slice_get (lists (with_link old j link) s) i))

@@ -1,22 +1,16 @@
 -- What the desk holds is held in the pool, by no more holders than a record can count.
-use Rattle.std.proofs.Common.{◌≡◌, ℕ, zero, suc, ◌+◌, ◌≤◌, ◌<◌, Bool, true, false, cond, ◌==◌, List, [], ◌∷◌, length, refl, ◌∙◌, ap, arith, Option, Some, None, slice_get}
+use Rattle.std.proofs.Common.{◌≡◌, ℕ, ◌+◌, ◌≤◌, ◌<◌, Bool, true, false, cond, ◌==◌, List, [], ◌∷◌, length, refl, ◌∙◌, ap, arith, Option, Some, None, slice_get}
 use Rattle.std.specs.Prelude.{count_by}
 use Rattle.std.proofs.lemmas.List.Sums.{count_by-le-length}
+use Rattle.pipe_model.proofs.Numbers.{test_same}
 use Rattle.record_pool.specs.declared.pool.Held.{Held}
 use Rattle.record_pool.specs.Places.{holders_at}
 use Rattle.connectors.specs.WireState.{WireState, IsHeldIn, given_in}
-use Rattle.confluence_laws.proofs.Basics.{test_same}
 use Rattle.run_desk.specs.Pure.{joined, through}
 use Rattle.run_desk.specs.Order.{holds, offer_holds, IsPooled}
 use Rattle.run_desk.specs.Moves.{changed, hand_on, sight_through, unseen, CanForget}
-use Rattle.run_desk.proofs.Counts.{one, count_first, count_unseen}
+use Rattle.run_desk.proofs.Counts.{count_unseen, count_some}
 use Rattle.run_desk.proofs.Pooled.{held_by, pooled_given}
-
--- where an item passes the test, some do
-pub count_some : {A : Type 0} (p : A → Bool) (xs : List A) (k : ℕ) (x : A) → slice_get xs k ≡ Some x → p x ≡ true → 0 < count_by p xs
-count_some p [] k x at is = cc
-count_some p (z ∷ zs) zero x at is = let same : z ≡ x = cc in omega (arith, count_first p z zs, ap (λ w. one (p w)) same, ap one is)
-count_some p (z ∷ zs) (suc k) x at is = omega (arith, count_first p z zs, count_some p zs k x at is)
 
 -- a record has no more holders than there are wires and sights
 pub few_holders : (wires : List WireState) (sights : List (Option ℕ)) (places : List (Option Held)) → IsPooled wires sights places → (grip : ℕ) → holders_at places grip ≤ length wires + length sights

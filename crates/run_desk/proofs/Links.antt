@@ -1,5 +1,6 @@
 -- The wires of a desk after a turn stand for their links.
 use Rattle.std.proofs.Common.{◌≡◌, ◌≢◌, inl, inr, ℕ, ℤ, suc, ◌+◌, Bool, true, false, cond, ◌&&◌, ◌==◌, List, ◌∷◌, refl, sym, ◌∙◌, ap, subst, arith, Option, Some, None, slice_get}
+use Rattle.std.proofs.lemmas.Bool.{eqb-true, ne_eqb}
 use Rattle.pipe_model.specs.declared.net.Net.{Net}
 use Rattle.pipe_model.specs.declared.net.Link.{Link}
 use Rattle.pipe_model.specs.Event.{Event, is_put, is_took, one_more, puts_on, tooks_on, has_ended}
@@ -7,7 +8,9 @@ use Rattle.pipe_model.specs.Event.Event.{Up, Saw, SawEnd, SawAllEnd, Took, Put, 
 use Rattle.pipe_model.specs.State.{Who, State, past, same, with_event}
 use Rattle.pipe_model.specs.Licence.{Left, want_at, offered, licence}
 use Rattle.pipe_model.specs.WellFormed.{IsWellFormed}
-use Rattle.confluence_laws.proofs.Basics.{both, same_number, equal_or_not, test_same, test_apart, at_same, at_other}
+use Rattle.pipe_model.proofs.Truths.{both}
+use Rattle.pipe_model.proofs.Numbers.{equal_or_not, test_same}
+use Rattle.confluence_laws.proofs.Basics.{at_same, at_other}
 use Rattle.stage_steps.specs.Coroutine.{told}
 use Rattle.connectors.specs.WireState.{WireState, taken, settled, cleared}
 use Rattle.run_desk.specs.Desk.{DeskState}
@@ -95,7 +98,7 @@ module _ (net : Net) (texts : ℕ → List ℕ) (st : State) (left : Left) (s : 
     | inl it ↦
         ap (λ z. cond (same z s) true b) it ∙ ap (λ c. cond c true b) (test_same s)
         ∙ sym (ap (λ z. has_ended (past now z)) it ∙ ap has_ended (at_same st s e) ∙ ap (λ x. has_ended (x ∷ past st s)) is)
-    | inr other ↦ ap (λ c. cond c true b) (test_apart u s other) ∙ before ∙ ap has_ended (sym (at_other st s e u other))
+    | inr other ↦ ap (λ c. cond c true b) (ne_eqb u s other) ∙ before ∙ ap has_ended (sym (at_other st s e u other))
   ]
 
   -- the ends of a wire that the strand holds are closed when it ends
@@ -124,7 +127,7 @@ module _ (net : Net) (texts : ℕ → List ℕ) (st : State) (left : Left) (s : 
         wire = kept.wires j l before.0 at before.1
 
         by : (b : Bool) → b ≡ (same l.from s && (l.output == o)) → IsWire net texts now out l (cond b (f before.0) before.0)
-        by true is = let m = both (same l.from s) (l.output == o) (sym is) in move l before.0 (same_number l.output o m.1) (same_number l.from s m.0) wire
+        by true is = let m = both (same l.from s) (l.output == o) (sym is) in move l before.0 (eqb-true l.output o m.1) (eqb-true l.from s m.0) wire
         by false is = keep l before.0 apart wire
           where
             apart : l.from ≡ s → l.output ≢ o
@@ -144,7 +147,7 @@ module _ (net : Net) (texts : ℕ → List ℕ) (st : State) (left : Left) (s : 
         wire = kept.wires j l before.0 at before.1
 
         by : (b : Bool) → b ≡ (same l.to s && (l.input == i)) → IsWire net texts now out l (cond b (f before.0) before.0)
-        by true is = let m = both (same l.to s) (l.input == i) (sym is) in move l before.0 (same_number l.input i m.1) (same_number l.to s m.0) wire
+        by true is = let m = both (same l.to s) (l.input == i) (sym is) in move l before.0 (eqb-true l.input i m.1) (eqb-true l.to s m.0) wire
         by false is = keep l before.0 apart wire
           where
             apart : l.to ≡ s → l.input ≢ i
@@ -193,15 +196,15 @@ module _ (net : Net) (texts : ℕ → List ℕ) (st : State) (left : Left) (s : 
         by : (f : Event) → e ≡ f → slice_get (moved d s (told f)).wires j ≡ Some w → IsWire net texts now out l w
         by (Put o rec) is got = at_output o settled
             (λ m x a b. put_wire m x rec (is ∙ ap (λ z. Put z rec) (sym a)) b)
-            (λ m x a wire. still m x wire (ap (λ z. ends (told z)) is) (λ z. ap (writes_on m.output) is ∙ test_apart o m.output (λ q. a z (sym q))) (λ z. ap (is_took m.input) is))
+            (λ m x a wire. still m x wire (ap (λ z. ends (told z)) is) (λ z. ap (writes_on m.output) is ∙ ne_eqb o m.output (λ q. a z (sym q))) (λ z. ap (is_took m.input) is))
             j l w at got
         by (Refused o) is got = at_output o cleared
             (λ m x a b. refused_wire m x (is ∙ ap Refused (sym a)) b)
-            (λ m x a wire. still m x wire (ap (λ z. ends (told z)) is) (λ z. ap (writes_on m.output) is ∙ test_apart o m.output (λ q. a z (sym q))) (λ z. ap (is_took m.input) is))
+            (λ m x a wire. still m x wire (ap (λ z. ends (told z)) is) (λ z. ap (writes_on m.output) is ∙ ne_eqb o m.output (λ q. a z (sym q))) (λ z. ap (is_took m.input) is))
             j l w at got
         by (Took i) is got = at_input i taken
             (λ m x a b. took_wire m x (is ∙ ap Took (sym a)) b)
-            (λ m x a wire. still m x wire (ap (λ z. ends (told z)) is) (λ z. ap (writes_on m.output) is) (λ z. ap (is_took m.input) is ∙ test_apart i m.input (λ q. a z (sym q))))
+            (λ m x a wire. still m x wire (ap (λ z. ends (told z)) is) (λ z. ap (writes_on m.output) is) (λ z. ap (is_took m.input) is ∙ ne_eqb i m.input (λ q. a z (sym q))))
             j l w at got
         by (Ended code) is got = at_end code is j l w at got
         by (Up level code) is got = alone (Up level code) is refl (λ o. refl) (λ i. refl) got

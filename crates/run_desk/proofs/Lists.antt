@@ -1,26 +1,13 @@
 -- Lists in which what is behind a door is changed.
-use Rattle.std.proofs.Common.{◌≡◌, ◌≢◌, ◌⊎◌, inl, inr, ℕ, zero, suc, Bool, true, false, cond, ◌||◌, ◌==◌, List, [], ◌∷◌, length, refl, sym, ◌∙◌, ap, Option, Some, None, slice_get, slice_set, length-set}
+use Rattle.std.proofs.Common.{◌≡◌, ◌≢◌, ◌⊎◌, inl, inr, ℕ, zero, suc, Bool, true, false, cond, ◌||◌, ◌==◌, List, [], ◌∷◌, length, refl, sym, ◌∙◌, ap, Option, Some, None, slice_get, length-set}
+use Rattle.std.proofs.lemmas.Bool.{ne_eqb}
 use Rattle.std.specs.Option.{option_map}
-use Rattle.confluence_laws.proofs.Basics.{equal_or_not, test_same, test_apart, or_second}
+use Rattle.pipe_model.proofs.Truths.{or_second}
+use Rattle.pipe_model.proofs.Numbers.{equal_or_not, test_same}
+use Rattle.pipe_model.proofs.Lists.{get_set_same, get_set_other}
 use Rattle.connectors.specs.WireState.{WireState}
 use Rattle.run_desk.specs.Moves.{placed, changed, all_changed, unseen, sights_without}
 use Rattle.run_desk.specs.Pure.{joined}
-
--- A write
-
--- the place that was written holds what was written
-pub get_set_same : {A : Type 0} (xs : List A) (k : ℕ) (x y : A) → slice_get xs k ≡ Some y → slice_get (slice_set xs k x) k ≡ Some x
-get_set_same [] k x y at = cc
-get_set_same (z ∷ zs) zero x y at = refl
-get_set_same (z ∷ zs) (suc k) x y at = get_set_same zs k x y at
-
--- each other place holds what it held
-pub get_set_other : {A : Type 0} (xs : List A) (k j : ℕ) (x : A) → j ≢ k → slice_get (slice_set xs k x) j ≡ slice_get xs j
-get_set_other [] k j x apart = refl
-get_set_other (y ∷ ys) zero zero x apart = absurd (apart refl)
-get_set_other (y ∷ ys) zero (suc j) x apart = refl
-get_set_other (y ∷ ys) (suc k) zero x apart = refl
-get_set_other (y ∷ ys) (suc k) (suc j) x apart = get_set_other ys k j x (λ e. apart (ap suc e))
 
 -- Options
 
@@ -69,7 +56,7 @@ changed_at {A} xs f (Some k) j = by (equal_or_not j k)
     by (inl e) = ap (slice_get (changed xs f (Some k))) e ∙ here ∙ ap (λ (z : ℕ). option_map (λ x. cond (k == z) (f x) x) (slice_get xs z)) (sym e)
     by (inr apart) =
         changed_there xs f k j apart ∙ sym (map_same (slice_get xs j))
-        ∙ ap (λ (b : Bool). option_map (λ x. cond b (f x) x) (slice_get xs j)) (sym (test_apart k j (λ e. apart (sym e))))
+        ∙ ap (λ (b : Bool). option_map (λ x. cond b (f x) x) (slice_get xs j)) (sym (ne_eqb k j (λ e. apart (sym e))))
 
 -- as many items as before
 pub changed_length : {A : Type 0} (xs : List A) (f : A → A) (door : Option ℕ) → length (changed xs f door) ≡ length xs

@@ -1,5 +1,6 @@
 -- A desk after a turn stands for the state after the event, with the strand out.
 use Rattle.std.proofs.Common.{◌≡◌, ◌≢◌, inl, inr, ℕ, ℤ, ◌<◌, Bool, true, false, ◌||◌, ◌==◌, List, [], length, refl, sym, ◌∙◌, ap, subst, Option, Some, None, slice_get}
+use Rattle.std.proofs.lemmas.Bool.{eqb-true}
 use Rattle.std.specs.Option.{option_map}
 use Rattle.pipe_model.specs.declared.net.Net.{Net}
 use Rattle.pipe_model.specs.declared.step.Seen.{Seen}
@@ -10,7 +11,10 @@ use Rattle.pipe_model.specs.Event.Want.{Commit}
 use Rattle.pipe_model.specs.State.{Who, State, past, with_event, link_in}
 use Rattle.pipe_model.specs.Licence.{Left, want_at, at_hand, licence}
 use Rattle.pipe_model.specs.WellFormed.{IsWellFormed}
-use Rattle.confluence_laws.proofs.Basics.{equal_or_not, same_number, at_same, at_other, at_some}
+use Rattle.pipe_model.proofs.Numbers.{equal_or_not}
+use Rattle.pipe_model.proofs.Lists.{at_some}
+use Rattle.confluence_laws.proofs.Basics.{at_same, at_other}
+use Rattle.confluence_laws.proofs.Reached.{saw_it}
 use Rattle.commit_levels.specs.UnitState.{IsLevel, place_of}
 use Rattle.commit_levels.specs.UnitState as units
 use Rattle.commit_levels.specs.declared.member.Progress.TheVariants.{Reached}
@@ -23,7 +27,7 @@ use Rattle.run_desk.specs.Kept.{asked, left_out, IsSeat, link_through, IsLaid, I
 use Rattle.run_desk.specs.Moves.{changed, all_changed, out_shut, in_shut, hand_on, sights_seen, ends, sees, seat_after, moved, made}
 use Rattle.run_desk.proofs.Lists.{changed_here, changed_there, changed_length, all_changed_length, sights_without_length, map_back}
 use Rattle.run_desk.proofs.Events.{looks_at, last_stays, ended_on, seen_on}
-use Rattle.run_desk.proofs.Acts.{has_strand, want_here, want_other, saw_at_hand}
+use Rattle.run_desk.proofs.Acts.{has_strand, want_here, want_other}
 use Rattle.run_desk.proofs.Links.{wires_made}
 use Rattle.run_desk.proofs.Shown.{sights_made}
 use Rattle.run_desk.proofs.Members.{unit_length, members_made}
@@ -163,8 +167,8 @@ module _ (net : Net) (texts : ℕ → List ℕ) (st : State) (left : Left) (d : 
       looked : (i' : ℕ) (rec : List ℕ) → e ≡ Saw i' rec → link_in net st s i ≡ None → (b : Bool) → (i' == i) ≡ b → (i' == i) ≡ false
       looked i' rec is none false test = test
       looked i' rec is none true test =
-          let hand : at_hand net st left (link_in net st s i') ≡ Some rec = saw_at_hand net st left s k i' rec (may ∙ ap Some is) in
-          let no : None ≡ Some rec = ap (at_hand net st left) (sym none) ∙ ap (λ z. at_hand net st left (link_in net st s z)) (sym (same_number i' i test)) ∙ hand in
+          let hand : at_hand net st left (link_in net st s i') ≡ Some rec = saw_it net st left s k i' rec (may ∙ ap Some is) in
+          let no : None ≡ Some rec = ap (at_hand net st left) (sym none) ∙ ap (λ z. at_hand net st left (link_in net st s z)) (sym (eqb-true i' i test)) ∙ hand in
           cc
 
       not_there : (f : Event) → e ≡ f → link_in net st s i ≡ None → looks_at i f ≡ false

@@ -8,7 +8,9 @@ use Rattle.pipe_model.specs.Event.Event.{Up, Saw, SawEnd, SawAllEnd, Took, Put, 
 use Rattle.pipe_model.specs.Event.Want.{Commit}
 use Rattle.pipe_model.specs.State.{Who, State, past, with_event}
 use Rattle.pipe_model.specs.Licence.{Left, want_at, licence}
-use Rattle.confluence_laws.proofs.Basics.{equal_or_not, at_same, at_other}
+use Rattle.pipe_model.proofs.Numbers.{equal_or_not}
+use Rattle.pipe_model.proofs.Lists.{get_set_same, get_set_other}
+use Rattle.confluence_laws.proofs.Basics.{at_same, at_other}
 use Rattle.stage_steps.specs.Coroutine.{told}
 use Rattle.commit_levels.specs.declared.member.Progress.TheVariants.{NotAsked, Asked, Reached}
 use Rattle.commit_levels.specs.UnitState.{Member, IsLevel, place_of}
@@ -18,7 +20,6 @@ use Rattle.commit_levels.proofs.Agreement.{reaches_as, ends_as}
 use Rattle.run_desk.specs.Desk.{DeskState}
 use Rattle.run_desk.specs.Kept.{IsKept, left_out}
 use Rattle.run_desk.specs.Moves.{moved}
-use Rattle.run_desk.proofs.Lists.{get_set_same, get_set_other}
 use Rattle.run_desk.proofs.Events.{rises, no_level}
 use Rattle.run_desk.proofs.Acts.{answered, want_here, want_other, up_wanted}
 

@@ -8,8 +8,9 @@ use Rattle.pipe_model.specs.declared.step.Out.TheVariants.{Same, Fresh}
 use Rattle.pipe_model.specs.Event.{has_ended, last_seen_on}
 use Rattle.pipe_model.specs.State.{Who, State, past, link_in}
 use Rattle.pipe_model.specs.Licence.{Left}
+use Rattle.pipe_model.proofs.Numbers.{equal_or_not}
+use Rattle.pipe_model.proofs.Lists.{beside}
 use Rattle.stage_steps.specs.Coroutine.{written, last_seen}
-use Rattle.confluence_laws.proofs.Basics.{equal_or_not}
 use Rattle.record_pool.specs.declared.pool.Held.{Held}
 use Rattle.record_pool.specs.Places.{record_at, bytes_at, holders_of, fresh, one_more}
 use Rattle.record_pool.proofs.Places.{changed_here, others_stay}
@@ -18,7 +19,7 @@ use Rattle.run_desk.specs.Pure as Pure
 use Rattle.run_desk.specs.Kept.{link_through, IsKept}
 use Rattle.run_desk.specs.Moves.{sight_through, IsFresh, IsShare, IsHold}
 use Rattle.run_desk.specs.Order.{holds_of, IsPooled}
-use Rattle.run_desk.proofs.Behind.{both_have, behind_in}
+use Rattle.run_desk.proofs.Behind.{behind_in}
 
 -- the bytes of a place's record
 abbrev bytes_of : Option Held → List ℕ
@@ -45,10 +46,10 @@ module _ (net : Net) (texts : ℕ → List ℕ) (st : State) (left : Left) (d : 
           by_link : (y : Option Link) → slice_get net.links j ≡ y → slice_get net.links j ≡ None
           by_link None at = at
           by_link (Some link) at =
-              let r = both_have net.links d.sights j link (sym kept.laid.sight_count) at in
+              let r = beside net.links d.sights j link (sym kept.laid.sight_count) at in
               let no : None ≡ Some r.0 = sym e ∙ r.1 in cc
       by_sight j door (Some sight) e =
-          let r = both_have d.sights net.links j sight kept.laid.sight_count e in
+          let r = beside d.sights net.links j sight kept.laid.sight_count e in
           let m = behind_in net st d kept.laid s i j r.0 door r.1 in
           let text : option_map_or texts sight [] ≡ last_seen_on r.0.input (past st r.0.to) = kept.sights j r.0 sight r.1 e (ap (λ t. has_ended (past st t)) m.0 ∙ going) in
           text ∙ ap (λ t. last_seen_on r.0.input (past st t)) m.0 ∙ ap (λ k. last_seen_on k (past st s)) m.1

@@ -1,8 +1,8 @@
 -- The pace of the wires is kept by a turn and by a strand that comes home.
-use Rattle.std.proofs.Common.{◌≡◌, ◌≢◌, ◌⊎◌, inl, inr, ℕ, ◌+◌, ◌<◌, Bool, true, false, cond, ◌&&◌, not, ◌==◌, nat_lt, ℤ, List, [], ◌∷◌, refl, sym, ◌∙◌, ap, subst, arith, Option, Some, None, is_some, slice_get}
+use Rattle.std.proofs.Common.{◌≡◌, ◌≢◌, ◌⊎◌, inl, inr, ℕ, ◌+◌, ◌<◌, Bool, true, false, cond, ◌&&◌, not, ◌==◌, ℤ, List, [], ◌∷◌, refl, sym, ◌∙◌, ap, subst, arith, Option, Some, None, is_some, slice_get}
 use Rattle.std.specs.Prelude.{IsSome}
 use Rattle.std.specs.Option.{option_map}
-use Rattle.std.proofs.lemmas.Bool.Decides.{nat_tests}
+use Rattle.std.proofs.lemmas.Bool.{eqb-true, ltb-true}
 use Rattle.pipe_model.specs.declared.net.Net.{Net}
 use Rattle.pipe_model.specs.declared.net.Strand.{Strand}
 use Rattle.pipe_model.specs.declared.step.Want.{Want as Coming}
@@ -15,8 +15,11 @@ use Rattle.pipe_model.specs.Next.{IsOwn}
 use Rattle.pipe_model.specs.State.{Who, State, past, strand_at, with_event}
 use Rattle.pipe_model.specs.Licence.{Left, want_after, want_at, licence, sight_of}
 use Rattle.pipe_model.specs.WellFormed.{IsWellFormed}
+use Rattle.pipe_model.proofs.Truths.{both}
+use Rattle.pipe_model.proofs.Numbers.{equal_or_not, test_same}
+use Rattle.pipe_model.proofs.Lists.{beside}
 use Rattle.stage_steps.specs.Coroutine.{told}
-use Rattle.confluence_laws.proofs.Basics.{both, same_number, equal_or_not, test_same, at_same, at_other, not_ended}
+use Rattle.confluence_laws.proofs.Basics.{at_same, at_other, not_ended, took_asked}
 use Rattle.confluence_laws.proofs.Owns.{answer_fits, sight_before}
 use Rattle.confluence_laws.proofs.Fitting.{wants_take}
 use Rattle.record_pool.specs.declared.pool.Held.{Held}
@@ -27,7 +30,7 @@ use Rattle.run_desk.specs.Pure as Pure
 use Rattle.run_desk.specs.Kept.{IsKept}
 use Rattle.run_desk.specs.Moves.{changed, all_changed, in_shut, out_shut, made, offers, home, home_writing, ask_for, CanAsk, CanCome, HasCome}
 use Rattle.run_desk.specs.Order.{IsPacing}
-use Rattle.run_desk.proofs.Behind.{both_have, now_behind, behind_in}
+use Rattle.run_desk.proofs.Behind.{now_behind, behind_in}
 use Rattle.run_desk.proofs.Sees.{seen_is}
 use Rattle.run_desk.proofs.Tells.{Fact, tells}
 
@@ -65,19 +68,10 @@ hand_is : (wire : WireState) → IsSome (at_hand wire) → (wire.puts ≡ wire.t
 hand_is wire hand = go (wire.puts == wire.tooks) refl hand
   where
     go : (b : Bool) → (wire.puts == wire.tooks) ≡ b → IsSome (cond b wire.offer None) → (wire.puts ≡ wire.tooks) × IsSome wire.offer
-    go true e p = (same_number _ _ e, p)
+    go true e p = (eqb-true _ _ e, p)
     go false e p = cc
 
-less_is : (a b : ℕ) → nat_lt a b ≡ true → a < b
-less_is a b p = grind (arith, nat_tests)
-
 -- A turn
-
--- who takes a record has asked to
-took_asked : (want : Option Want) (i : ℕ) → answers want (Took i) ≡ true → want ≡ Some (Take i)
-took_asked (Some (Take j)) i p = ap (λ z. Some (Take z)) (sym (same_number i j p))
-took_asked None i p = cc
-took_asked (Some _) i p = cc
 
 module _ (net : Net) (texts : ℕ → List ℕ) (st : State) (left : Left) (d : DeskState) (s : Who) (k : ℕ) (formed : IsWellFormed net)
     (own : (t : Who) (q : Strand) → strand_at net st t ≡ Some q → IsOwn q (past st t)) (kept : IsKept net texts st left d) (pacing : IsPacing st d) where
@@ -115,7 +109,7 @@ module _ (net : Net) (texts : ℕ → List ℕ) (st : State) (left : Left) (d : 
   -- a wire behind two doors is behind one
   one_door : (t u : Who) (i m j : ℕ) (wire : WireState) → slice_get d.wires j ≡ Some wire → Pure.in_door d t i ≡ Some j → Pure.in_door d u m ≡ Some j → (t ≡ u) × (i ≡ m)
   one_door t u i m j wire at door other =
-      let link = both_have d.wires net.links j wire kept.laid.wire_count at in
+      let link = beside d.wires net.links j wire kept.laid.wire_count at in
       let a = behind_in net st d kept.laid t i j link.0 door link.1 in
       let b = behind_in net st d kept.laid u m j link.0 other link.1 in
       (sym a.0 ∙ b.0, sym a.1 ∙ b.1)
@@ -214,7 +208,7 @@ module _ (net : Net) (texts : ℕ → List ℕ) (st : State) (left : Left) (d : 
   pacing_put o rec may = with_wires (with_event st s (Put o rec)) (made d s (Told.Put o)) (changed d.wires settled (Pure.out_door d s o)) refl refl paced shown
     where
       was_taken : (j : ℕ) (wire : WireState) → Pure.out_door d s o ≡ Some j → slice_get d.wires j ≡ Some wire → wire.puts < wire.tooks
-      was_taken j wire door at = less_is wire.puts wire.tooks (sym (ap Pure.can_put (ap (Pure.through d.wires) door ∙ at)) ∙ told_is (Put o rec) may)
+      was_taken j wire door at = ltb-true wire.puts wire.tooks (sym (ap Pure.can_put (ap (Pure.through d.wires) door ∙ at)) ∙ told_is (Put o rec) may)
 
       level : (wire : WireState) → wire.puts < wire.tooks → IsPaced wire.offer wire.puts wire.tooks → IsPaced (settled wire).offer (settled wire).puts (settled wire).tooks
       level wire less (inl e) = absurd (omega (arith, less, e))
@@ -248,7 +242,7 @@ module _ (net : Net) (texts : ℕ → List ℕ) (st : State) (left : Left) (d : 
       paced j wire at = elim (now_behind d.wires cleared (Pure.out_door d s o) j wire at) [
         | inl before ↦ pacing.paced j wire before.0
         | inr now ↦
-            let even : now.0.puts ≡ now.0.tooks = same_number _ _ (was_shut j now.0 now.3 now.1).1 in
+            let even : now.0.puts ≡ now.0.tooks = eqb-true _ _ (was_shut j now.0 now.3 now.1).1 in
             let here : IsPaced (cleared now.0).offer (cleared now.0).puts (cleared now.0).tooks = inl (sym even) in
             subst (λ z. IsPaced z.offer z.puts z.tooks) (sym now.2) here
       ]
@@ -258,7 +252,7 @@ module _ (net : Net) (texts : ℕ → List ℕ) (st : State) (left : Left) (d : 
       shown t m j wire going sight door at = elim (now_behind d.wires cleared (Pure.out_door d s o) j wire at) [
         | inl before ↦ was_shown t m j wire (went (Refused o) may t going) (saw_before (Refused o) may (λ z rec. λ q. cc) t m sight) door before.0
         | inr now ↦
-            let link = both_have d.wires net.links j now.0 kept.laid.wire_count now.1 in
+            let link = beside d.wires net.links j now.0 kept.laid.wire_count now.1 in
             let to = (behind_in net st d kept.laid t m j link.0 door link.1).0 in
             let shut : has_ended (past st link.0.to) ≡ true = sym (kept.wires j link.0 now.0 link.1 now.1).in_closed ∙ (was_shut j now.0 now.3 now.1).0 in
             let no : true ≡ false = sym shut ∙ ap (λ z. has_ended (past st z)) to ∙ went (Refused o) may t going in cc

@@ -2,7 +2,9 @@
 use Rattle.std.proofs.Common.{◌≡◌, ℕ, zero, suc, Bool, true, false, cond, ◌&&◌, ◌||◌, not, ◌==◌, List, [], ◌∷◌, length, refl, sym, ◌∙◌, ap, subst, arith, Option, Some, None, is_some, slice_get, ℤ, nat_lt}
 use Rattle.std.specs.Option.{option_map}
 use Rattle.std.specs.List.{list_all}
+use Rattle.std.specs.Cmp.{both_ways}
 use Rattle.std.proofs.lemmas.Grind.{common_steps}
+use Rattle.std.proofs.lemmas.Bool.{eqb-true}
 use Rattle.pipe_model.specs.declared.net.Net.{Net}
 use Rattle.pipe_model.specs.declared.net.Link.{Link}
 use Rattle.pipe_model.specs.declared.step.Seen.{Seen}
@@ -13,7 +15,9 @@ use Rattle.pipe_model.specs.Event.Want.{Commit, Read, Any, Gate, Take, Write, Pr
 use Rattle.pipe_model.specs.State.{Who, State, past, same, link_in, link_out}
 use Rattle.pipe_model.specs.Licence.{Left, want_after, want_at, puts, tooks, is_level, out_closed, in_closed, offered, at_hand, is_over, all_over, may_put, may_refuse, level_of, first_part, primed_by, up_answer, read_answer, any_answer, write_answer, primed_answer, answer, sight_of, licence}
 use Rattle.pipe_model.specs.WellFormed.{IsWellFormed}
-use Rattle.confluence_laws.proofs.Basics.{both, same_number, test_same, found_at, finds, all_at}
+use Rattle.pipe_model.proofs.Truths.{both}
+use Rattle.pipe_model.proofs.Numbers.{test_same}
+use Rattle.pipe_model.proofs.Lists.{found_at, finds, all_at, beside, all_from}
 use Rattle.commit_levels.specs.UnitState.{IsLevel}
 use Rattle.commit_levels.specs.UnitState as levels
 use Rattle.commit_levels.proofs.Agreement.{answers_by_number}
@@ -33,23 +37,6 @@ ends_too [] (y ∷ ys) k n e = absurd (omega (arith, n))
 ends_too (x ∷ xs) [] k n e = absurd (omega (arith, n))
 ends_too (x ∷ xs) (y ∷ ys) zero n e = cc
 ends_too (x ∷ xs) (y ∷ ys) (suc k) n e = ends_too xs ys k (omega (arith, n)) e
-
--- and where one has something, the other has too
-beside : {A B : Type 0} (xs : List A) (ys : List B) (j : ℕ) (x : A) → length xs ≡ length ys → slice_get xs j ≡ Some x → (y : B) × (slice_get ys j ≡ Some y)
-beside [] ys j x n at = cc
-beside (z ∷ zs) [] j x n at = absurd (omega (arith, n))
-beside (z ∷ zs) (y ∷ ys) zero x n at = (y, refl)
-beside (z ∷ zs) (y ∷ ys) (suc j) x n at = beside zs ys j x (omega (arith, n)) at
-
-all_from : {A : Type 0} (p : A → Bool) (xs : List A) → ((j : ℕ) (x : A) → slice_get xs j ≡ Some x → p x ≡ true) → list_all p xs ≡ true
-all_from p [] f = refl
-all_from p (x ∷ xs) f = ap (λ b. b && list_all p xs) (f 0 x refl) ∙ all_from p xs (λ j y e. f (suc j) y e)
-
--- two tests that hold where the other does are one
-pub same_bool : (a b : Bool) → (a ≡ true → b ≡ true) → (b ≡ true → a ≡ true) → a ≡ b
-same_bool true b f g = sym (f refl)
-same_bool false true f g = g refl
-same_bool false false f g = refl
 
 joined_some : (x : Option (Option ℕ)) (j : ℕ) → Pure.joined x ≡ Some j → x ≡ Some (Some j)
 joined_some None j e = cc
@@ -183,7 +170,7 @@ module _ (net : Net) (texts : ℕ → List ℕ) (st : State) (left : Left) (d : 
   -- All inputs
 
   all_over_is : (s : Who) → Pure.all_over d s ≡ all_over net st s
-  all_over_is s = same_bool (Pure.all_over d s) (all_over net st s) there back
+  all_over_is s = both_ways (Pure.all_over d s) (all_over net st s) there back
     where
       doors : List (Option ℕ)
       doors = Pure.inputs_of (slice_get d.doors s)
@@ -204,7 +191,7 @@ module _ (net : Net) (texts : ℕ → List ℕ) (st : State) (left : Left) (d : 
               let m = finds (λ k. same k.to s && (k.input == l.input)) net.links j at own in
               let n = found_at (λ k. same k.to s && (k.input == l.input)) net.links m.1 in
               let u = both (same m.0.to s) (m.0.input == l.input) n.0 in
-              let place : n.1.0 ≡ j = formed.one_in n.1.0 j m.0 l n.1.1 at (same_number _ _ u.0 ∙ sym (same_number _ _ e)) (same_number _ _ u.1) in
+              let place : n.1.0 ≡ j = formed.one_in n.1.0 j m.0 l n.1.1 at (eqb-true _ _ u.0 ∙ sym (eqb-true _ _ e)) (eqb-true _ _ u.1) in
               let one : Some m.0 ≡ Some l = sym n.1.1 ∙ ap (slice_get net.links) place ∙ at in
               let found : link_in net st s l.input ≡ Some l = m.1 ∙ one in
               by_door (Pure.in_door d s l.input) refl found

@@ -1,5 +1,7 @@
 -- The sights of a desk after a turn hold what was seen last.
 use Rattle.std.proofs.Common.{◌≡◌, ◌≢◌, ◌⊎◌, inl, inr, ℕ, ℤ, ◌<◌, Bool, true, false, cond, ◌&&◌, ◌==◌, List, ◌∷◌, refl, sym, ◌∙◌, ap, subst, Option, Some, None, slice_get}
+use Rattle.std.proofs.lemmas.Bool.{eqb-true, ne_eqb}
+use Rattle.std.proofs.lemmas.Option.{slice_get_within}
 use Rattle.pipe_model.specs.declared.net.Net.{Net}
 use Rattle.pipe_model.specs.declared.net.Link.{Link}
 use Rattle.pipe_model.specs.Event.{Event, records_on, last_seen_on, has_ended}
@@ -7,7 +9,11 @@ use Rattle.pipe_model.specs.Event.Event.{Up, Saw, SawEnd, SawAllEnd, Took, Put, 
 use Rattle.pipe_model.specs.State.{Who, State, past, same, with_event, link_in}
 use Rattle.pipe_model.specs.Licence.{Left, want_at, offered, is_level, puts, tooks, at_hand, licence}
 use Rattle.pipe_model.specs.WellFormed.{IsWellFormed}
-use Rattle.confluence_laws.proofs.Basics.{cond_some, both, same_number, equal_or_not, test_same, test_apart, at_same, at_other, at_place, at_some}
+use Rattle.pipe_model.proofs.Truths.{cond_some, both}
+use Rattle.pipe_model.proofs.Numbers.{equal_or_not, test_same}
+use Rattle.pipe_model.proofs.Lists.{at_some}
+use Rattle.confluence_laws.proofs.Basics.{at_same, at_other}
+use Rattle.confluence_laws.proofs.Reached.{saw_it}
 use Rattle.stage_steps.specs.Coroutine.{told}
 use Rattle.connectors.specs.WireState.{WireState}
 use Rattle.run_desk.specs.Desk.{DeskState}
@@ -17,7 +23,6 @@ use Rattle.run_desk.specs.Moves.{hand_on, sights_seen, sights_without, ends, mov
 use Rattle.run_desk.proofs.Lists.{leads, leads_any, changed_back, sights_without_back, map_back}
 use Rattle.run_desk.proofs.Leads.{in_leads, inputs_lead}
 use Rattle.run_desk.proofs.Events.{looks_at, last_stays, ended_stays}
-use Rattle.run_desk.proofs.Acts.{saw_at_hand}
 
 -- the record at hand on a wire is the one that is at hand on its link
 pub hand_of : (net : Net) (texts : ℕ → List ℕ) (st : State) (left : Left) (l : Link) (w : WireState) (rec : List ℕ) → IsWire net texts st left l w → l.queue ≡ false →
@@ -38,7 +43,7 @@ module _ (net : Net) (texts : ℕ → List ℕ) (st : State) (left : Left) (d : 
       by_link : (j : ℕ) (l : Option Link) → slice_get net.links j ≡ l → at_hand net st left l ≡ Some rec → (grip : ℕ) × (hand_on (slice_get d.wires j) ≡ Some grip) × (texts grip ≡ rec)
       by_link j None at shown = cc
       by_link j (Some l) at shown =
-          let w = at_some d.wires j (subst (λ n. j < n) (sym kept.laid.wire_count) (at_place net.links j at)) in
+          let w = at_some d.wires j (subst (λ n. j < n) (sym kept.laid.wire_count) (slice_get_within net.links j _ at)) in
           let h = hand_of net texts st left l w.0 rec (kept.wires j l w.0 at w.1) (kept.laid.rendezvous j l at) shown in
           (h.0, ap hand_on w.1 ∙ h.1, h.2)
 
@@ -73,7 +78,7 @@ module _ (net : Net) (texts : ℕ → List ℕ) (st : State) (left : Left) (s : 
     at_look i rec is j l sight at got = subst (IsSight texts now l) (sym before.2) (by (leads j (in_door d s i)) (in_leads net formed st d kept.laid s i j l at))
       where
         hand : (grip : ℕ) × (hand_on (wire_in d s i) ≡ Some grip) × (texts grip ≡ rec)
-        hand = shows_it net texts st left d kept s i rec (saw_at_hand net st left s k i rec (may ∙ ap Some is))
+        hand = shows_it net texts st left d kept s i rec (saw_it net st left s k i rec (may ∙ ap Some is))
 
         before : (x : Option ℕ) × (slice_get d.sights j ≡ Some x) × (sight ≡ cond (leads j (in_door d s i)) (Some hand.0) x)
         before = changed_back d.sights (λ x. Some hand.0) (in_door d s i) j sight (ap (λ z. slice_get (sights_seen d.sights (in_door d s i) z) j) (sym hand.1) ∙ got)
@@ -81,9 +86,9 @@ module _ (net : Net) (texts : ℕ → List ℕ) (st : State) (left : Left) (s : 
         by : (b : Bool) → b ≡ (same l.to s && (l.input == i)) → IsSight texts now l (cond b (Some hand.0) before.0)
         by true test going =
             let m = both (same l.to s) (l.input == i) (sym test) in
-            hand.2 ∙ sym (ap (λ z. last_seen_on l.input (past now z)) (same_number l.to s m.0) ∙ ap (last_seen_on l.input) (at_same st s e) ∙ ap (λ x. last_seen_on l.input (x ∷ past st s)) is
-            ∙ ap (λ b. cond b rec (last_seen_on l.input (past st s))) (ap (λ z. i == z) (same_number l.input i m.1) ∙ test_same i))
-        by false test going = still l before.0 (kept.sights j l before.0 at before.1) (λ it. (ap (λ x. ends (told x)) is, ap (looks_at l.input) is ∙ test_apart i l.input (λ q. apart it (sym q)))) going
+            hand.2 ∙ sym (ap (λ z. last_seen_on l.input (past now z)) (eqb-true l.to s m.0) ∙ ap (last_seen_on l.input) (at_same st s e) ∙ ap (λ x. last_seen_on l.input (x ∷ past st s)) is
+            ∙ ap (λ b. cond b rec (last_seen_on l.input (past st s))) (ap (λ z. i == z) (eqb-true l.input i m.1) ∙ test_same i))
+        by false test going = still l before.0 (kept.sights j l before.0 at before.1) (λ it. (ap (λ x. ends (told x)) is, ap (looks_at l.input) is ∙ ne_eqb i l.input (λ q. apart it (sym q)))) going
           where
             apart : l.to ≡ s → l.input ≢ i
             apart p q = let no : false ≡ true = test ∙ ap (λ z. same z s && (l.input == i)) p ∙ ap (λ b. b && (l.input == i)) (test_same s) ∙ ap (λ z. z == i) q ∙ test_same i in cc
@@ -102,7 +107,7 @@ module _ (net : Net) (texts : ℕ → List ℕ) (st : State) (left : Left) (s : 
         by : (l.to ≡ s) ⊎ (l.to ≢ s) → IsSight texts now l sight
         by (inl it) going = let no : true ≡ false = sym (ap (λ z. has_ended (past now z)) it ∙ ap has_ended (at_same st s e) ∙ ap (λ x. has_ended (x ∷ past st s)) is) ∙ going in cc
         by (inr other) going =
-            let off : leads_any j doors ≡ false = inputs_lead net formed st d kept.laid s j l at ∙ test_apart l.to s other in
+            let off : leads_any j doors ≡ false = inputs_lead net formed st d kept.laid s j l at ∙ ne_eqb l.to s other in
             subst (IsSight texts now l) (sym (before.2 ∙ ap (λ b. cond b None before.0) off)) (still l before.0 (kept.sights j l before.0 at before.1) (λ it. absurd (other it))) going
 
     -- each sight is what its link's consumer saw last

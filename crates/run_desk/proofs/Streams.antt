@@ -1,24 +1,21 @@
 -- On which streams a strand may go on.
-use Rattle.std.proofs.Common.{◌≡◌, ◌≢◌, ◌⊎◌, inl, inr, ℕ, zero, suc, ◌+◌, ◌≤◌, ◌<◌, true, false, ◌&&◌, ◌==◌, List, [], ◌∷◌, length, refl, ◌∙◌, ap, arith, None, slice_get}
-use Rattle.confluence_laws.proofs.Basics.{equal_or_not, test_apart}
+use Rattle.std.proofs.Common.{◌≡◌, ◌≢◌, ◌⊎◌, inl, inr, ℕ, ◌+◌, ◌≤◌, ◌<◌, true, false, ◌&&◌, ◌==◌, length, ◌∙◌, ap, arith, None, slice_get}
+use Rattle.std.proofs.lemmas.Bool.{ne_eqb, cases_lt}
+use Rattle.std.proofs.lemmas.Option.{slice_get_past}
+use Rattle.pipe_model.proofs.Numbers.{equal_or_not}
 use Rattle.run_desk.specs.declared.seat.Ask.{Ask}
 use Rattle.run_desk.specs.declared.seat.Ask.TheVariants as Now
 use Rattle.run_desk.specs.Desk.{DeskState}
 use Rattle.run_desk.specs.Pure as Pure
 
-beyond : {A : Type 0} (xs : List A) (j : ℕ) → length xs ≤ j → slice_get xs j ≡ None
-beyond [] j p = refl
-beyond (x ∷ xs) zero p = absurd (omega arith)
-beyond (x ∷ xs) (suc j) p = beyond xs j (omega (arith, p))
-
 -- a strand that asks for any goes on on none behind its inputs
 past_inputs : (d : DeskState) (s j : ℕ) (a : Ask) → Pure.is_wide a ≡ true → j ≢ 0 → length (Pure.inputs_of (slice_get d.doors s)) ≤ j → Pure.seen_by d s j a ≡ None
 past_inputs d s j Now.Any w p m =
-    ap (λ z. Pure.any_seen j (Pure.shows (Pure.through d.wires (Pure.joined z))) ((j == 0) && Pure.all_over d s)) (beyond (Pure.inputs_of (slice_get d.doors s)) j m)
-    ∙ ap (λ z. Pure.any_seen j false (z && Pure.all_over d s)) (test_apart j 0 p)
+    ap (λ z. Pure.any_seen j (Pure.shows (Pure.through d.wires (Pure.joined z))) ((j == 0) && Pure.all_over d s)) (slice_get_past (Pure.inputs_of (slice_get d.doors s)) j m)
+    ∙ ap (λ z. Pure.any_seen j false (z && Pure.all_over d s)) (ne_eqb j 0 p)
 past_inputs d s j Now.Gate w p m =
-    ap (λ z. Pure.read_seen j (Pure.shows (Pure.through d.wires (Pure.joined z))) ((j == 0) && Pure.is_over (Pure.through d.wires (Pure.joined z)))) (beyond (Pure.inputs_of (slice_get d.doors s)) j m)
-    ∙ ap (λ z. Pure.read_seen j false (z && true)) (test_apart j 0 p)
+    ap (λ z. Pure.read_seen j (Pure.shows (Pure.through d.wires (Pure.joined z))) ((j == 0) && Pure.is_over (Pure.through d.wires (Pure.joined z)))) (slice_get_past (Pure.inputs_of (slice_get d.doors s)) j m)
+    ∙ ap (λ z. Pure.read_seen j false (z && true)) (ne_eqb j 0 p)
 past_inputs d s j Now.Nothing w p m = cc
 past_inputs d s j (Now.Commit l) w p m = cc
 past_inputs d s j (Now.Read i) w p m = cc
@@ -31,11 +28,8 @@ past_inputs d s j (Now.Cut i) w p m = cc
 past_inputs d s j (Now.Done c) w p m = cc
 
 pub wide_none : (d : DeskState) (s k : ℕ) → Pure.is_wide (Pure.ask_at d s) ≡ true → 0 < k → length (Pure.inputs_of (slice_get d.doors s)) ≤ k → ((j : ℕ) → j < k → Pure.seen_at d s j ≡ None) → (j : ℕ) → Pure.seen_at d s j ≡ None
-wide_none d s k wide some all before j = go (less_or_not j k)
+wide_none d s k wide some all before j = go (cases_lt j k)
   where
-    less_or_not : (a b : ℕ) → (a < b) ⊎ (b ≤ a)
-    less_or_not a b = grind arith
-
     go : (j < k) ⊎ (k ≤ j) → Pure.seen_at d s j ≡ None
     go (inl p) = before j p
     go (inr p) = past_inputs d s j (Pure.ask_at d s) wide (λ z. absurd (omega (arith, z, some, p))) (omega (arith, all, p))

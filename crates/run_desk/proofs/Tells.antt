@@ -3,7 +3,7 @@ use Rattle.std.proofs.Common.{◌≡◌, ℕ, Bool, true, false, ◌&&◌, ◌==
 use Rattle.pipe_model.specs.declared.step.Seen.{Seen}
 use Rattle.pipe_model.specs.declared.step.Seen.TheVariants as Told
 use Rattle.pipe_model.specs.State.{Who}
-use Rattle.confluence_laws.proofs.Basics.{cond_some}
+use Rattle.pipe_model.proofs.Truths.{cond_some}
 use Rattle.run_desk.specs.declared.seat.Ask.{Ask}
 use Rattle.run_desk.specs.declared.seat.Ask.TheVariants as Now
 use Rattle.run_desk.specs.Desk.{DeskState}

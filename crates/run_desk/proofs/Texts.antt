@@ -1,37 +1,27 @@
 -- A desk speaks only of the records that its offers and sights hold.
-use Rattle.std.proofs.Common.{◌≡◌, ℕ, zero, suc, ◌<◌, Bool, true, cond, List, [], ◌∷◌, refl, ◌∙◌, ap, arith, Option, Some, None, slice_get}
-use Rattle.std.specs.Prelude.{count_by}
+use Rattle.std.proofs.Common.{◌≡◌, ℕ, ◌<◌, List, [], refl, ◌∙◌, ap, arith, Option, Some, None, slice_get}
 use Rattle.std.specs.Option.{option_map, option_map_or}
-use Rattle.std.proofs.lemmas.List.Sums.{sum_by-cons}
 use Rattle.pipe_model.specs.declared.net.Net.{Net}
 use Rattle.pipe_model.specs.declared.net.Link.{Link}
 use Rattle.pipe_model.specs.State.{State}
 use Rattle.pipe_model.specs.Licence.{Left}
+use Rattle.pipe_model.proofs.Numbers.{test_same}
 use Rattle.connectors.specs.WireState.{WireState}
 use Rattle.run_desk.specs.Desk.{DeskState}
 use Rattle.run_desk.specs.Kept.{IsWire, IsKept}
 use Rattle.run_desk.specs.Order.{holds, offer_holds, holds_of}
-use Rattle.confluence_laws.proofs.Basics.{test_same}
-
--- where one item passes, more than none do
-counted_in : {A : Type 0} (p : A → Bool) (xs : List A) (j : ℕ) (x : A) → slice_get xs j ≡ Some x → p x ≡ true → 0 < count_by p xs
-counted_in p [] j x at is = cc
-counted_in p (y ∷ ys) zero x at is =
-    let same : y ≡ x = cc in
-    let one : ◌≡◌ {A = ℕ} (cond (p y) 1 0) 1 = ap {B = ℕ} (λ z. cond (p z) 1 0) same ∙ ap {B = ℕ} (λ b. cond b 1 0) is in
-    omega (arith, one, sum_by-cons (λ z. cond (p z) 1 0) y ys)
-counted_in p (y ∷ ys) (suc j) x at is = omega (arith, counted_in p ys j x at is, sum_by-cons (λ z. cond (p z) 1 0) y ys)
+use Rattle.run_desk.proofs.Counts.{count_some}
 
 -- what an offer holds is held
 pub offer_held : (wires : List WireState) (sights : List (Option ℕ)) (j grip : ℕ) (wire : WireState) → slice_get wires j ≡ Some wire → wire.offer ≡ Some grip → 0 < holds_of wires sights grip
 offer_held wires sights j grip wire at is =
-    let counted = counted_in (offer_holds grip) wires j wire at (ap (holds grip) is ∙ test_same grip) in
+    let counted = count_some (offer_holds grip) wires j wire at (ap (holds grip) is ∙ test_same grip) in
     omega (arith, counted)
 
 -- and so is what a sight holds
 pub sight_held : (wires : List WireState) (sights : List (Option ℕ)) (j grip : ℕ) → slice_get sights j ≡ Some (Some grip) → 0 < holds_of wires sights grip
 sight_held wires sights j grip at =
-    let counted = counted_in (holds grip) sights j (Some grip) at (test_same grip) in
+    let counted = count_some (holds grip) sights j (Some grip) at (test_same grip) in
     omega (arith, counted)
 
 same_text : (texts texts' : ℕ → List ℕ) (x : Option ℕ) → ((grip : ℕ) → x ≡ Some grip → texts' grip ≡ texts grip) → option_map texts' x ≡ option_map texts x

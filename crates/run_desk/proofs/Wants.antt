@@ -1,37 +1,21 @@
 -- What a licensed event tells of the want and of the wire that it moves a record on.
-use Rattle.std.proofs.Common.{◌≡◌, ℕ, suc, ◌≤◌, ◌<◌, Bool, true, false, cond, ◌&&◌, ◌||◌, not, ◌==◌, List, [], ◌∷◌, length, refl, sym, ◌∙◌, ap, arith, Option, Some, None, ℤ, nat_lt}
-use Rattle.std.proofs.lemmas.Bool.Decides.{Decides-int_eq, nat_tests}
+use Rattle.std.proofs.Common.{◌≡◌, ℕ, suc, ◌≤◌, ◌<◌, Bool, true, false, cond, ◌&&◌, ◌||◌, not, ◌==◌, List, [], ◌∷◌, length, refl, sym, ◌∙◌, ap, arith, Option, Some, None, nat_lt}
+use Rattle.std.proofs.lemmas.Bool.Decides.{nat_tests}
+use Rattle.std.proofs.lemmas.Bool.{eqb-true}
 use Rattle.pipe_model.specs.declared.net.Net.{Net}
 use Rattle.pipe_model.specs.declared.net.Link.{Link}
 use Rattle.pipe_model.specs.declared.net.Strand.{Strand}
 use Rattle.pipe_model.specs.Event.{Event, Want, answers, has_ended, is_took, one_more, tooks_on}
-use Rattle.pipe_model.specs.Event.Event.{Took, Put, Refused, Ended}
-use Rattle.pipe_model.specs.Event.Want.{Take, Write, Done}
+use Rattle.pipe_model.specs.Event.Event.{Put, Refused}
+use Rattle.pipe_model.specs.Event.Want.{Write}
 use Rattle.pipe_model.specs.Next.{next}
 use Rattle.pipe_model.specs.State.{Who, State, past, strand_at, link_out}
 use Rattle.pipe_model.specs.Licence.{Left, want_after, want_at, puts, tooks, is_level, in_closed, may_put, may_refuse, write_answer, answer, licence, sight_of}
-use Rattle.confluence_laws.proofs.Basics.{cond_some, both, same_number, not_ended, put_asked}
+use Rattle.pipe_model.proofs.Truths.{cond_some, both}
+use Rattle.confluence_laws.proofs.Basics.{not_ended, put_asked, refused_asked}
 use Rattle.confluence_laws.proofs.Owns.{answer_fits}
 
 -- Events and wants
-
--- whoever takes a record wanted to
-pub take_asked : (want : Option Want) (i : ℕ) → answers want (Took i) ≡ true → want ≡ Some (Take i)
-take_asked (Some (Take j)) i it = ap (λ z. Some (Take z)) (sym (same_number i j it))
-take_asked None i it = cc
-take_asked (Some _) i it = cc
-
--- whoever is refused wanted to write
-pub refusal_asked : (want : Option Want) (o : ℕ) → answers want (Refused o) ≡ true → (rec : List ℕ) × (want ≡ Some (Write o rec))
-refusal_asked (Some (Write k rec)) o it = (rec, ap (λ z. Some (Write z rec)) (sym (same_number o k it)))
-refusal_asked None o it = cc
-refusal_asked (Some _) o it = cc
-
--- whoever ends wanted to
-pub end_asked : (want : Option Want) (code : ℤ) → answers want (Ended code) ≡ true → want ≡ Some (Done code)
-end_asked (Some (Done c)) code it = ap (λ z. Some (Done z)) (sym ((Decides-int_eq code c).0 it))
-end_asked None code it = cc
-end_asked (Some _) code it = cc
 
 -- Histories
 
@@ -101,7 +85,7 @@ module _ (net : Net) (st : State) (left : Left) (s : Who) where
   -- and refused where it may be
   pub refusal_may : (k o : ℕ) → licence net st left s k ≡ Some (Refused o) → may_refuse st (link_out net st s o) ≡ true
   refusal_may k o may =
-      let w = refusal_asked (want_at net st left s) o (fits k (Refused o) may) in
+      let w = refused_asked (want_at net st left s) o (fits k (Refused o) may) in
       refusal_tells o w.0 (may_put st (link_out net st s o)) (may_refuse st (link_out net st s o)) (written_by k o w.0 (Refused o) w.1 may)
 
 -- what may be put on a rendezvous was taken before
@@ -112,4 +96,4 @@ put_ahead st link rendezvous may =
 
 -- what may be refused wasn't taken
 pub refusal_level : (st : State) (link : Link) → may_refuse st (Some link) ≡ true → puts st link ≡ tooks st link
-refusal_level st link may = same_number (puts st link) (tooks st link) (both (in_closed st link) (is_level st link) (both (not link.queue) (in_closed st link && is_level st link) may).1).1
+refusal_level st link may = eqb-true (puts st link) (tooks st link) (both (in_closed st link) (is_level st link) (both (not link.queue) (in_closed st link && is_level st link) may).1).1

@@ -1,22 +1,10 @@
 use crate::locate::Locates;
 use crate::picks::{Picked, Picks, Rejects};
-use pipe_model::{NoMemory, Out, Range, Rec, Seen, Span, Want};
+use pipe_model::{NoMemory, Range, Rec, Seen, Span};
 use stage_steps::Stage;
-use std::alloc::{AllocError, Global};
+use std::alloc::Global;
 use std::process::Abort;
 use std::test::Fail;
-
-// What is asked for, as text.
-fn shown(alloc: Global, want: &Want) -> Result<String, AllocError> {
-    match want {
-        Want::Commit(level) => format!(in alloc; "commit {level}"),
-        Want::Read(i) => format!(in alloc; "read {i}"),
-        Want::Take(i) => format!(in alloc; "take {i}"),
-        Want::Write(o, Out::Same(i)) => format!(in alloc; "write {o} same {i}"),
-        Want::Done(code) => format!(in alloc; "done {code}"),
-        _ => format!(in alloc; "another"),
-    }
-}
 
 // Goes through these events with a stage that looks, and looks at what is asked for after each.
 fn driven<P: Picks>(
@@ -28,10 +16,11 @@ fn driven<P: Picks>(
 ) -> Result<(), Fail> {
     let mut stage = Picked::stage(alloc, picks, outputs)?;
     assert!(rt; stage.looks());
-    assert_eq!(rt; shown(alloc, &stage.first())?.as_str(), "commit -1");
+    let first = format!(in alloc; "{:?}", stage.first())?;
+    assert_eq!(rt; first.as_str(), "Commit(-1)");
     for (seen, bytes, want) in steps {
-        let asked = stage.resume(alloc, *seen, bytes)?;
-        assert_eq!(rt; shown(alloc, &asked)?.as_str(), *want, "after {seen:?}");
+        let asked = format!(in alloc; "{:?}", stage.resume(alloc, *seen, bytes)?)?;
+        assert_eq!(rt; asked.as_str(), *want, "after {seen:?}");
     }
     assert!(rt; stage.kept().is_empty());
     Ok(())
@@ -58,15 +47,15 @@ fn locating(
 fn locate_asks_by_what_it_is_told(rt: HostRuntime) -> Result<(), Fail> {
     let alloc = rt.alloc();
     let steps: [(Seen, &[u8], &str); 9] = [
-        (Seen::Up(-1, 0), b"", "commit 0"),
-        (Seen::Up(0, 0), b"", "read 0"),
-        (Seen::Saw(0), b"ab", "write 0 same 0"),
-        (Seen::Put(0), b"", "take 0"),
-        (Seen::Took(0), b"", "read 0"),
-        (Seen::Saw(0), b"cd", "take 0"),
-        (Seen::Took(0), b"", "read 0"),
-        (Seen::SawEnd(0), b"", "done 0"),
-        (Seen::Ended(0), b"", "done 0"),
+        (Seen::Up(-1, 0), b"", "Commit(0)"),
+        (Seen::Up(0, 0), b"", "Read(0)"),
+        (Seen::Saw(0), b"ab", "Write(0, Same(0))"),
+        (Seen::Put(0), b"", "Take(0)"),
+        (Seen::Took(0), b"", "Read(0)"),
+        (Seen::Saw(0), b"cd", "Take(0)"),
+        (Seen::Took(0), b"", "Read(0)"),
+        (Seen::SawEnd(0), b"", "Done(0)"),
+        (Seen::Ended(0), b"", "Done(0)"),
     ];
     let locates = locating(alloc, Span::Columns, 1, None, b"b")?;
     driven(&rt, alloc, locates, &[true, false], &steps)
@@ -76,15 +65,15 @@ fn locate_asks_by_what_it_is_told(rt: HostRuntime) -> Result<(), Fail> {
 fn a_refusal_ends_it_where_no_output_is_left(rt: HostRuntime) -> Result<(), Fail> {
     let alloc = rt.alloc();
     let steps: [(Seen, &[u8], &str); 9] = [
-        (Seen::Up(-1, 0), b"", "commit 0"),
-        (Seen::Up(0, 0), b"", "read 0"),
-        (Seen::Saw(0), b"ab", "write 1 same 0"),
-        (Seen::Refused(1), b"", "take 0"),
-        (Seen::Took(0), b"", "read 0"),
-        (Seen::Saw(0), b"b", "take 0"),
-        (Seen::Took(0), b"", "read 0"),
-        (Seen::Saw(0), b"cd", "write 0 same 0"),
-        (Seen::Refused(0), b"", "done 0"),
+        (Seen::Up(-1, 0), b"", "Commit(0)"),
+        (Seen::Up(0, 0), b"", "Read(0)"),
+        (Seen::Saw(0), b"ab", "Write(1, Same(0))"),
+        (Seen::Refused(1), b"", "Take(0)"),
+        (Seen::Took(0), b"", "Read(0)"),
+        (Seen::Saw(0), b"b", "Take(0)"),
+        (Seen::Took(0), b"", "Read(0)"),
+        (Seen::Saw(0), b"cd", "Write(0, Same(0))"),
+        (Seen::Refused(0), b"", "Done(0)"),
     ];
     let picks = locating(alloc, Span::Columns, 1, None, b"b")?;
     driven(&rt, alloc, Rejects { picks }, &[true, true], &steps)

@@ -3,6 +3,7 @@ use Rattle.std.proofs.Common.{◌≡◌, ◌≢◌, ℕ, suc, ◌+◌, ◌-◌, 
 use Rattle.std.proofs.lemmas.List.{length-replicate, take_rest}
 use Rattle.bstr.specs.Find.{IsFirstByte, is_byte}
 use Rattle.pipe_model.specs.Words.{IsUnblanked}
+use Rattle.stage_syntax.proofs.Delimiters.{not_nowhere, not_before}
 use Rattle.spec_scanner.specs.declared.fault.Fault.{Fault}
 use Rattle.spec_scanner.specs.declared.settings.OptionsRead.{OptionsRead}
 use Rattle.spec_scanner.specs.declared.settings.Settings.{Settings}
@@ -14,7 +15,7 @@ use Rattle.spec_scanner.specs.Faults.{IsLeastSo, fault}
 use Rattle.spec_scanner.specs.Options.{AreWords, BeginsAs, HasOptions, Outset, Pair, Word, clashes, in_force, no_signs, pair_faults, pairs_of, signs_of}
 use Rattle.spec_scanner.specs.Settings.{AreSettings, IsReadOf, all_in, signs_in}
 use Rattle.spec_scanner.proofs.Leasts.{least_one}
-use Rattle.spec_scanner.proofs.Nowhere.{first_within, not_before, not_nowhere, split_first}
+use Rattle.spec_scanner.proofs.Nowhere.{first_within, split_first}
 use Rattle.spec_scanner.proofs.Wording.{Told, blanks_are}
 
 -- what is told of how a text begins

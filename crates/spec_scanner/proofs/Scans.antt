@@ -1,21 +1,20 @@
 -- A text that was read, and what refuses one.
-use Rattle.std.proofs.Common.{◌≡◌, ℕ, ◌-◌, ◌<◌, ◌≤◌, ◌||◌, Bool, true, false, List, [], ◌∷◌, ◌++◌, length, refl, ap, ◌∙◌, sym, subst, arith, None, Option, inl, inr, nat_lt, lt-ltb, append_assoc, length-append}
+use Rattle.std.proofs.Common.{◌≡◌, ℕ, ◌-◌, ◌<◌, ◌≤◌, ◌||◌, Bool, true, false, List, [], ◌∷◌, ◌++◌, length, refl, ap, ◌∙◌, sym, subst, arith, None, Option, inl, nat_lt, lt-ltb, append_assoc, length-append}
 use Rattle.std.specs.List.{list_any}
 use Rattle.spec_scanner.specs.declared.fault.Fault.{Fault}
 use Rattle.spec_scanner.specs.declared.findings.Findings.{Findings}
 use Rattle.spec_scanner.specs.declared.item.Item.{Item}
-use Rattle.spec_scanner.specs.declared.item.Reading.{Reading}
-use Rattle.spec_scanner.specs.declared.item.Reading.TheVariants.{Plain, Literal, Separator, End}
 use Rattle.spec_scanner.specs.declared.piece.Piece.{Piece}
 use Rattle.spec_scanner.specs.declared.signs.Signs.{Signs}
 use Rattle.spec_scanner.specs.Additions.{AddsRead}
-use Rattle.spec_scanner.specs.Body.{IsBody, Spells}
+use Rattle.spec_scanner.specs.Body.{IsBody}
 use Rattle.spec_scanner.specs.declared.fault.SpecFaultKind.TheVariants.{NoPiece, LoneEscape, TooLong}
 use Rattle.spec_scanner.specs.Faults.{IsLeast, IsLeastSo, fault, least}
 use Rattle.spec_scanner.specs.Labels.{Label, read_pipelines}
 use Rattle.spec_scanner.specs.Reads.{IsRefused, body_faults, longest, no_escaped, no_piece, read_items}
 use Rattle.spec_scanner.specs.Stretches.{cut, is_end}
 use Rattle.spec_scanner.proofs.Leasts.{least_more, least_one}
+use Rattle.spec_scanner.proofs.Bodies.{spelled}
 
 -- one fault more, by what it is
 pub noted_least : (found : Option Fault) (other result : Fault) (faults more : List Fault) → result ≡ least found other → more ≡ other ∷ [] → IsLeastSo found faults → IsLeast result (faults ++ more)
@@ -55,20 +54,12 @@ body_least items tail size labels new pipelines shown first last none added are 
     (subst (λ ps. IsLeastSo last (((read_items items size).faults ++ no_escaped tail size) ++ no_piece ps size)) all
     (pieces ((read_items items size).faults ++ no_escaped tail size) (escaped (read_items items size).faults (read.least [] refl))))
 
--- an item is spelled by one byte or more
-spelled_some : (signs : Signs) (reading : Reading) (byte : ℕ) (spelling : List ℕ) → Spells signs reading byte spelling → 0 < length spelling
-spelled_some signs Plain byte spelling is = omega (arith, ap length is.0)
-spelled_some signs Literal byte spelling (inl is) = omega (arith, ap length is.2)
-spelled_some signs Literal byte spelling (inr is) = omega (arith, ap length is.1)
-spelled_some signs Separator byte spelling is = omega (arith, ap length is.0)
-spelled_some signs End byte spelling is = omega (arith, ap length is.0)
-
 -- a body has no more items than bytes
 pub items_in_text : (signs : Signs) (at : ℕ) (text : List ℕ) (items : List Item) (tail : List ℕ) → IsBody signs at text items tail → length items ≤ length text
 items_in_text signs at text [] tail body = omega arith
 items_in_text signs at text (item ∷ items) tail body =
     let read = body.1 in
-    omega (arith, ap length read.text_is, length-append read.spelling body.0, spelled_some signs item.reading item.byte read.spelling read.spells, items_in_text signs item.after body.0 items tail body.2)
+    omega (arith, ap length read.text_is, length-append read.spelling body.0, spelled signs item.reading item.byte read.spelling read.spells, items_in_text signs item.after body.0 items tail body.2)
 
 -- too many bytes
 pub too_long : (text : List ℕ) → longest < length text → IsRefused text (fault TooLong longest)

@@ -3,6 +3,7 @@ use Rattle.std.proofs.Common.{◌≡◌, ℕ, zero, suc, ◌-◌, Bool, true, fa
 use Rattle.std.specs.Prelude.{filter, replicate, option_map, unwrap_or}
 use Rattle.std.proofs.lemmas.Bool.Decides.{nat_tests}
 use Rattle.std.proofs.lemmas.List.Elements.{filter-append}
+use Rattle.std.proofs.lemmas.Option.{same_Some}
 use Rattle.pipe_model.specs.declared.kind.Times.{Times}
 use Rattle.pipe_model.specs.declared.kind.Times.TheVariants.{Only, All}
 use Rattle.pipe_model.specs.Event.{Want}
@@ -13,6 +14,7 @@ use Rattle.pipe_model.specs.Row.Act.{Writes, Repeats, Takes}
 use Rattle.pipe_model.specs.Shape.{writes}
 use Rattle.pipe_model.specs.Next.{Past, is_live, is_refused, want_in}
 use Rattle.pipe_model.proofs.Pasts.{after, after_refusal}
+use Rattle.pipe_model.proofs.Truths.{both}
 use Rattle.pipe_model.specs.Next.Phase.{Doing}
 use Rattle.stage_steps.specs.declared.group.Group.{Group}
 use Rattle.stage_steps.specs.declared.group.Group.TheVariants.{AtHand, New}
@@ -23,13 +25,6 @@ use Rattle.stage_steps.specs.Group.{acts_by, group_acts, held_acts, has_more, is
 use Rattle.stage_steps.specs.Outputs.{open_from, can_do, live}
 use Rattle.stage_steps.specs.Listed.{first_write, when_written, and_behind}
 use Rattle.stage_steps.proofs.Flags.{flag_open, fewer_open, shut}
-
-pub same_number : (a b : ℕ) → (a == b) ≡ true → a ≡ b
-same_number a b p = grind (arith, nat_tests)
-
-both : (a b : Bool) → (a && b) ≡ true → (a ≡ true) × (b ≡ true)
-both true b h = (refl, h)
-both false b h = cc
 
 -- Filters
 
@@ -72,12 +67,9 @@ live_refused outputs refused q acts =
 
 -- The first act, where it writes
 
-some_same : {A : Type 0} (a b : A) → Some a ≡ Some b → a ≡ b
-some_same a b e = cc
-
 pub want_first : (acts : List Act) (goal : Goal) (p : Pair) → first_write acts ≡ Some p → want_in (Doing acts goal) ≡ Some (Want.Write p.0 p.1)
-want_first (Writes o rec ∷ acts) goal p is = ap (λ q. Some (Want.Write q.0 q.1)) (some_same (o, rec) p is)
-want_first (Repeats o rec ∷ acts) goal p is = ap (λ q. Some (Want.Write q.0 q.1)) (some_same (o, rec) p is)
+want_first (Writes o rec ∷ acts) goal p is = ap (λ q. Some (Want.Write q.0 q.1)) (same_Some (o, rec) p is)
+want_first (Repeats o rec ∷ acts) goal p is = ap (λ q. Some (Want.Write q.0 q.1)) (same_Some (o, rec) p is)
 want_first (Takes i ∷ acts) goal p is = cc
 want_first [] goal p is = cc
 
@@ -92,7 +84,7 @@ pub after_refused : (w : Row) (outputs : List Bool) (p : Past) (acts : List Act)
     after w outputs p (Doing acts goal) (Refused o) ≡ after_refusal w outputs p o (when_written acts) goal
 after_refused w outputs p (Writes o' rec' ∷ acts) goal q o first same = refl
 after_refused w outputs p (Repeats o' rec' ∷ acts) goal q o first same =
-    let here : o ≡ o' = same ∙ ap (λ r. r.0) (sym (some_same (o', rec') q first)) in
+    let here : o ≡ o' = same ∙ ap (λ r. r.0) (sym (same_Some (o', rec') q first)) in
     let drops : filter (is_live outputs (o ∷ p.refused)) acts ≡ filter (is_live outputs (o ∷ p.refused)) (Repeats o' rec' ∷ acts) =
     ap (λ b. cond b (Repeats o' rec' ∷ filter (is_live outputs (o ∷ p.refused)) acts) (filter (is_live outputs (o ∷ p.refused)) acts)) (sym (shut outputs p.refused o o' here)) in
     ap (λ l. record { known = p.known; refused = o ∷ p.refused; phase = cond (w.yields && is_refused outputs (o ∷ p.refused)) (Doing [] (Goal.Ends (pos 0))) (Doing l goal) }) drops

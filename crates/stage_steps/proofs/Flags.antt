@@ -1,28 +1,15 @@
 -- The flags of open outputs.
 use Rattle.std.proofs.Common.{◌≡◌, ◌≢◌, ℕ, zero, suc, ◌+◌, ◌<◌, ◌≤◌, Bool, true, false, ◌&&◌, ◌||◌, not, ◌==◌, List, [], ◌∷◌, length, slice_set, refl, sym, ◌∙◌, ap, arith, add-zero}
 use Rattle.std.specs.List.{list_any}
-use Rattle.std.proofs.lemmas.Bool.Decides.{nat_tests}
+use Rattle.std.proofs.lemmas.Bool.{ne_eqb, eq-eqb}
+use Rattle.std.proofs.Math.Bool.{and-true, and-false}
 use Rattle.pipe_model.specs.Next.{is_open, all_refused_from, is_refused}
 use Rattle.pipe_model.specs.Members.{has, flag_at}
 use Rattle.stage_steps.specs.Outputs.{open_from, closed_from, none_left}
 
-apart : (a b : ℕ) → a ≢ b → (a == b) ≡ false
-apart a b p = grind (arith, nat_tests)
-
-alike : (a b : ℕ) → a ≡ b → (a == b) ≡ true
-alike a b p = grind (arith, nat_tests)
-
-pub and_true : (b : Bool) → (b && true) ≡ b
-and_true true = refl
-and_true false = refl
-
-and_false : (b : Bool) → (b && false) ≡ false
-and_false true = refl
-and_false false = refl
-
 -- a flag that isn't the closed one
 stays : (k q : ℕ) (flag : Bool) (flags : List Bool) → q ≢ k → closed_from k q (flag ∷ flags) ≡ flag ∷ closed_from (suc k) q flags
-stays k q flag flags p = ap (λ z. (flag && not z) ∷ closed_from (suc k) q flags) (apart q k p) ∙ ap (λ z. z ∷ closed_from (suc k) q flags) (and_true flag)
+stays k q flag flags p = ap (λ z. (flag && not z) ∷ closed_from (suc k) q flags) (ne_eqb q k p) ∙ ap (λ z. z ∷ closed_from (suc k) q flags) (and-true flag)
 
 closed-below : (k q : ℕ) (flags : List Bool) → q < k → closed_from k q flags ≡ flags
 closed-below k q [] lt = refl
@@ -35,7 +22,7 @@ closed-beyond k q (flag ∷ flags) le = sym (stays k q flag flags (omega arith) 
 pub closed-set : (j k q : ℕ) (flags : List Bool) → q ≡ k + j → slice_set flags j false ≡ closed_from k q flags
 closed-set j k q [] e = refl
 closed-set zero k q (flag ∷ flags) e =
-    sym (ap (λ z. (flag && not z) ∷ closed_from (suc k) q flags) (alike q k (omega arith)) ∙ ap (λ z. z ∷ closed_from (suc k) q flags) (and_false flag) ∙ ap (λ l. false ∷ l) (closed-below (suc k) q flags (omega arith)))
+    sym (ap (λ z. (flag && not z) ∷ closed_from (suc k) q flags) (eq-eqb q k (omega arith)) ∙ ap (λ z. z ∷ closed_from (suc k) q flags) (and-false flag) ∙ ap (λ l. false ∷ l) (closed-below (suc k) q flags (omega arith)))
 closed-set (suc j) k q (flag ∷ flags) e = ap (λ l. flag ∷ l) (closed-set j (suc k) q flags (omega arith)) ∙ sym (stays k q flag flags (omega arith))
 
 one_closed : (f a b : Bool) → ((f && not a) && not b) ≡ (f && not (b || a))
@@ -77,7 +64,7 @@ fewer_open outputs refused q o h = flag_open outputs refused o ∙ still_open (f
 
 -- an output that refused isn't open
 pub shut : (outputs : List Bool) (refused : List ℕ) (q o : ℕ) → q ≡ o → is_open outputs (q ∷ refused) o ≡ false
-shut outputs refused q o e = ap (λ b. flag_at outputs o && not (b || has refused o)) (alike q o e) ∙ and_false (flag_at outputs o)
+shut outputs refused q o e = ap (λ b. flag_at outputs o && not (b || has refused o)) (eq-eqb q o e) ∙ and-false (flag_at outputs o)
 
 no_more : (f a x y : Bool) → y ≡ not x → ((not f || a) && y) ≡ not ((f && not a) || x)
 no_more true true x y e = e

@@ -1,5 +1,6 @@
 -- A strand whose shape is made of lists has the past of these lists.
 use Rattle.std.proofs.Common.{◌≡◌, ℕ, Bool, true, false, cond, ◌==◌, List, [], ◌∷◌, refl, sym, ◌∙◌, ap, subst, Some, None, ℤ, pos, negsuc}
+use Rattle.std.proofs.lemmas.Option.{same_Some}
 use Rattle.std.specs.Ordering.{int_eq}
 use Rattle.pipe_model.specs.declared.net.Strand.{Strand}
 use Rattle.pipe_model.specs.Event.{Event, taken_from}
@@ -72,15 +73,12 @@ AreLists s shape l = (g : List Event) → past_by (row_of s shape) s.ports.has_o
 abbrev pub Keeps : Shape → Listing → Type 0
 Keeps shape l = (l.keeps ≡ false → (g : List Event) → kept_by (keeping_by shape) g ≡ []) × (l.keeps ≡ true → (g : List Event) → kept_by (keeping_by shape) g ≡ text (taken_from 0 g))
 
-some_same : {A : Type 0} (a b : A) → Some a ≡ Some b → a ≡ b
-some_same a b e = cc
-
 module _ (s : Strand) (l : Listing) where
   listed_is : (shape : Shape) (m : Listing) → Some m ≡ Some l → AreLists s shape m → AreLists s shape l
-  listed_is shape m is same = subst (AreLists s shape) (some_same m l is) same
+  listed_is shape m is same = subst (AreLists s shape) (same_Some m l is) same
 
   keeps_is : (shape : Shape) (m : Listing) → Some m ≡ Some l → Keeps shape m → Keeps shape l
-  keeps_is shape m is keeps = subst (Keeps shape) (some_same m l is) keeps
+  keeps_is shape m is keeps = subst (Keeps shape) (same_Some m l is) keeps
 
   -- the past of a strand whose shape is made of lists is that of these lists
   pub past_of_lists : (shape : Shape) → lists_of s shape ≡ Some l → AreLists s shape l

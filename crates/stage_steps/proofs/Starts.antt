@@ -1,5 +1,6 @@
 -- A driver before the first event.
 use Rattle.std.proofs.Common.{◌≡◌, ℕ, suc, Bool, true, false, cond, ◌&&◌, List, [], ◌∷◌, refl, sym, ◌∙◌, ap, subst, arith, Some, None, Option, is_some}
+use Rattle.std.proofs.Math.Bool.{and-true}
 use Rattle.std.specs.List.{list_any}
 use Rattle.pipe_model.specs.declared.net.Strand.{Strand}
 use Rattle.pipe_model.specs.Row.{Act}
@@ -14,12 +15,11 @@ use Rattle.stage_steps.specs.Outputs.{open_from}
 use Rattle.stage_steps.specs.Places.{order_of}
 use Rattle.stage_steps.specs.Listed.{KeptIs, ListedIs}
 use Rattle.stage_steps.specs.Drivers.{Fits}
-use Rattle.stage_steps.proofs.Flags.{and_true}
 use Rattle.stage_steps.proofs.Sources.{Keeps, past_of_lists, kept_of_lists}
 
 all_open : (k : ℕ) (flags : List Bool) → flags ≡ open_from k flags []
 all_open k [] = refl
-all_open k (flag ∷ flags) = ap (λ b. b ∷ flags) (sym (and_true flag)) ∙ ap (λ l. (flag && true) ∷ l) (all_open (suc k) flags)
+all_open k (flag ∷ flags) = ap (λ b. b ∷ flags) (sym (and-true flag)) ∙ ap (λ l. (flag && true) ∷ l) (all_open (suc k) flags)
 
 module _ {L : Type 0} (stands : L → Stream → Records → List Act → Type 0) (looks : Bool) (lists : L) (order : Order) (flags : List Bool) (keeps : Bool) (outputs : Outputs) (kept : Option KeptText) (s : Strand) (t : Stream)
     (fits : Fits stands looks lists order flags keeps s t) (connected_is : outputs.connected ≡ list_any (λ flag. flag) flags) (flags_are : outputs.flags.items ≡ flags) (kept_is : kept ≡ cond keeps (Some nothing_kept) None) where

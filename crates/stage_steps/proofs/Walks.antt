@@ -1,6 +1,7 @@
 -- A walk of pairs, one event on.
 use Rattle.std.proofs.Common.{◌≡◌, ◌≤◌, ◌<◌, ℕ, suc, ◌+◌, Bool, true, false, cond, ◌&&◌, not, List, [], ◌∷◌, ◌++◌, length, refl, sym, ◌∙◌, ap, subst, arith, Some, None, Option, ℤ, pos, negsuc, append_assoc}
 use Rattle.std.proofs.lemmas.List.{map-append, length-append}
+use Rattle.std.proofs.lemmas.Bool.{eqb-true}
 use Rattle.std.specs.Prelude.{filter}
 use Rattle.std.specs.List.{list_any}
 use Rattle.std.specs.Ordering.{int_eq}
@@ -36,7 +37,7 @@ use Rattle.stage_steps.specs.Outputs.{open_after, open_from, live, none_left}
 use Rattle.stage_steps.specs.Places.{order_of, want_at, place_with, sight_place, look_place, taken_place, place_behind}
 use Rattle.stage_steps.specs.Walk.{IsBegun, Hears, Fetches, Puts, Turns, Asks}
 use Rattle.stage_steps.proofs.Flags.{closed_open, refused_is}
-use Rattle.stage_steps.proofs.Acts.{same_number, live_is, live_refused, want_first, after_put, after_refused, live_behind, left_of, pair_of, comes}
+use Rattle.stage_steps.proofs.Acts.{live_is, live_refused, want_first, after_put, after_refused, live_behind, left_of, pair_of, comes}
 
 -- Records
 
@@ -201,11 +202,11 @@ module _ {L : Type 0} (stands : L → Stream → Records → List Act → Type 0
   looked : (e : Event) → stands x t (records_of p.known.seen) [] → hand ≡ None → length h < 50000000 → answers (Some (Want.Read 0)) e ≡ true → bytes_with looks e ≡ bytes → Hears stands looks order ends_it x Looking (told e) bytes y place' →
       Next Looking e (after (list_row (order_of order) keeps t) outputs p (Doing [] (Asking (Want.Read 0))) e)
   looked (Saw i rec) stood none room fits came heard =
-      let zero_is : 0 ≡ i = sym (same_number i 0 fits) in
+      let zero_is : 0 ≡ i = sym (eqb-true i 0 fits) in
       subst (λ j. Next Looking (Saw j rec) (after (list_row (order_of order) keeps t) outputs p (Doing [] (Asking (Want.Read 0))) (Saw j rec))) zero_is
       (sees rec stood none (omega (arith, few, room)) (λ on. sym came ∙ ap (λ b. bytes_with b (Saw i rec)) on) heard.0 heard.1)
   looked (SawEnd i) stood none room fits came heard =
-      let zero_is : 0 ≡ i = sym (same_number i 0 fits) in
+      let zero_is : 0 ≡ i = sym (eqb-true i 0 fits) in
       subst (λ j. Next Looking (SawEnd j) (after (list_row (order_of order) keeps t) outputs p (Doing [] (Asking (Want.Read 0))) (SawEnd j))) zero_is (sees_end stood none heard.0 heard.1)
   looked _ stood none room fits came heard = cc
 
@@ -235,7 +236,7 @@ module _ {L : Type 0} (stands : L → Stream → Records → List Act → Type 0
       let gone : ends_it ≡ (not keeps && is_refused outputs (o ∷ p.refused)) =
       ends_is ∙ ap (λ l. not keeps && none_left (list_any (λ flag. flag) outputs) l) (closed_open 0 o outputs p.refused) ∙ ap (λ b. not keeps && b) (sym (refused_is outputs (o ∷ p.refused))) in
       let rest_is : filter (is_live outputs (o ∷ p.refused)) (when_written acts) ≡ live now done = ap (filter (is_live outputs (o ∷ p.refused))) rest ∙ live_refused outputs p.refused o done in
-      subst (λ z. Next (Writing follow) (Refused o) z) (sym (after_refused (list_row (order_of order) keeps t) outputs p acts goal q o first (same_number o q.0 fits))) (record {
+      subst (λ z. Next (Writing follow) (Refused o) z) (sym (after_refused (list_row (order_of order) keeps t) outputs p acts goal q o first (eqb-true o q.0 fits))) (record {
         walk = record {
           flags_are = closed_open 0 o outputs p.refused;
           sight_is = sight_is;

@@ -2,8 +2,7 @@
 use Rattle.std.proofs.Common.{◌≡◌, ◌≢◌, ◌⊎◌, inl, inr, ⊎_elim, ℕ, zero, suc, ◌+◌, ◌-◌, ◌<◌, ◌≤◌, Bool, true, false, cond, not, List, [], ◌∷◌, ◌++◌, length, take, drop, get_or, replicate, refl, sym, ◌∙◌, ap, subst, arith, length-drop}
 use Rattle.std.specs.Prelude.{◌==◌, if◌then◌else◌}
 use Rattle.std.specs.List.{Contains, position_or_len}
-use Rattle.std.proofs.lemmas.Bool.{cases_lt}
-use Rattle.std.proofs.lemmas.Bool.Decides.{nat_tests}
+use Rattle.std.proofs.lemmas.Bool.{cases_lt, ne_eqb, eq-eqb}
 use Rattle.std.proofs.lemmas.List.{take_all, drop_all, drop-drop}
 use Rattle.std.proofs.lemmas.List.Elements.{Contains-append_right}
 use Rattle.std.proofs.lemmas.List.Sums.{prefix_len-le-length}
@@ -22,15 +21,9 @@ letters text = position_or_len (λ b. b == 32) text
 one_more : (n : ℕ) → 1 + n ≡ suc n
 one_more n = omega arith
 
-differs : (a b : ℕ) → a ≢ b → (a == b) ≡ false
-differs a b p = grind (arith, nat_tests)
-
-equals : (a b : ℕ) → a ≡ b → (a == b) ≡ true
-equals a b p = grind (arith, nat_tests)
-
 no_blank_first : (rest : List ℕ) → get_or rest 0 0 ≢ 32 → blanks rest ≡ 0
 no_blank_first [] other = refl
-no_blank_first (b ∷ rest) other = ap (λ c. cond (not (not c)) (1 + blanks rest) 0) (differs b 32 other)
+no_blank_first (b ∷ rest) other = ap (λ c. cond (not (not c)) (1 + blanks rest) 0) (ne_eqb b 32 other)
 
 past_replicated : (n : ℕ) (rest : List ℕ) → get_or rest 0 0 ≢ 32 → rest ≡ drop (blanks (replicate n 32 ++ rest)) (replicate n 32 ++ rest)
 past_replicated zero rest other = sym (ap (λ k. drop k rest) (no_blank_first rest other))
@@ -44,7 +37,7 @@ behind_blanks text rest is = past_replicated is.blanks rest is.other ∙ ap (λ 
 
 no_letter_first : (rest : List ℕ) → get_or rest 0 32 ≡ 32 → letters rest ≡ 0
 no_letter_first [] stops = refl
-no_letter_first (b ∷ rest) stops = ap (λ c. cond (not c) (1 + letters rest) 0) (equals b 32 stops)
+no_letter_first (b ∷ rest) stops = ap (λ c. cond (not c) (1 + letters rest) 0) (eq-eqb b 32 stops)
 
 past_whole : (word rest : List ℕ) → ¬ Contains word 32 → get_or rest 0 32 ≡ 32 → rest ≡ drop (letters (word ++ rest)) (word ++ rest)
 past_whole [] rest whole stops = sym (ap (λ k. drop k rest) (no_letter_first rest stops))
@@ -53,7 +46,7 @@ past_whole (b ∷ word) rest whole stops =
     let other : b ≢ 32 = λ is. whole (0, omega arith, is) in
     past_whole word rest (λ found. whole (Contains-append_right (b ∷ []) word 32 found)) stops
     ∙ ap (λ k. drop k (b ∷ text)) (sym (one_more (letters text)))
-    ∙ ap (λ c. drop (cond (not c) (1 + letters text) 0) (b ∷ text)) (sym (differs b 32 other))
+    ∙ ap (λ c. drop (cond (not c) (1 + letters text) 0) (b ∷ text)) (sym (ne_eqb b 32 other))
 
 -- what the walk over a word leaves
 pub behind_first_word : (text word rest : List ℕ) → IsFirstWord text word rest → rest ≡ drop (letters text) text
@@ -115,7 +108,7 @@ starts from at (b ∷ text) le =
 -- a byte before no word that touches it
 alone : (at : ℕ) (ws : List Place) → HeadFrom (suc (suc at)) ws → onto_word at ws ≡ (at, suc at) ∷ ws
 alone at [] far = refl
-alone at (w ∷ ws) far = ap (λ c. cond c ((at, w.1) ∷ ws) ((at, suc at) ∷ w ∷ ws)) (differs w.0 (suc at) (omega arith))
+alone at (w ∷ ws) far = ap (λ c. cond c ((at, w.1) ∷ ws) ((at, suc at) ∷ w ∷ ws)) (ne_eqb w.0 (suc at) (omega arith))
 
 no_letters : (at : ℕ) (text : List ℕ) → letters text ≡ 0 → HeadFrom (suc at) (words_from at text)
 no_letters at [] none = tt
@@ -133,7 +126,7 @@ past_word at (b ∷ text) some =
     let end : suc at + l ≡ at + suc l = omega arith in
     let long : 0 < l → onto_word at (words_from (suc at) text) ≡ (at, at + suc l) ∷ words_from (at + suc l) (drop l text) = λ more.
     ap (onto_word at) (past_word (suc at) text more)
-    ∙ ap (λ c. cond c ((at, suc at + l) ∷ words_from (suc at + l) (drop l text)) ((at, suc at) ∷ (suc at, suc at + l) ∷ words_from (suc at + l) (drop l text))) (equals (suc at) (suc at) refl)
+    ∙ ap (λ c. cond c ((at, suc at + l) ∷ words_from (suc at + l) (drop l text)) ((at, suc at) ∷ (suc at, suc at + l) ∷ words_from (suc at + l) (drop l text))) (eq-eqb (suc at) (suc at) refl)
     ∙ ap (λ n. (at, n) ∷ words_from n (drop l text)) end in
     let short : l ≤ 0 → onto_word at (words_from (suc at) text) ≡ (at, at + suc l) ∷ words_from (at + suc l) (drop l text) = λ none.
     let zero_is : l ≡ 0 = omega (arith, none) in
@@ -189,7 +182,7 @@ spanned-take from (suc i) w rest (v ∷ u ∷ us) rec is = spanned-take from i w
 
 empty_of : (text : List ℕ) (empty : Bool) → empty ≡ (length text == 0) → empty ≡ true → text ≡ []
 empty_of [] empty e f = refl
-empty_of (b ∷ text) empty e f = let z : (length (b ∷ text) == 0) ≡ false = differs (length (b ∷ text)) 0 (omega arith) in cc
+empty_of (b ∷ text) empty e f = let z : (length (b ∷ text) == 0) ≡ false = ne_eqb (length (b ∷ text)) 0 (omega arith) in cc
 
 filled_of : (text : List ℕ) (empty : Bool) → empty ≡ (length text == 0) → empty ≡ false → text ≢ []
 filled_of [] empty e f = cc
@@ -287,7 +280,7 @@ front_goes i text rest word new empty front trimmed word_is e f new_is =
     let rest_some : text ≢ [] = λ none.
     let no_text : length text ≡ 0 = ap length none in
     let no_word : length word ≡ 0 = omega (arith, ap length word_is, length-drop (blanks rest) rest, front.0, no_text) in
-    some (empty_of word true (sym (equals (length word) 0 no_word)) refl) in
+    some (empty_of word true (sym (eq-eqb (length word) 0 no_word)) refl) in
     front_word i text rest word new front trimmed word_is new_is (has_letters word (blanks_gone rest word word_is) some) (has_letters text trimmed rest_some)
 
 -- the words from one on, as many as are wanted

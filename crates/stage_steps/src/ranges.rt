@@ -20,7 +20,12 @@ fn width(first: u32, last: u32) -> usize
 fn columns(rec: &[u8], first: u32, last: Option<u32>) -> &[u8]
     ensures { result.now ≡ between first last rec.now }
 {
-    let rest = behind(rec, first.saturating_sub(1) as usize);
+    // Most often a range is all of the record.
+    let rest = if first <= 1 {
+        rec
+    } else {
+        behind(rec, (first - 1) as usize)
+    };
     match last {
         None => rest,
         Some(last) => front(rest, width(first, last)),

@@ -1,25 +1,12 @@
 use crate::*;
-use pipe_model::{Out, Range, Seen, Span, Times, Want};
-use std::alloc::{AllocError, Global};
+use pipe_model::{Range, Seen, Span, Times};
+use std::alloc::Global;
 use std::process::Abort;
 use std::test::Fail;
 
 mod scripted;
 
 use scripted::{Script, a_script};
-
-// What is asked for, as text.
-fn shown(alloc: Global, want: &Want) -> Result<String, AllocError> {
-    match want {
-        Want::Commit(level) => format!(in alloc; "commit {level}"),
-        Want::Read(i) => format!(in alloc; "read {i}"),
-        Want::Take(i) => format!(in alloc; "take {i}"),
-        Want::Write(o, Out::Same(i)) => format!(in alloc; "write {o} same {i}"),
-        Want::Write(o, Out::Fresh(rec)) => format!(in alloc; "write {o} {:?}", rec.bytes()),
-        Want::Done(code) => format!(in alloc; "done {code}"),
-        _ => format!(in alloc; "another"),
-    }
-}
 
 // What a range names of a record.
 fn part(span: Span, first: u32, last: Option<u32>, rec: &[u8]) -> &[u8] {
@@ -80,10 +67,11 @@ fn driven(
     steps: &[(Seen, &str)],
 ) -> Result<(), Fail> {
     let mut stage = Listed::new(alloc, lists, order, &[true, true], false)?;
-    assert_eq!(rt; shown(alloc, &stage.first())?.as_str(), "commit -1");
+    let first = format!(in alloc; "{:?}", stage.first())?;
+    assert_eq!(rt; first.as_str(), "Commit(-1)");
     for (seen, want) in steps {
-        let asked = stage.resume(alloc, *seen, b"")?;
-        assert_eq!(rt; shown(alloc, &asked)?.as_str(), *want, "after {seen:?}");
+        let asked = format!(in alloc; "{:?}", stage.resume(alloc, *seen, b"")?)?;
+        assert_eq!(rt; asked.as_str(), *want, "after {seen:?}");
     }
     Ok(())
 }
@@ -91,18 +79,18 @@ fn driven(
 #[test]
 fn groups_are_written_so_many_times(rt: HostRuntime) -> Result<(), Fail> {
     let steps = [
-        (Seen::Up(-1, 0), "commit 0"),
-        (Seen::Up(0, 0), "write 0 [98]"),
-        (Seen::Put(0), "read 0"),
-        (Seen::Saw(0), "write 0 same 0"),
-        (Seen::Put(0), "write 0 same 0"),
-        (Seen::Put(0), "take 0"),
-        (Seen::Took(0), "read 0"),
-        (Seen::Saw(0), "write 0 same 0"),
-        (Seen::Refused(0), "take 0"),
-        (Seen::Took(0), "read 0"),
-        (Seen::SawEnd(0), "write 1 [122]"),
-        (Seen::Put(1), "done 8"),
+        (Seen::Up(-1, 0), "Commit(0)"),
+        (Seen::Up(0, 0), "Write(0, Fresh([98]))"),
+        (Seen::Put(0), "Read(0)"),
+        (Seen::Saw(0), "Write(0, Same(0))"),
+        (Seen::Put(0), "Write(0, Same(0))"),
+        (Seen::Put(0), "Take(0)"),
+        (Seen::Took(0), "Read(0)"),
+        (Seen::Saw(0), "Write(0, Same(0))"),
+        (Seen::Refused(0), "Take(0)"),
+        (Seen::Took(0), "Read(0)"),
+        (Seen::SawEnd(0), "Write(1, Fresh([122]))"),
+        (Seen::Put(1), "Done(8)"),
     ];
     let alloc = rt.alloc();
     driven(
@@ -117,16 +105,16 @@ fn groups_are_written_so_many_times(rt: HostRuntime) -> Result<(), Fail> {
 #[test]
 fn a_group_without_end_is_written_until_it_is_refused(rt: HostRuntime) -> Result<(), Fail> {
     let steps = [
-        (Seen::Up(-1, 0), "commit 0"),
-        (Seen::Up(0, 0), "write 0 [98]"),
-        (Seen::Put(0), "read 0"),
-        (Seen::Saw(0), "take 0"),
-        (Seen::Took(0), "write 0 same 0"),
-        (Seen::Put(0), "write 0 same 0"),
-        (Seen::Put(0), "write 0 same 0"),
-        (Seen::Refused(0), "read 0"),
-        (Seen::SawEnd(0), "write 1 [122]"),
-        (Seen::Refused(1), "done 0"),
+        (Seen::Up(-1, 0), "Commit(0)"),
+        (Seen::Up(0, 0), "Write(0, Fresh([98]))"),
+        (Seen::Put(0), "Read(0)"),
+        (Seen::Saw(0), "Take(0)"),
+        (Seen::Took(0), "Write(0, Same(0))"),
+        (Seen::Put(0), "Write(0, Same(0))"),
+        (Seen::Put(0), "Write(0, Same(0))"),
+        (Seen::Refused(0), "Read(0)"),
+        (Seen::SawEnd(0), "Write(1, Fresh([122]))"),
+        (Seen::Refused(1), "Done(0)"),
     ];
     let alloc = rt.alloc();
     driven(
@@ -144,28 +132,28 @@ fn it_ends_where_the_lists_say(rt: HostRuntime) -> Result<(), Fail> {
     let mut stopping = a_script(alloc, Times::Only(1))?;
     stopping.stops_after = 1;
     let steps = [
-        (Seen::Up(-1, 0), "commit 0"),
-        (Seen::Up(0, 0), "write 0 [98]"),
-        (Seen::Refused(0), "read 0"),
-        (Seen::Saw(0), "take 0"),
-        (Seen::Took(0), "done 8"),
+        (Seen::Up(-1, 0), "Commit(0)"),
+        (Seen::Up(0, 0), "Write(0, Fresh([98]))"),
+        (Seen::Refused(0), "Read(0)"),
+        (Seen::Saw(0), "Take(0)"),
+        (Seen::Took(0), "Done(8)"),
     ];
     driven(&rt, alloc, stopping, Order::WritesFirst, &steps)?;
     let mut halting = a_script(alloc, Times::Only(1))?;
     halting.halts_at = 1;
     let steps = [
-        (Seen::Up(-1, 0), "commit 0"),
-        (Seen::Up(0, 0), "write 0 [98]"),
-        (Seen::Refused(0), "read 0"),
-        (Seen::Saw(0), "done 8"),
+        (Seen::Up(-1, 0), "Commit(0)"),
+        (Seen::Up(0, 0), "Write(0, Fresh([98]))"),
+        (Seen::Refused(0), "Read(0)"),
+        (Seen::Saw(0), "Done(8)"),
     ];
     driven(&rt, alloc, halting, Order::TakesFirst, &steps)?;
     let mut source = a_script(alloc, Times::Only(1))?;
     source.stops_after = 0;
     let steps = [
-        (Seen::Up(-1, 0), "commit 0"),
-        (Seen::Up(0, 0), "write 0 [98]"),
-        (Seen::Put(0), "done 8"),
+        (Seen::Up(-1, 0), "Commit(0)"),
+        (Seen::Up(0, 0), "Write(0, Fresh([98]))"),
+        (Seen::Put(0), "Done(8)"),
     ];
     driven(&rt, alloc, source, Order::WritesFirst, &steps)
 }
@@ -173,7 +161,7 @@ fn it_ends_where_the_lists_say(rt: HostRuntime) -> Result<(), Fail> {
 #[test]
 fn a_bad_commit_ends_it(rt: HostRuntime) -> Result<(), Fail> {
     let alloc = rt.alloc();
-    let steps = [(Seen::Up(-1, 4), "done 0"), (Seen::Ended(0), "done 0")];
+    let steps = [(Seen::Up(-1, 4), "Done(0)"), (Seen::Ended(0), "Done(0)")];
     driven(
         &rt,
         alloc,
@@ -181,7 +169,7 @@ fn a_bad_commit_ends_it(rt: HostRuntime) -> Result<(), Fail> {
         Order::TakesFirst,
         &steps,
     )?;
-    let steps = [(Seen::Up(-1, 0), "commit 0"), (Seen::Up(0, 28), "done 0")];
+    let steps = [(Seen::Up(-1, 0), "Commit(0)"), (Seen::Up(0, 28), "Done(0)")];
     driven(
         &rt,
         alloc,

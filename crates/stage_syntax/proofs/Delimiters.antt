@@ -21,6 +21,12 @@ nowhere_after after string rest byte nowhere is =
     let stands : get_or after (length string) 0 ≡ byte = ap (λ bytes. get_or bytes (length string) 0) is ∙ get_or_at string byte rest 0 (length string) refl in
     nowhere (length string) (omega arith) long (eq-eqb (get_or after (length string) 0) byte stands)
 
+-- a byte that is nowhere isn't contained
+pub not_nowhere : (after : List ℕ) (byte : ℕ) → IsFirstByte (is_byte byte) after None → ¬ Contains after byte
+not_nowhere after byte nowhere = λ found.
+    let stands : get_or after found.0 0 ≡ byte = sym (get_or_default after found.0 byte 0 found.1) ∙ found.2 in
+    nowhere found.0 (omega arith) found.1 (eq-eqb (get_or after found.0 0) byte stands)
+
 -- a byte doesn't stand before its first place
 pub not_before : (after : List ℕ) (byte at : ℕ) → IsFirstByte (is_byte byte) after (Some at) → ¬ Contains (take at after) byte
 not_before after byte at first = λ found.
@@ -54,12 +60,6 @@ second_at (byte ∷ bytes) at some chosen after is first =
       whole = not_before after byte at first;
       spells = ap (λ b. byte ∷ b) (sym same ∙ split_at after at 0 high ∙ ap (λ b. take at after ++ b ∷ drop (suc at) after) stands ∙ ap (λ n. take at after ++ byte ∷ drop n after) next ∙ ap (λ b. take at after ++ byte ∷ b) (sym (tail_of after (at + 1))));
     }
-
--- a byte that is nowhere isn't contained
-not_nowhere : (after : List ℕ) (byte : ℕ) → IsFirstByte (is_byte byte) after None → ¬ Contains after byte
-not_nowhere after byte nowhere = λ found.
-    let stands : get_or after found.0 0 ≡ byte = sym (get_or_default after found.0 byte 0 found.1) ∙ found.2 in
-    nowhere found.0 (omega arith) found.1 (eq-eqb (get_or after found.0 0) byte stands)
 
 -- a delimiter without a second one is unclosed
 pub unclosed_at : (text : List ℕ) → 1 ≤ length text → IsFirstByte (is_byte (get_or text 0 0)) (take (length text - 1) (drop 1 text)) None

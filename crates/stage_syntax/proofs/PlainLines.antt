@@ -1,10 +1,12 @@
 -- What the line of a kind that can be typed says today: one strand that looks at its inputs in an order of its own and
 -- keeps no file, an output, and an input where it isn't first.
 use Rattle.std.proofs.Common.{◌≡◌, ℕ, zero, suc, ◌<◌, Bool, true, false, not, ◌&&◌, ◌||◌, nat_lt, refl, arith}
+use Rattle.std.proofs.lemmas.Bool.{not-true}
 use Rattle.pipe_model.specs.Form.{Meeting, Parting, inputs_by, is_filed, keeping_by, meeting_by, parting_by}
 use Rattle.pipe_model.specs.Form.Meeting.{Ordered, Braided, Loose}
 use Rattle.pipe_model.specs.Form.Parting.{Whole, Queued, Streamed}
 use Rattle.pipe_model.specs.Table.{Line, outputs_by}
+use Rattle.pipe_model.proofs.Truths.{both}
 
 abbrev is_whole : Parting → Bool
 is_whole Whole = true
@@ -38,10 +40,6 @@ ordered Ordered is = refl
 ordered Braided is = cc
 ordered Loose is = cc
 
-fileless : (filed : Bool) → not filed ≡ true → filed ≡ false
-fileless true is = cc
-fileless false is = refl
-
 some : (n : ℕ) → nat_lt 0 n ≡ true → 0 < n
 some zero is = cc
 some (suc n) is = omega arith
@@ -49,10 +47,6 @@ some (suc n) is = omega arith
 fed : (first : Bool) (n : ℕ) → (nat_lt 0 n || first) ≡ true → first ≡ false → 0 < n
 fed first zero is later = cc
 fed first (suc n) is later = omega arith
-
-pub both : (a b : Bool) → (a && b) ≡ true → (a ≡ true) × (b ≡ true)
-both true b is = (refl, is)
-both false b is = cc
 
 -- the test says so
 pub plain_line : (first : Bool) (l : Line) → is_plain first l ≡ true → IsPlain first l
@@ -64,7 +58,7 @@ plain_line first l is =
     record {
       whole = whole (parting_by l.shape) one.0;
       ordered = ordered (meeting_by l.shape) two.0;
-      fileless = fileless (is_filed (keeping_by l.shape)) three.0;
+      fileless = not-true (is_filed (keeping_by l.shape)) three.0;
       output = some (outputs_by l) four.0;
       input = fed first (inputs_by l.shape) four.1;
     }

@@ -20,7 +20,7 @@ use Rattle.stage_syntax.specs.declared.part.Value.TheVariants as Read
 use Rattle.stage_syntax.specs.declared.ranges.Ending.{Ending}
 use Rattle.stage_syntax.specs.declared.ranges.Ending.TheVariants.{Alone, To, Open, Long}
 use Rattle.stage_syntax.specs.declared.ranges.Spelling.{Spelling}
-use Rattle.stage_syntax.proofs.PlainLines.{both}
+use Rattle.pipe_model.proofs.Truths.{both}
 use Rattle.stage_syntax.specs.Bounds.{Fits, IsLast, IsRangeOf}
 use Rattle.stage_syntax.specs.PlainRanges.{IsPlainRange}
 use Rattle.stage_syntax.proofs.Consumed.{first_takes}

@@ -3,6 +3,7 @@ use Rattle.std.proofs.Common.{◌≡◌, inl, inr, ℕ, zero, suc, ◌+◌, ◌<
 use Rattle.std.specs.Prelude.{filter, find}
 use Rattle.std.specs.List.{list_any}
 use Rattle.std.proofs.lemmas.Bool.Decides.{nat_tests}
+use Rattle.std.proofs.Math.Bool.{or-false}
 use Rattle.pipe_model.specs.declared.net.Strand.{Strand}
 use Rattle.pipe_model.specs.declared.range.Range.{Range}
 use Rattle.pipe_model.specs.Event.{Event}
@@ -17,7 +18,7 @@ use Rattle.pipe_model.specs.Members.{has}
 use Rattle.pipe_model.specs.Next.{hears, nothing_known}
 use Rattle.pipe_model.specs.Alone.{Given, IsAllAlone}
 use Rattle.pipe_model.specs.Listed.{IsUnlimited, Puts}
-use Rattle.confluence_laws.proofs.Basics.{test_same}
+use Rattle.pipe_model.proofs.Numbers.{test_same}
 use Rattle.stream_laws.proofs.Streams.{from}
 use Rattle.stream_laws.proofs.Sights.{without_others, now_own, now_others}
 use Rattle.stream_laws.proofs.Places.{took}
@@ -62,11 +63,7 @@ module _ (of_master of_detail : Range) where
 
   -- whether a detail has the key of one master
   single : (m d : List ℕ) (b : Bool) → fits of_master of_detail m d ≡ b → (fits of_master of_detail m d || false) ≡ b
-  single m d b e = ap (λ z. z || false) e ∙ plain b
-    where
-      plain : (b : Bool) → (b || false) ≡ b
-      plain true = refl
-      plain false = refl
+  single m d b e = ap (λ z. z || false) e ∙ or-false b
 
   -- one detail more
   count_more : (m d : List ℕ) (ds : Records) (e : ℕ) → count_of (m ∷ []) ds ≡ e → count_of (m ∷ []) (d ∷ ds) ≡ e + count_of (m ∷ []) (d ∷ [])

@@ -4,6 +4,8 @@ use Rattle.std.proofs.lemmas.Bool.Decides.{nat_tests}
 use Rattle.std.specs.Prelude.{filter, flat_map}
 use Rattle.std.specs.List.{list_all, list_any}
 use Rattle.std.proofs.lemmas.List.{append-nil}
+use Rattle.std.proofs.lemmas.Bool.{eqb-true, not-true}
+use Rattle.std.proofs.Math.Bool.{and-false}
 use Rattle.pipe_model.specs.declared.range.Range.{Range}
 use Rattle.pipe_model.specs.Row.{Pair}
 use Rattle.pipe_model.specs.Shape.{Records}
@@ -13,20 +15,15 @@ use Rattle.pipe_model.specs.Inputs.{records_from}
 use Rattle.pipe_model.specs.Counts.{all_on}
 use Rattle.pipe_model.specs.JoiningRows.{agree, unmatched}
 use Rattle.pipe_model.specs.Listed.{are_sorted, are_distinct, headed, collate_pairs}
-use Rattle.confluence_laws.proofs.Basics.{same_number, both as and_both}
+use Rattle.pipe_model.proofs.Truths.{both as and_both, or_first, neither}
+use Rattle.pipe_model.proofs.Lists.{all_too}
 use Rattle.stream_laws.proofs.Streams.{on_both, on_others, output_both}
 use Rattle.stream_laws.proofs.KeyOrder.{less_one_way, less_between, same_is}
-use Rattle.stream_laws.proofs.Leasts.{all_imply, not_true}
 
 -- Tests
 
 not_false : (b : Bool) → b ≡ false → not b ≡ true
 not_false b e = ap (λ z. not z) e
-
-first_of_or : (a b : Bool) → (a || b) ≡ true → b ≡ false → a ≡ true
-first_of_or true b e f = refl
-first_of_or false true e f = cc
-first_of_or false false e f = cc
 
 second_of_or : (a b : Bool) → (a || b) ≡ true → a ≡ false → b ≡ true
 second_of_or true b e f = cc
@@ -49,11 +46,7 @@ pub apart_before : (a b : List ℕ) → is_less a b ≡ true → is_same a b ≡
 apart_before a b e = same_is a b ∙ ap (λ z. not z && not (is_less b a)) e
 
 pub apart_behind : (a b : List ℕ) → is_less b a ≡ true → is_same a b ≡ false
-apart_behind a b e = same_is a b ∙ ap (λ z. not (is_less a b) && not z) e ∙ never (not (is_less a b))
-  where
-    never : (b : Bool) → (b && false) ≡ false
-    never true = refl
-    never false = refl
+apart_behind a b e = same_is a b ∙ ap (λ z. not (is_less a b) && not z) e ∙ and-false (not (is_less a b))
 
 module _ (of_master of_detail : Range) where
   abbrev master_key : List ℕ → List ℕ
@@ -71,26 +64,22 @@ module _ (of_master of_detail : Range) where
   pub rising : (m : List ℕ) (ms : Records) → are_sorted of_master (m ∷ ms) ≡ true → are_distinct of_master (m ∷ ms) ≡ true → list_all (λ later. is_less (master_key m) (master_key later)) ms ≡ true
   rising m ms ordered distinct =
       go ms (and_both (list_all (λ later. not (is_less (master_key later) (master_key m))) ms) (are_sorted of_master ms) ordered).0
-      (not_true (list_any (agree of_master of_master m) ms) (and_both (not (list_any (agree of_master of_master m) ms)) (are_distinct of_master ms) distinct).0)
+      (not-true (list_any (agree of_master of_master m) ms) (and_both (not (list_any (agree of_master of_master m) ms)) (are_distinct of_master ms) distinct).0)
     where
-      none_first : (a b : Bool) → (a || b) ≡ false → (a ≡ false) × (b ≡ false)
-      none_first true b e = cc
-      none_first false b e = (refl, e)
-
       go : (xs : Records) → list_all (λ later. not (is_less (master_key later) (master_key m))) xs ≡ true → list_any (agree of_master of_master m) xs ≡ false → list_all (λ later. is_less (master_key m) (master_key later)) xs ≡ true
       go [] all none = refl
       go (x ∷ xs) all none =
           let a = and_both (not (is_less (master_key x) (master_key m))) (list_all (λ later. not (is_less (master_key later) (master_key m))) xs) all in
-          let b = none_first (agree of_master of_master m x) (list_any (agree of_master of_master m) xs) none in
+          let b = neither (agree of_master of_master m x) (list_any (agree of_master of_master m) xs) none in
           ap (λ z. z && list_all (λ later. is_less (master_key m) (master_key later)) xs)
-          (apart_less (is_less (master_key m) (master_key x)) (is_less (master_key x) (master_key m)) (sym (same_is (master_key m) (master_key x)) ∙ b.0) (not_true (is_less (master_key x) (master_key m)) a.0))
+          (apart_less (is_less (master_key m) (master_key x)) (is_less (master_key x) (master_key m)) (sym (same_is (master_key m) (master_key x)) ∙ b.0) (not-true (is_less (master_key x) (master_key m)) a.0))
           ∙ go xs a.1 b.1
 
   -- a detail with a master's key has none of the later masters'
   pub match_apart : (m d : List ℕ) (ms : Records) → fits m d ≡ true → list_all (λ later. is_less (master_key m) (master_key later)) ms ≡ true → list_all (λ later. not (fits later d)) ms ≡ true
   match_apart m d ms is all =
       let neither = same_neither (is_less (master_key m) (detail_key d)) (is_less (detail_key d) (master_key m)) (sym (same_is (master_key m) (detail_key d)) ∙ is) in
-      all_imply (λ later. is_less (master_key m) (master_key later)) (λ later. not (fits later d)) ms
+      all_too (λ later. is_less (master_key m) (master_key later)) (λ later. not (fits later d)) ms
       (λ later e. not_false (fits later d) (apart_behind (master_key later) (detail_key d)
       (second_of_or (is_less (master_key m) (detail_key d)) (is_less (detail_key d) (master_key later)) (less_between (master_key m) (detail_key d) (master_key later) e) neither.0))) all
 
@@ -98,18 +87,18 @@ module _ (of_master of_detail : Range) where
   pub master_apart : (m d : List ℕ) (ds : Records) → is_less (master_key m) (detail_key d) ≡ true → are_sorted of_detail (d ∷ ds) ≡ true → list_all (λ later. not (fits m later)) (d ∷ ds) ≡ true
   master_apart m d ds less ordered =
       ap (λ z. not z && list_all (λ later. not (fits m later)) ds) (apart_before (master_key m) (detail_key d) less)
-      ∙ all_imply (λ later. not (is_less (detail_key later) (detail_key d))) (λ later. not (fits m later)) ds
+      ∙ all_too (λ later. not (is_less (detail_key later) (detail_key d))) (λ later. not (fits m later)) ds
       (λ later e. not_false (fits m later) (apart_before (master_key m) (detail_key later)
-      (first_of_or (is_less (master_key m) (detail_key later)) (is_less (detail_key later) (detail_key d)) (less_between (master_key m) (detail_key later) (detail_key d) less) (not_true (is_less (detail_key later) (detail_key d)) e))))
+      (or_first (is_less (master_key m) (detail_key later)) (is_less (detail_key later) (detail_key d)) (less_between (master_key m) (detail_key later) (detail_key d) less) (not-true (is_less (detail_key later) (detail_key d)) e))))
       (and_both (list_all (λ later. not (is_less (detail_key later) (detail_key d))) ds) (are_sorted of_detail ds) ordered).0
 
   -- a detail that goes before the first master has none of their keys
   pub detail_apart : (m d : List ℕ) (ms : Records) → fits m d ≡ false → is_less (master_key m) (detail_key d) ≡ false → list_all (λ later. is_less (master_key m) (master_key later)) ms ≡ true → list_all (λ later. not (fits later d)) (m ∷ ms) ≡ true
   detail_apart m d ms apart not_less all =
       ap (λ z. not z && list_all (λ later. not (fits later d)) ms) apart
-      ∙ all_imply (λ later. is_less (master_key m) (master_key later)) (λ later. not (fits later d)) ms
+      ∙ all_too (λ later. is_less (master_key m) (master_key later)) (λ later. not (fits later d)) ms
       (λ later e. not_false (fits later d) (apart_behind (master_key later) (detail_key d)
-      (first_of_or (is_less (detail_key d) (master_key later)) (is_less (master_key later) (master_key m)) (less_between (detail_key d) (master_key later) (master_key m) less) (less_one_way (master_key m) (master_key later) e)))) all
+      (or_first (is_less (detail_key d) (master_key later)) (is_less (master_key later) (master_key m)) (less_between (detail_key d) (master_key later) (master_key m) less) (less_one_way (master_key m) (master_key later) e)))) all
     where
       less : is_less (detail_key d) (master_key m) ≡ true
       less = other (is_less (master_key m) (detail_key d)) (is_less (detail_key d) (master_key m)) (sym (same_is (master_key m) (detail_key d)) ∙ apart) not_less
@@ -132,39 +121,39 @@ module _ (of_master of_detail : Range) where
   no_detail d [] ds none = refl
   no_detail d (m ∷ ms) ds none =
       let b = and_both (not (fits m d)) (list_all (λ m. not (fits m d)) ms) none in
-      ap (λ z. headed m (cond z (d ∷ filter (fits m) ds) (filter (fits m) ds)) ++ with_details ms (d ∷ ds)) (not_true (fits m d) b.0) ∙ ap (λ z. headed m (filter (fits m) ds) ++ z) (no_detail d ms ds b.1)
+      ap (λ z. headed m (cond z (d ∷ filter (fits m) ds) (filter (fits m) ds)) ++ with_details ms (d ∷ ds)) (not-true (fits m d) b.0) ∙ ap (λ z. headed m (filter (fits m) ds) ++ z) (no_detail d ms ds b.1)
 
   no_match : (d : List ℕ) (ms ds : Records) → list_all (λ m. not (fits m d)) ms ≡ true → unmatched of_master of_detail ms (d ∷ ds) ≡ unmatched of_master of_detail ms ds
   no_match d [] ds none = refl
   no_match d (m ∷ ms) ds none =
       let b = and_both (not (fits m d)) (list_all (λ m. not (fits m d)) ms) none in
-      ap (λ z. cond (not (z || list_any (fits m) ds)) (m ∷ unmatched of_master of_detail ms (d ∷ ds)) (unmatched of_master of_detail ms (d ∷ ds))) (not_true (fits m d) b.0)
+      ap (λ z. cond (not (z || list_any (fits m) ds)) (m ∷ unmatched of_master of_detail ms (d ∷ ds)) (unmatched of_master of_detail ms (d ∷ ds))) (not-true (fits m d) b.0)
       ∙ ap (λ z. cond (not (list_any (fits m) ds)) (m ∷ z) z) (no_match d ms ds b.1)
 
   none_any : (d : List ℕ) (ms : Records) → list_all (λ m. not (fits m d)) ms ≡ true → list_any (λ m. fits m d) ms ≡ false
   none_any d [] none = refl
   none_any d (m ∷ ms) none =
       let b = and_both (not (fits m d)) (list_all (λ m. not (fits m d)) ms) none in
-      ap (λ z. z || list_any (λ m. fits m d) ms) (not_true (fits m d) b.0) ∙ none_any d ms b.1
+      ap (λ z. z || list_any (λ m. fits m d) ms) (not-true (fits m d) b.0) ∙ none_any d ms b.1
 
   -- a master without details
   no_details : (m : List ℕ) (ds : Records) → list_all (λ d. not (fits m d)) ds ≡ true → filter (fits m) ds ≡ []
   no_details m [] none = refl
   no_details m (d ∷ ds) none =
       let b = and_both (not (fits m d)) (list_all (λ d. not (fits m d)) ds) none in
-      ap (λ z. cond z (d ∷ filter (fits m) ds) (filter (fits m) ds)) (not_true (fits m d) b.0) ∙ no_details m ds b.1
+      ap (λ z. cond z (d ∷ filter (fits m) ds) (filter (fits m) ds)) (not-true (fits m d) b.0) ∙ no_details m ds b.1
 
   no_any : (m : List ℕ) (ds : Records) → list_all (λ d. not (fits m d)) ds ≡ true → list_any (fits m) ds ≡ false
   no_any m [] none = refl
   no_any m (d ∷ ds) none =
       let b = and_both (not (fits m d)) (list_all (λ d. not (fits m d)) ds) none in
-      ap (λ z. z || list_any (fits m) ds) (not_true (fits m d) b.0) ∙ no_any m ds b.1
+      ap (λ z. z || list_any (fits m) ds) (not-true (fits m d) b.0) ∙ no_any m ds b.1
 
   no_master : (m : List ℕ) (ms ds : Records) → list_all (λ d. not (fits m d)) ds ≡ true → without_master (m ∷ ms) ds ≡ without_master ms ds
   no_master m ms [] none = refl
   no_master m ms (d ∷ ds) none =
       let b = and_both (not (fits m d)) (list_all (λ d. not (fits m d)) ds) none in
-      ap (λ z. cond (not (z || list_any (λ m. fits m d) ms)) (d ∷ without_master (m ∷ ms) ds) (without_master (m ∷ ms) ds)) (not_true (fits m d) b.0)
+      ap (λ z. cond (not (z || list_any (λ m. fits m d) ms)) (d ∷ without_master (m ∷ ms) ds) (without_master (m ∷ ms) ds)) (not-true (fits m d) b.0)
       ∙ ap (λ z. cond (not (list_any (λ m. fits m d) ms)) (d ∷ z) z) (no_master m ms ds b.1)
 
   -- What is left to put: by whether the first master has had no detail yet
@@ -201,7 +190,7 @@ module _ (of_master of_detail : Range) where
 
       by_test : (b : Bool) → (j == o) ≡ b → records_from o (all_on j xs) ++ records_from o (all_on k ys) ≡ records_from o (all_on k ys) ++ records_from o (all_on j xs)
       by_test true is =
-          let z : records_from o (all_on k ys) ≡ [] = on_others k o ys (ap (λ y. k == y) (sym (same_number j o is)) ∙ turned k j apart) in
+          let z : records_from o (all_on k ys) ≡ [] = on_others k o ys (ap (λ y. k == y) (sym (eqb-true j o is)) ∙ turned k j apart) in
           ap (λ y. records_from o (all_on j xs) ++ y) z ∙ append-nil (records_from o (all_on j xs)) ∙ ap (λ y. y ++ records_from o (all_on j xs)) (sym z)
       by_test false is =
           let z : records_from o (all_on j xs) ≡ [] = on_others j o xs is in
@@ -294,11 +283,11 @@ module _ (of_master of_detail : Range) where
       firsts new (m ∷ ms) none =
           let b = and_both (not (fits m d)) (list_all (λ m. not (fits m d)) ms) none in
           ap (λ z. cond new (headed m (filter (fits m) ds)) (filter (fits m) ds) ++ z) (sym (no_detail d ms ds b.1))
-          ∙ ap (λ z. cond new (headed m z) z ++ with_details ms (d ∷ ds)) (sym (ap (λ z. cond z (d ∷ filter (fits m) ds) (filter (fits m) ds)) (not_true (fits m d) b.0)))
+          ∙ ap (λ z. cond new (headed m z) z ++ with_details ms (d ∷ ds)) (sym (ap (λ z. cond z (d ∷ filter (fits m) ds) (filter (fits m) ds)) (not-true (fits m d) b.0)))
 
       seconds : (new : Bool) (ms : Records) → list_all (λ m. not (fits m d)) ms ≡ true → left_1 new ms ds ≡ left_1 new ms (d ∷ ds)
       seconds new [] none = refl
       seconds new (m ∷ ms) none =
           let b = and_both (not (fits m d)) (list_all (λ m. not (fits m d)) ms) none in
           ap (λ z. cond (new && not (list_any (fits m) ds)) (m ∷ z) z) (sym (no_match d ms ds b.1))
-          ∙ ap (λ z. cond (new && not (z || list_any (fits m) ds)) (m ∷ unmatched of_master of_detail ms (d ∷ ds)) (unmatched of_master of_detail ms (d ∷ ds))) (sym (not_true (fits m d) b.0))
+          ∙ ap (λ z. cond (new && not (z || list_any (fits m) ds)) (m ∷ unmatched of_master of_detail ms (d ∷ ds)) (unmatched of_master of_detail ms (d ∷ ds))) (sym (not-true (fits m d) b.0))

@@ -17,7 +17,7 @@ use Rattle.pipe_model.specs.JoiningRows.Turn.{Match, Master, Detail}
 use Rattle.pipe_model.specs.Table.{form}
 use Rattle.pipe_model.specs.Alone.{Given, IsAllAlone}
 use Rattle.pipe_model.specs.Listed.{are_sorted, are_distinct, collate_pairs, IsUnlimited, Puts}
-use Rattle.confluence_laws.proofs.Basics.{both as and_both}
+use Rattle.pipe_model.proofs.Truths.{both as and_both}
 use Rattle.stream_laws.proofs.Sights.{sees_some}
 use Rattle.stream_laws.proofs.Places.{puts_connected}
 use Rattle.stream_laws.proofs.Rounded.{with_list, IsOver, IsSeen, Shows, Full, full_over}

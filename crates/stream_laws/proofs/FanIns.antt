@@ -3,6 +3,7 @@ use Rattle.std.proofs.Common.{◌≡◌, ℕ, zero, suc, ◌+◌, ◌<◌, ◌�
 use Rattle.std.specs.Prelude.{find, flat_map, nat_lt}
 use Rattle.std.specs.List.{range_with_len}
 use Rattle.std.proofs.lemmas.Bool.Decides.{nat_tests}
+use Rattle.std.proofs.Math.Bool.{and-false}
 use Rattle.pipe_model.specs.declared.net.Strand.{Strand}
 use Rattle.pipe_model.specs.Event.{Event}
 use Rattle.pipe_model.specs.Row.{Pair, Known}
@@ -67,15 +68,11 @@ none_from n zero b sum = refl
 none_from n (suc m) b sum =
     let here : nat_lt b n ≡ true = is_below in
     ap (λ z. cond (nat_lt b n && not z) (Some b) (find (can_read n (down n)) (range_with_len (b + 1) m))) (down_has n b ∙ here)
-    ∙ ap (λ z. cond z (Some b) (find (can_read n (down n)) (range_with_len (b + 1) m))) (no_both (nat_lt b n))
+    ∙ ap (λ z. cond z (Some b) (find (can_read n (down n)) (range_with_len (b + 1) m))) (and-false (nat_lt b n))
     ∙ none_from n m (b + 1) (omega (arith, sum))
   where
     is_below : nat_lt b n ≡ true
     is_below = let z : b < n = omega (arith, sum) in grind (arith, nat_tests)
-
-    no_both : (c : Bool) → (c && false) ≡ false
-    no_both true = refl
-    no_both false = refl
 
 module _ (s : Strand) (g : Given) (unlimited : IsUnlimited g) (W : List Event) (done : IsAllAlone s g W)
     (n : ℕ) (row_is : (form s).row.plan ≡ (λ (k : Known). turn_plan n fanning_in k k.told)) where

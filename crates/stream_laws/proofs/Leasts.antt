@@ -5,6 +5,8 @@ use Rattle.std.specs.List.{list_all, list_any}
 use Rattle.std.proofs.lemmas.Bool.Decides.{nat_tests}
 use Rattle.std.proofs.lemmas.List.Elements.{filter-append}
 use Rattle.std.proofs.lemmas.List.Folds.{list_all-append, list_any-append}
+use Rattle.std.proofs.lemmas.Bool.{eqb-true, not-true}
+use Rattle.std.proofs.Math.Bool.{or-true, and-false}
 use Rattle.pipe_model.specs.declared.range.Range.{Range}
 use Rattle.pipe_model.specs.Row.{Pair}
 use Rattle.pipe_model.specs.Ranges.{part_of}
@@ -12,7 +14,9 @@ use Rattle.pipe_model.specs.Keys.{is_less}
 use Rattle.pipe_model.specs.JoiningRows.{goes_first, is_least}
 use Rattle.pipe_model.specs.Shape.{Records, records_of}
 use Rattle.pipe_model.specs.Inputs.{records_from}
-use Rattle.confluence_laws.proofs.Basics.{test_same, same_number, both as and_both}
+use Rattle.pipe_model.proofs.Truths.{both as and_both, or_first}
+use Rattle.pipe_model.proofs.Numbers.{test_same}
+use Rattle.pipe_model.proofs.Lists.{all_too}
 use Rattle.stream_laws.proofs.Streams.{from, on_both}
 use Rattle.stream_laws.proofs.KeyOrder.{less_one_way, less_between, same_is}
 
@@ -30,11 +34,7 @@ one_way_step false false u v keys numbers is = numbers is
 between_step : (x x' a a' b b' u v w : Bool) → (x ≡ true → (a || b) ≡ true) → (a' ≡ true → (b || x') ≡ true) → (b' ≡ true → (x' || a) ≡ true) → (u ≡ true → (v || w) ≡ true) →
     goes x x' u ≡ true → (goes a a' v || goes b b' w) ≡ true
 between_step x x' true a' b b' u v w f1 f2 f3 f is = refl
-between_step x x' false a' true b' u v w f1 f2 f3 f is = or_true (not a' && v)
-  where
-    or_true : (c : Bool) → (c || true) ≡ true
-    or_true true = refl
-    or_true false = refl
+between_step x x' false a' true b' u v w f1 f2 f3 f is = or-true (not a' && v)
 between_step true x' false a' false b' u v w f1 f2 f3 f is = (let z : false ≡ true = f1 refl in cc)
 between_step false true false a' false b' u v w f1 f2 f3 f is = cc
 between_step false false false true false b' u v w f1 f2 f3 f is = (let z : false ≡ true = f2 refl in cc)
@@ -88,26 +88,10 @@ module _ (range : Range) where
 
 -- Tests of all members
 
-pub all_imply : {A : Type 0} (f h : A → Bool) (xs : List A) → ((x : A) → f x ≡ true → h x ≡ true) → list_all f xs ≡ true → list_all h xs ≡ true
-all_imply f h [] imply all = refl
-all_imply f h (x ∷ xs) imply all = by_test (f x) refl all (all_imply f h xs imply)
-  where
-    by_test : (b : Bool) → f x ≡ b → (b && list_all f xs) ≡ true → (list_all f xs ≡ true → list_all h xs ≡ true) → (h x && list_all h xs) ≡ true
-    by_test true is e rest = ap (λ b. b && list_all h xs) (imply x is) ∙ rest e
-    by_test false is e rest = cc
-
-pub not_true : (b : Bool) → not b ≡ true → b ≡ false
-not_true true e = cc
-not_true false e = refl
-
 -- one that fails
 all_fails : {A : Type 0} (f : A → Bool) (us : List A) (x : A) (vs : List A) → f x ≡ false → list_all f (us ++ x ∷ vs) ≡ false
 all_fails f [] x vs is = ap (λ b. b && list_all f vs) is
-all_fails f (u ∷ us) x vs is = ap (λ z. f u && z) (all_fails f us x vs is) ∙ never (f u)
-  where
-    never : (b : Bool) → (b && false) ≡ false
-    never true = refl
-    never false = refl
+all_fails f (u ∷ us) x vs is = ap (λ z. f u && z) (all_fails f us x vs is) ∙ and-false (f u)
 
 -- a record of an input passes where all do
 pub all_at : (f : Pair → Bool) (ps : List Pair) (j : ℕ) (rec : List ℕ) (more : Records) → list_all f ps ≡ true → records_from j ps ≡ rec ∷ more → f (j, rec) ≡ true
@@ -117,7 +101,7 @@ all_at f (p ∷ ps) j rec more all is = by_test (p.0 == j) refl is (all_at f ps 
     by_test : (b : Bool) → (p.0 == j) ≡ b → records_of (cond b (p ∷ from j ps) (from j ps)) ≡ rec ∷ more → (records_from j ps ≡ rec ∷ more → f (j, rec) ≡ true) → f (j, rec) ≡ true
     by_test true same e rest =
         let it : p.1 ≡ rec = cc in
-        ap (λ z. f (z, rec)) (sym (same_number p.0 j same)) ∙ ap (λ z. f (p.0, z)) (sym it) ∙ (and_both (f p) (list_all f ps) all).0
+        ap (λ z. f (z, rec)) (sym (eqb-true p.0 j same)) ∙ ap (λ z. f (p.0, z)) (sym it) ∙ (and_both (f p) (list_all f ps) all).0
     by_test false same e rest = rest e
 
 -- The least
@@ -157,14 +141,9 @@ module _ (range : Range) where
         behind = q ∷ qs;
         whole = refl;
         none_before = refl;
-        none_behind = all_imply (λ x. not (goes_first range x m.least)) (λ x. not (goes_first range x p)) (q ∷ qs)
-            (λ x e. ap (λ z. not z) (goes_one_way range p x (only (goes_first range p x) (goes_first range x m.least) (goes_between range p x m.least is) (not_true (goes_first range x m.least) e)))) (pick_all (q ∷ qs) m);
+        none_behind = all_too (λ x. not (goes_first range x m.least)) (λ x. not (goes_first range x p)) (q ∷ qs)
+            (λ x e. ap (λ z. not z) (goes_one_way range p x (or_first (goes_first range p x) (goes_first range x m.least) (goes_between range p x m.least is) (not-true (goes_first range x m.least) e)))) (pick_all (q ∷ qs) m);
       }
-        where
-          only : (a b : Bool) → (a || b) ≡ true → b ≡ false → a ≡ true
-          only true b e f = refl
-          only false true e f = cc
-          only false false e f = cc
       by_goes m false is = record {
         least = m.least;
         before = p ∷ m.before;
@@ -177,7 +156,7 @@ module _ (range : Range) where
       by_test : Pick (q ∷ qs) → Pick (p ∷ q ∷ qs)
       by_test m = by_goes m (goes_first range p m.least) refl
 
-  -- it is the only one, where each input has one record in sight at most
+  -- it is the or_first one, where each input has one record in sight at most
   module _ (sight : List Pair) (m : Pick sight) (rec : List ℕ) (alone : records_from m.least.0 sight ≡ rec ∷ []) where
     split : (xs : Records) (y : List ℕ) (ys : Records) → xs ++ y ∷ ys ≡ rec ∷ [] → (xs ≡ []) × (ys ≡ []) × (y ≡ rec)
     split [] y ys e = (refl, cc, cc)
@@ -204,7 +183,7 @@ module _ (range : Range) where
     none_of [] none all = refl
     none_of (u ∷ us) none all =
         let b = and_both (not (goes_first range u m.least)) (list_all (λ q. not (goes_first range q m.least)) us) all in
-        by_test (u.0 == m.least.0) refl none (not_true (goes_first range u m.least) b.0) (λ e. none_of us e b.1)
+        by_test (u.0 == m.least.0) refl none (not-true (goes_first range u m.least) b.0) (λ e. none_of us e b.1)
       where
         by_test : (c : Bool) → (u.0 == m.least.0) ≡ c → records_of (cond c (u ∷ from m.least.0 us) (from m.least.0 us)) ≡ [] → goes_first range u m.least ≡ false → (records_from m.least.0 us ≡ [] → filter (is_least range sight) us ≡ []) →
             cond (is_least range sight u) (u ∷ filter (is_least range sight) us) (filter (is_least range sight) us) ≡ []
@@ -230,13 +209,9 @@ module _ (range : Range) where
         by_test : (b : Bool) → is_least range sight u ≡ b → cond b (u ∷ filter (is_least range sight) us) (filter (is_least range sight) us) ≡ [] → (filter (is_least range sight) us ≡ [] → list_any (λ p. p.0 == i && is_least range sight p) us ≡ false) →
             (u.0 == i && is_least range sight u || list_any (λ p. p.0 == i && is_least range sight p) us) ≡ false
         by_test true is e rest = cc
-        by_test false is e rest = ap (λ z. u.0 == i && z || list_any (λ p. p.0 == i && is_least range sight p) us) is ∙ ap (λ z. z || list_any (λ p. p.0 == i && is_least range sight p) us) (never (u.0 == i)) ∙ rest e
-          where
-            never : (b : Bool) → (b && false) ≡ false
-            never true = refl
-            never false = refl
+        by_test false is e rest = ap (λ z. u.0 == i && z || list_any (λ p. p.0 == i && is_least range sight p) us) is ∙ ap (λ z. z || list_any (λ p. p.0 == i && is_least range sight p) us) (and-false (u.0 == i)) ∙ rest e
 
-    -- so only its input's record is taken
+    -- so or_first its input's record is taken
     pub pick_taken : (i : ℕ) → list_any (λ p. p.0 == i && is_least range sight p) sight ≡ (m.least.0 == i)
     pick_taken i =
         ap (λ z. list_any (λ p. p.0 == i && is_least range sight p) z) m.whole ∙ list_any-append (λ p. p.0 == i && is_least range sight p) m.before (m.least ∷ m.behind)

@@ -6,6 +6,8 @@ use Rattle.std.proofs.lemmas.Bool.Decides.{nat_tests}
 use Rattle.std.proofs.lemmas.List.{append-nil, length-append}
 use Rattle.std.proofs.lemmas.List.Elements.{filter_agree}
 use Rattle.std.proofs.lemmas.List.Folds.{list_all-append}
+use Rattle.std.proofs.lemmas.Bool.{eqb-true, not-true}
+use Rattle.std.proofs.Math.Bool.{and-false}
 use Rattle.pipe_model.specs.declared.net.Strand.{Strand}
 use Rattle.pipe_model.specs.declared.range.Range.{Range}
 use Rattle.pipe_model.specs.Event.{Event}
@@ -20,13 +22,15 @@ use Rattle.pipe_model.specs.OrderRows.{sorted}
 use Rattle.pipe_model.specs.Table.{form}
 use Rattle.pipe_model.specs.Alone.{Given, IsAllAlone}
 use Rattle.pipe_model.specs.Listed.{ascending, are_sorted, merge_pairs, IsUnlimited, Puts}
-use Rattle.confluence_laws.proofs.Basics.{test_same, same_number, both as and_both}
+use Rattle.pipe_model.proofs.Truths.{both as and_both, or_first, neither}
+use Rattle.pipe_model.proofs.Numbers.{test_same}
+use Rattle.pipe_model.proofs.Lists.{all_too}
 use Rattle.stream_laws.proofs.Streams.{from, on_both}
 use Rattle.stream_laws.proofs.KeyOrder.{less_between, same_is}
 use Rattle.stream_laws.proofs.Sights.{sees_some}
 use Rattle.stream_laws.proofs.Places.{puts_connected}
 use Rattle.stream_laws.proofs.Rounded.{with_list, IsSeen, Shows, Full, rounds_full, next_full, full_over}
-use Rattle.stream_laws.proofs.Leasts.{all_imply, not_true, all_at, Pick, pick, pick_all, pick_rec, pick_only, pick_taken}
+use Rattle.stream_laws.proofs.Leasts.{all_at, Pick, pick, pick_all, pick_rec, pick_only, pick_taken}
 use Rattle.stream_laws.proofs.Sorts.{Split, sorted_least, split_at}
 
 -- of the numbers from one on, that which is a certain one
@@ -62,15 +66,6 @@ behind_lower true y u is lower = cc
 behind_lower false true u is lower = refl
 behind_lower false false true is lower = cc
 behind_lower false false false is lower = cc
-
-not_less_first : (a b : Bool) → (a || b) ≡ false → a ≡ false
-not_less_first true b is = cc
-not_less_first false b is = refl
-
-or_other : (a b : Bool) → (a || b) ≡ true → b ≡ false → a ≡ true
-or_other true b is none = refl
-or_other false true is none = cc
-or_other false false is none = cc
 
 no_less : (a b c : Bool) → (a ≡ true → (b || c) ≡ true) → b ≡ false → c ≡ false → a ≡ false
 no_less true true c f e g = cc
@@ -131,12 +126,8 @@ module _ (s : Strand) (g : Given) (unlimited : IsUnlimited g) (W : List Event) (
         (λ j. ap (λ z. sees j f.known.sight && z) (pick_taken range f.known.sight m own.rec own.seen j) ∙ seen_too j (m.least.0 == j) refl) (all_inputs n) ∙ (let lt : m.least.0 < n = few in one_is m.least.0 n 0 (omega arith) (omega arith))
       where
         seen_too : (j : ℕ) (b : Bool) → (m.least.0 == j) ≡ b → (sees j f.known.sight && b) ≡ b
-        seen_too j true is = ap (λ z. z && true) (ap (λ z. sees z f.known.sight) (sym (same_number m.least.0 j is)) ∙ sees_some m.least.0 f.known.sight own.rec [] own.seen)
-        seen_too j false is = never (sees j f.known.sight)
-          where
-            never : (b : Bool) → (b && false) ≡ false
-            never true = refl
-            never false = refl
+        seen_too j true is = ap (λ z. z && true) (ap (λ z. sees z f.known.sight) (sym (eqb-true m.least.0 j is)) ∙ sees_some m.least.0 f.known.sight own.rec [] own.seen)
+        seen_too j false is = and-false (sees j f.known.sight)
 
     puts_it : (merging range).outs f.known ≡ all_on 0 (own.rec ∷ [])
     unfolding i
@@ -150,7 +141,7 @@ module _ (s : Strand) (g : Given) (unlimited : IsUnlimited g) (W : List Event) (
     unfolding i
     none_first j x =
         ap (λ z. goes_first range (j, x.rec) (m.least.0, z)) (sym rec_is)
-        ∙ not_true (goes_first range (j, x.rec) m.least) (all_at (λ q. not (goes_first range q m.least)) f.known.sight j x.rec [] (pick_all range f.known.sight m) x.seen)
+        ∙ not-true (goes_first range (j, x.rec) m.least) (all_at (λ q. not (goes_first range q m.least)) f.known.sight j x.rec [] (pick_all range f.known.sight m) x.seen)
 
     abbrev before : List ℕ → List ℕ → Bool
     before a b = is_less (part_of range a) (part_of range b)
@@ -172,8 +163,8 @@ module _ (s : Strand) (g : Given) (unlimited : IsUnlimited g) (W : List Event) (
             (ap (λ z. before x.rec own.rec || (z && nat_lt j i)) (sym (same_is (part_of range x.rec) (part_of range own.rec))) ∙ none_first j x) numbers in
             let tail = (and_both (list_all (λ later. not (before later x.rec)) x.rest) (are_sorted range x.rest) (ap (are_sorted range) (sym x.list) ∙ ordered j (omega (arith, few)))).0 in
             ap (list_all (λ x. before own.rec x)) x.list ∙ ap (λ z. z && list_all (λ x. before own.rec x) x.rest) first
-            ∙ all_imply (λ later. not (before later x.rec)) (λ later. before own.rec later) x.rest
-            (λ later e. or_other (before own.rec later) (before later x.rec) (less_between (part_of range own.rec) (part_of range later) (part_of range x.rec) first) (not_true (before later x.rec) e)) tail
+            ∙ all_too (λ later. not (before later x.rec)) (λ later. before own.rec later) x.rest
+            (λ later e. or_first (before own.rec later) (before later x.rec) (less_between (part_of range own.rec) (part_of range later) (part_of range x.rec) first) (not-true (before later x.rec) e)) tail
 
     -- those of higher ones don't go before it
     higher : (j : ℕ) → i < j → j < 0 + n → list_all (λ x. not (before x own.rec)) (left j) ≡ true
@@ -182,11 +173,11 @@ module _ (s : Strand) (g : Given) (unlimited : IsUnlimited g) (W : List Event) (
         by_shows : Shows f.known left j → list_all (λ x. not (before x own.rec)) (left j) ≡ true
         by_shows (inl x) = ap (list_all (λ x. not (before x own.rec))) x.all
         by_shows (inr x) =
-            let first : before x.rec own.rec ≡ false = not_less_first (before x.rec own.rec) (agrees && nat_lt j i) (none_first j x) in
+            let first : before x.rec own.rec ≡ false = (neither (before x.rec own.rec) (agrees && nat_lt j i) (none_first j x)).0 in
             let tail = (and_both (list_all (λ later. not (before later x.rec)) x.rest) (are_sorted range x.rest) (ap (are_sorted range) (sym x.list) ∙ ordered j (omega arith))).0 in
             ap (list_all (λ x. not (before x own.rec))) x.list ∙ ap (λ z. not z && list_all (λ x. not (before x own.rec)) x.rest) first
-            ∙ all_imply (λ later. not (before later x.rec)) (λ later. not (before later own.rec)) x.rest
-            (λ later e. ap (λ z. not z) (no_less (before later own.rec) (before later x.rec) (before x.rec own.rec) (less_between (part_of range later) (part_of range x.rec) (part_of range own.rec)) (not_true (before later x.rec) e) first)) tail
+            ∙ all_too (λ later. not (before later x.rec)) (λ later. not (before later own.rec)) x.rest
+            (λ later e. ap (λ z. not z) (no_less (before later own.rec) (before later x.rec) (before x.rec own.rec) (less_between (part_of range later) (part_of range x.rec) (part_of range own.rec)) (not-true (before later x.rec) e) first)) tail
           where
             agrees : Bool
             agrees = is_same (part_of range x.rec) (part_of range own.rec)

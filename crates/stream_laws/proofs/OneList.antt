@@ -22,7 +22,8 @@ use Rattle.pipe_model.specs.Alone.{Given, IsAllAlone}
 use Rattle.pipe_model.specs.Inputs.{records_from}
 use Rattle.pipe_model.specs.Counts.{all_on}
 use Rattle.pipe_model.specs.Listed.{pairs_at, pairs_after, pairs_of, taken_after, taken_of, code_after, ending_of, IsUnlimited, Does}
-use Rattle.confluence_laws.proofs.Within.{at_end, past_end}
+use Rattle.pipe_model.proofs.Lists.{get_seam}
+use Rattle.confluence_laws.proofs.Within.{past_end}
 use Rattle.stream_laws.proofs.Streams.{on_both, records_all, output_both, last_on, last_is, connected}
 use Rattle.stream_laws.proofs.Places.{took, Reaches, take_one, write_all, write_rest, read_one, read_end, begins, IsDone, finish, puts_connected}
 
@@ -72,7 +73,7 @@ module _ (s : Strand) (g : Given) (unlimited : IsUnlimited g) (W : List Event) (
       let d = finish s g unlimited W done k' (t.code recs) (put ++ connected s.ports.has_output (last_pairs t.last recs)) taken (write_rest s g unlimited W done k' (last_pairs t.last recs) (Ends (t.code recs)) put taken b) in
       (taken, d, sym (append-nil (records_from 0 taken)))
   reads recs (rec ∷ rest) k put taken seen list r =
-      let hand : slice_get (g.inputs 0) (length (records_from 0 taken)) ≡ Some rec = ap (λ z. slice_get z (length (records_from 0 taken))) list ∙ at_end (records_from 0 taken) rec rest in
+      let hand : slice_get (g.inputs 0) (length (records_from 0 taken)) ≡ Some rec = ap (λ z. slice_get z (length (records_from 0 taken))) list ∙ get_seam (records_from 0 taken) rec rest in
       let a = subst (λ (z : Plan). Reaches s g unlimited W done seen_it (begins_plan s.ports.has_output [] z) put taken) (plan_is seen_it) (read_one s g unlimited W done k 0 rec put taken r hand) in
       let b = subst (λ z. Reaches s g unlimited W done seen_it (begins_plan s.ports.has_output [] (at_sight order t z 0)) put taken) (ap records_of now_seen ∙ records_all 0 now) a in
       by_halts (t.halts now) b (λ k' put' taken' e l x. reads now rest k' put' taken' e l x)

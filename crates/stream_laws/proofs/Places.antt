@@ -2,6 +2,7 @@
 use Rattle.std.proofs.Common.{◌≡◌, ℕ, Bool, true, false, cond, ◌&&◌, ◌==◌, List, [], ◌∷◌, ◌++◌, length, refl, sym, ◌∙◌, ap, subst, Some, None, slice_get, ℤ, pos, negsuc, append_assoc}
 use Rattle.std.specs.Prelude.{filter}
 use Rattle.std.proofs.lemmas.List.{append-nil}
+use Rattle.std.proofs.lemmas.Bool.{eqb-true}
 use Rattle.pipe_model.specs.declared.net.Strand.{Strand}
 use Rattle.pipe_model.specs.Event.{Event, Want, records_on, taken_from, last_seen_on, has_ended, code_of, puts_on}
 use Rattle.pipe_model.specs.Event.Event.{Up, Saw, SawEnd, Took, Put, Refused, Ended}
@@ -14,11 +15,11 @@ use Rattle.pipe_model.specs.Table.{form}
 use Rattle.pipe_model.specs.Members.{flag_at}
 use Rattle.pipe_model.specs.Next.{Phase, Past, is_live, begins_plan, hears, nothing_known, first_phase, past_by, want_in, wanted_by, next}
 use Rattle.pipe_model.proofs.Pasts.{after, when_asked}
-use Rattle.pipe_model.specs.Next.Phase.{Starting, Doing, Lost}
+use Rattle.pipe_model.proofs.Numbers.{test_same}
+use Rattle.pipe_model.specs.Next.Phase.{Starting, Doing}
 use Rattle.pipe_model.specs.Alone.{Given, takes_more, look_alone, alone_event, IsAllAlone}
 use Rattle.pipe_model.specs.Inputs.{records_from}
 use Rattle.pipe_model.specs.Listed.{IsUnlimited, Puts}
-use Rattle.confluence_laws.proofs.Basics.{test_same, same_number}
 use Rattle.confluence_laws.proofs.Neighbours.{took_count}
 use Rattle.confluence_laws.proofs.Within.{Within, from_start, grows, is_all}
 use Rattle.confluence_laws.proofs.Within.Within.{all}
@@ -84,7 +85,7 @@ module _ (s : Strand) (g : Given) (unlimited : IsUnlimited g) (W : List Event) (
   )
     where
       by_test : (q : ℕ) (b : Bool) → (i == q) ≡ b → taken_from q h ≡ records_from q taken → cond b (taken_from q h ++ last_seen_on q h ∷ []) (taken_from q h) ≡ records_from q taken ++ records_of (cond b ((i, last_on i k.seen) ∷ []) [])
-      by_test q true is e = ap (λ z. z ++ last_seen_on q h ∷ []) e ∙ ap (λ z. records_from q taken ++ z ∷ []) (x.last q ∙ ap (λ z. last_on z k.seen) (sym (same_number i q is)))
+      by_test q true is e = ap (λ z. z ++ last_seen_on q h ∷ []) e ∙ ap (λ z. records_from q taken ++ z ∷ []) (x.last q ∙ ap (λ z. last_on z k.seen) (sym (eqb-true i q is)))
       by_test q false is e = e ∙ sym (append-nil (records_from q taken))
 
   -- it puts all that it is to write to outputs that are connected
@@ -117,7 +118,7 @@ module _ (s : Strand) (g : Given) (unlimited : IsUnlimited g) (W : List Event) (
   )
     where
       by_test : (q : ℕ) (b : Bool) → (i == q) ≡ b → last_seen_on q h ≡ last_on q k.seen → cond (i == q) rec (last_seen_on q h) ≡ last_on q (k.seen ++ (i, rec) ∷ [])
-      by_test q true is e = ap (λ b. cond b rec (last_seen_on q h)) is ∙ subst (λ z. rec ≡ last_on z (k.seen ++ (i, rec) ∷ [])) (same_number i q is) (sym (last_is i k.seen rec))
+      by_test q true is e = ap (λ b. cond b rec (last_seen_on q h)) is ∙ subst (λ z. rec ≡ last_on z (k.seen ++ (i, rec) ∷ [])) (eqb-true i q is) (sym (last_is i k.seen rec))
       by_test q false is e =
           ap (λ b. cond b rec (last_seen_on q h)) is ∙ e
           ∙ ap at_hand_of (sym (on_both q k.seen ((i, rec) ∷ []) ∙ ap (λ b. records_from q k.seen ++ records_of (cond b ((i, rec) ∷ []) [])) is ∙ append-nil (records_from q k.seen)))

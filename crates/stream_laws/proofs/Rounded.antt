@@ -4,6 +4,8 @@ use Rattle.std.specs.Prelude.{filter, find}
 use Rattle.std.proofs.lemmas.Bool.Decides.{nat_tests}
 use Rattle.std.proofs.lemmas.List.Elements.{filter-append}
 use Rattle.std.proofs.lemmas.List.{append-nil}
+use Rattle.std.proofs.lemmas.Bool.{eqb-true}
+use Rattle.std.proofs.Math.Bool.{and-false}
 use Rattle.pipe_model.specs.declared.net.Strand.{Strand}
 use Rattle.pipe_model.specs.Event.{Event}
 use Rattle.pipe_model.specs.Event.Event.{Saw, SawEnd}
@@ -19,9 +21,9 @@ use Rattle.pipe_model.specs.Next.{begins_plan, hears, nothing_known}
 use Rattle.pipe_model.specs.Next.Phase.{Doing}
 use Rattle.pipe_model.specs.Alone.{Given, IsAllAlone}
 use Rattle.pipe_model.specs.Listed.{IsUnlimited}
-use Rattle.confluence_laws.proofs.Neighbours.{length_more}
-use Rattle.confluence_laws.proofs.Within.{at_end, past_end}
-use Rattle.confluence_laws.proofs.Basics.{test_same, same_number}
+use Rattle.pipe_model.proofs.Numbers.{test_same}
+use Rattle.pipe_model.proofs.Lists.{get_seam, length_more}
+use Rattle.confluence_laws.proofs.Within.{past_end}
 use Rattle.stream_laws.proofs.Streams.{on_both, last_on, connected}
 use Rattle.stream_laws.proofs.Sights.{sees_none, sees_some, without_own, without_others, now_own, now_others, finds_it, finds_none, rest_of}
 use Rattle.stream_laws.proofs.Places.{took, Reaches, take_one, write_all, read_one, read_end, begins, IsDone, finish}
@@ -54,11 +56,7 @@ abbrev pub Shows : Known → (ℕ → Records) → ℕ → Type 0
 Shows k left j = IsOver k left j ⊎ IsSeen k left j
 
 pub lacks_not : (k : Known) (left : ℕ → Records) (j : ℕ) → Shows k left j → lacks k.sight k.ends j ≡ false
-lacks_not k left j (inl x) = ap (λ z. not (sees j k.sight) && not z) x.ended ∙ never (not (sees j k.sight))
-  where
-    never : (b : Bool) → (b && false) ≡ false
-    never true = refl
-    never false = refl
+lacks_not k left j (inl x) = ap (λ z. not (sees j k.sight) && not z) x.ended ∙ and-false (not (sees j k.sight))
 lacks_not k left j (inr x) = ap (λ z. not z && not (has k.ends j)) (sees_some j k.sight x.rec [] x.seen)
 
 pub lacks_it : (k : Known) (j : ℕ) → IsOpen k j → lacks k.sight k.ends j ≡ true
@@ -112,7 +110,7 @@ module _ (s : Strand) (g : Given) (unlimited : IsUnlimited g) (W : List Event) (
     pub round_saw : (i : ℕ) (rec : List ℕ) (rest : Records) → find (lacks k.sight k.ends) (all_inputs n) ≡ Some i → left i ≡ rec ∷ rest → At k pairs left → At (hears k (Saw i rec)) pairs left
     round_saw i rec rest next_is list x =
         let l = x.lists i in
-        let hand : slice_get (g.inputs i) (length (records_from i x.taken)) ≡ Some rec = ap (λ z. slice_get z (length (records_from i x.taken))) (l.1 ∙ ap (λ z. l.0 ++ z) list) ∙ ap (slice_get (l.0 ++ rec ∷ rest)) (sym l.2) ∙ at_end l.0 rec rest in
+        let hand : slice_get (g.inputs i) (length (records_from i x.taken)) ≡ Some rec = ap (λ z. slice_get z (length (records_from i x.taken))) (l.1 ∙ ap (λ z. l.0 ++ z) list) ∙ ap (slice_get (l.0 ++ rec ∷ rest)) (sym l.2) ∙ get_seam l.0 rec rest in
         let k' : Known = hears k (Saw i rec) in
         record {
           taken = x.taken;
@@ -159,7 +157,7 @@ module _ (s : Strand) (g : Given) (unlimited : IsUnlimited g) (W : List Event) (
         by_test : (j : ℕ) (b : Bool) → (i == j) ≡ b → (past : Records) × (g.inputs j ≡ past ++ cond b rest (left j)) × (length past ≡ length (records_from j (x.taken ++ (i, last_on i k.seen) ∷ [])))
         by_test j true is =
             let l = x.lists i in
-            let it : i ≡ j = same_number i j is in (
+            let it : i ≡ j = eqb-true i j is in (
               l.0 ++ rec ∷ [],
               ap g.inputs (sym it) ∙ l.1 ∙ ap (λ z. l.0 ++ z) list ∙ sym (append_assoc l.0 (rec ∷ []) rest),
               length_more l.0 rec ∙ ap suc l.2 ∙ sym (length_more (records_from i x.taken) (last_on i k.seen))
@@ -268,7 +266,7 @@ module _ (s : Strand) (g : Given) (unlimited : IsUnlimited g) (W : List Event) (
       fill_from (pairs ++ t.outs f.known) (with_list i own.rest left) n 0 (omega arith) (took i f.known)
       (acts f.known left f.shows i few own pairs f.place takes) (λ j less. absurd (omega arith))
       (λ j le less. elim (cases j) [
-        | inl is ↦ inr (subst (λ z. IsOpen (took i f.known) z) (same_number i j is) (now_open f.known left f.shows i few own))
+        | inl is ↦ inr (subst (λ z. IsOpen (took i f.known) z) (eqb-true i j is) (now_open f.known left f.shows i few own))
         | inr apart ↦ inl (others_still f.known left f.shows i few own j apart (f.shows j less))
       ])
       (λ j le. open_still f.known (took i f.known) j (without_others i j f.known.sight (apart_beyond j le)) refl (f.beyond j le))

@@ -4,10 +4,11 @@ use Rattle.std.specs.Prelude.{find}
 use Rattle.std.specs.List.{range_with_len}
 use Rattle.std.proofs.lemmas.Bool.Decides.{nat_tests}
 use Rattle.std.proofs.lemmas.List.{append-nil}
+use Rattle.std.proofs.lemmas.Bool.{eqb-true}
 use Rattle.pipe_model.specs.Row.{Pair, sees, without}
 use Rattle.pipe_model.specs.Shape.{Records, records_of}
 use Rattle.pipe_model.specs.Inputs.{records_from}
-use Rattle.confluence_laws.proofs.Basics.{test_same, same_number}
+use Rattle.pipe_model.proofs.Numbers.{test_same}
 use Rattle.stream_laws.proofs.Streams.{from, on_both}
 
 -- nothing is in sight where no record is
@@ -52,7 +53,7 @@ without_others i j (p ∷ ps) apart = by_test (p.0 == i) refl (without_others i 
 
     by_test : (b : Bool) → (p.0 == i) ≡ b → records_from j (without i ps) ≡ records_from j ps → records_from j (cond b ps (p ∷ without i ps)) ≡ records_from j (p ∷ ps)
     by_test true is e =
-        let it : (p.0 == j) ≡ false = ap (λ z. z == j) (same_number p.0 i is) ∙ apart in
+        let it : (p.0 == j) ≡ false = ap (λ z. z == j) (eqb-true p.0 i is) ∙ apart in
         sym (ap (λ z. records_of (cond z (p ∷ from j ps) (from j ps))) it)
     by_test false is e = cons (p.0 == j) (from j (without i ps)) (from j ps) e
 

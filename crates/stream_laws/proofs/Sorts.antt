@@ -4,6 +4,7 @@ use Rattle.std.specs.Prelude.{flat_map}
 use Rattle.std.specs.List.{list_all, range_with_len}
 use Rattle.std.proofs.lemmas.Bool.Decides.{nat_tests}
 use Rattle.std.proofs.lemmas.List.Folds.{list_all-append}
+use Rattle.std.proofs.lemmas.Bool.{not-true}
 use Rattle.pipe_model.specs.declared.range.Range.{Range}
 use Rattle.pipe_model.specs.Shape.{Records}
 use Rattle.pipe_model.specs.Ranges.{part_of}
@@ -11,9 +12,9 @@ use Rattle.pipe_model.specs.Keys.{is_less}
 use Rattle.pipe_model.specs.declared.keys.SortKey.{SortKey}
 use Rattle.pipe_model.specs.OrderRows.{goes_before, inserted, sorted}
 use Rattle.pipe_model.specs.Listed.{ascending}
-use Rattle.confluence_laws.proofs.Basics.{test_same, both as and_both}
+use Rattle.pipe_model.proofs.Truths.{both as and_both}
+use Rattle.pipe_model.proofs.Numbers.{test_same}
 use Rattle.stream_laws.proofs.KeyOrder.{same_is}
-use Rattle.stream_laws.proofs.Leasts.{not_true}
 use Rattle.stream_laws.proofs.Rounded.{with_list}
 
 module _ (range : Range) where
@@ -49,7 +50,7 @@ module _ (range : Range) where
   -- a record that none goes before stands first
   inserted_first : (rec : List ℕ) (xs : Records) → list_all (λ x. not (before x rec)) xs ≡ true → inserted keys rec xs ≡ rec ∷ xs
   inserted_first rec [] all = refl
-  inserted_first rec (x ∷ xs) all = ap (λ b. cond b (x ∷ inserted keys rec xs) (rec ∷ x ∷ xs)) (goes_is x rec ∙ not_true (before x rec) (and_both (not (before x rec)) (list_all (λ x. not (before x rec)) xs) all).0)
+  inserted_first rec (x ∷ xs) all = ap (λ b. cond b (x ∷ inserted keys rec xs) (rec ∷ x ∷ xs)) (goes_is x rec ∙ not-true (before x rec) (and_both (not (before x rec)) (list_all (λ x. not (before x rec)) xs) all).0)
 
   -- so the first of the least records of a list is the first of the sorted list
   pub sorted_least : (rec : List ℕ) (xs ys : Records) → list_all (λ x. before rec x) xs ≡ true → list_all (λ y. not (before y rec)) ys ≡ true → sorted keys (xs ++ rec ∷ ys) ≡ rec ∷ sorted keys (xs ++ ys)

@@ -2,12 +2,13 @@
 use Rattle.std.proofs.Common.{◌≡◌, ℕ, Bool, true, false, cond, ◌==◌, List, [], ◌∷◌, ◌++◌, refl, sym, ◌∙◌, ap}
 use Rattle.std.specs.Prelude.{filter}
 use Rattle.std.proofs.lemmas.List.{map-append}
+use Rattle.std.proofs.lemmas.Bool.{eqb-true}
 use Rattle.pipe_model.specs.Row.{Pair}
 use Rattle.pipe_model.specs.Shape.{Records, at_hand_of, records_of}
 use Rattle.pipe_model.specs.Members.{flag_at}
 use Rattle.pipe_model.specs.Inputs.{records_from}
 use Rattle.pipe_model.specs.Counts.{all_on}
-use Rattle.confluence_laws.proofs.Basics.{test_same, same_number}
+use Rattle.pipe_model.proofs.Numbers.{test_same}
 
 -- Streams
 
@@ -74,7 +75,7 @@ on_connected outputs o (p ∷ ps) flag = by_test (p.0 == o) refl (flag_at output
         records_from o (cond (flag_at outputs p.0) (p ∷ connected outputs ps) (connected outputs ps)) ≡ records_of (cond (p.0 == o) (p ∷ from o ps) (from o ps))
     by_test a x true y e = ap (λ z. records_from o (cond z (p ∷ connected outputs ps) (connected outputs ps))) y ∙ more_before (p.0 == o) p (from o (connected outputs ps)) (from o ps) e
     by_test false x false y e = ap (λ z. records_from o (cond z (p ∷ connected outputs ps) (connected outputs ps))) y ∙ e ∙ ap (λ z. records_of (cond z (p ∷ from o ps) (from o ps))) (sym x)
-    by_test true x false y e = (let z : true ≡ false = sym (ap (flag_at outputs) (same_number p.0 o x) ∙ flag) ∙ y in cc)
+    by_test true x false y e = (let z : true ≡ false = sym (ap (flag_at outputs) (eqb-true p.0 o x) ∙ flag) ∙ y in cc)
 
 -- and another one none
 pub on_unconnected : (outputs : List Bool) (o : ℕ) (ps : List Pair) → flag_at outputs o ≡ false → records_from o (connected outputs ps) ≡ []
@@ -85,4 +86,4 @@ on_unconnected outputs o (p ∷ ps) flag = by_test (p.0 == o) refl (flag_at outp
         records_from o (cond (flag_at outputs p.0) (p ∷ connected outputs ps) (connected outputs ps)) ≡ []
     by_test a x false y e = ap (λ z. records_from o (cond z (p ∷ connected outputs ps) (connected outputs ps))) y ∙ e
     by_test false x true y e = ap (λ z. records_from o (cond z (p ∷ connected outputs ps) (connected outputs ps))) y ∙ ap (λ z. records_of (cond z (p ∷ from o (connected outputs ps)) (from o (connected outputs ps)))) x ∙ e
-    by_test true x true y e = (let z : true ≡ false = sym y ∙ ap (flag_at outputs) (same_number p.0 o x) ∙ flag in cc)
+    by_test true x true y e = (let z : true ≡ false = sym y ∙ ap (flag_at outputs) (eqb-true p.0 o x) ∙ flag in cc)

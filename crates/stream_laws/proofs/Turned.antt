@@ -19,8 +19,9 @@ use Rattle.pipe_model.specs.Next.{is_live, begins_plan, hears, nothing_known}
 use Rattle.pipe_model.specs.Next.Phase.{Doing}
 use Rattle.pipe_model.specs.Alone.{Given, IsAllAlone}
 use Rattle.pipe_model.specs.Listed.{IsUnlimited}
-use Rattle.confluence_laws.proofs.Within.{at_end, past_end}
-use Rattle.confluence_laws.proofs.Basics.{test_same}
+use Rattle.pipe_model.proofs.Numbers.{test_same}
+use Rattle.pipe_model.proofs.Lists.{get_seam}
+use Rattle.confluence_laws.proofs.Within.{past_end}
 use Rattle.stream_laws.proofs.Streams.{on_both, last_on, last_is, connected}
 use Rattle.stream_laws.proofs.Places.{took, Reaches, take_one, write_all, write_rest, read_one, read_end, begins, IsDone, finish}
 
@@ -72,7 +73,7 @@ module _ (s : Strand) (g : Given) (unlimited : IsUnlimited g) (W : List Event) (
     -- the next record of the input
     pub turn_saw : (rec : List ℕ) (rest : Records) → g.inputs i ≡ records_from i seen ++ rec ∷ rest → At seen ends pairs → At (seen ++ (i, rec) ∷ []) ends (pairs ++ t.outs (seen ++ (i, rec) ∷ []))
     turn_saw rec rest list (k, x) =
-        let hand : slice_get (g.inputs i) (length (records_from i seen)) ≡ Some rec = ap (λ z. slice_get z (length (records_from i seen))) list ∙ at_end (records_from i seen) rec rest in
+        let hand : slice_get (g.inputs i) (length (records_from i seen)) ≡ Some rec = ap (λ z. slice_get z (length (records_from i seen))) list ∙ get_seam (records_from i seen) rec rest in
         let k' : Known = hears k (Saw i rec) in
         let now : k'.seen ≡ seen ++ (i, rec) ∷ [] = ap (λ z. z ++ (i, rec) ∷ []) x.saw in
         let a = subst (λ (z : Plan). Reaches s g unlimited W done k' (begins_plan s.ports.has_output [] z) (connected s.ports.has_output pairs) seen) (plan_is k') (read_one s g unlimited W done k i rec (connected s.ports.has_output pairs) seen (asks_it k x) hand) in

@@ -1,7 +1,7 @@
 use Rattle.std.proofs.Common.{◌≡◌, true, Some, slice_get, slice_set, sym, ◌∙◌, ap}
+use Rattle.std.proofs.lemmas.Option.{slice_get_within}
 use Rattle.std.specs.Prelude.{Result, Ok, Err, IfOk}
 use Rattle.std.specs.Result.{is_err}
-use Rattle.confluence_laws.proofs.Basics.{at_place}
 use Rattle.core_machine.specs.declared.actor.Actor.{Actor}
 use Rattle.core_machine.proofs.Tales.{read_there}
 use Rattle.core_machine.proofs.actor.resume_at.Goals as goal
@@ -13,7 +13,7 @@ none_ok P (Err x) e = tt
 pub returns-in_err-actor : goal.returns-in_err-actor
 returns-in_err-actor g c =
     let a = c.index_mut-actor.result.now in
-    let at : slice_get c.args.actors.now.items c.args.strand ≡ Some a = read_there c.args.actors.now.items c.args.strand a (at_place c.args.actors.now.items c.args.strand c.requires.2) c.index_mut-actor.ensures.value in (
+    let at : slice_get c.args.actors.now.items c.args.strand ≡ Some a = read_there c.args.actors.now.items c.args.strand a (slice_get_within c.args.actors.now.items c.args.strand _ c.requires.2) c.index_mut-actor.ensures.value in (
       a,
       c.in-Some.stage,
       c.resume.new.self,
@@ -27,7 +27,7 @@ returns-in_err-actor g c =
 pub returns : goal.returns
 returns g c =
     let a = c.index_mut-actor.result.now in
-    let at : slice_get c.args.actors.now.items c.args.strand ≡ Some a = read_there c.args.actors.now.items c.args.strand a (at_place c.args.actors.now.items c.args.strand c.requires.2) c.index_mut-actor.ensures.value in (
+    let at : slice_get c.args.actors.now.items c.args.strand ≡ Some a = read_there c.args.actors.now.items c.args.strand a (slice_get_within c.args.actors.now.items c.args.strand _ c.requires.2) c.index_mut-actor.ensures.value in (
       a,
       c.in-Some.stage,
       c.resume.new.self,

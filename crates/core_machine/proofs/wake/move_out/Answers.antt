@@ -1,10 +1,10 @@
 -- Whom the turn concerns was woken, and it settled nothing for others.
 use Rattle.std.proofs.Common.{◌≡◌, inl, ◌&&◌, ◌||◌, not, refl, sym, ◌∙◌, ap, subst, is_some, true, false, slice_get, pos, negsuc}
+use Rattle.pipe_model.proofs.Truths.{neither}
 use Rattle.run_desk.specs.Desk.{DeskState}
 use Rattle.run_desk.specs.Moves.{made, ends, sees}
 use Rattle.run_desk.specs.Pure as Pure
 use Rattle.core_machine.specs.Woken.{IsCovering, may_settle}
-use Rattle.core_machine.proofs.Away.{neither}
 use Rattle.core_machine.proofs.Outs.{covers_out, was_settled}
 use Rattle.core_machine.proofs.wake.move_out.Goals as goal
 

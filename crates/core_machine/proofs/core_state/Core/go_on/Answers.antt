@@ -1,10 +1,10 @@
 -- The strand goes on in place: the core is sound after it.
 use Rattle.std.proofs.Common.{rules, ◌≡◌, ◌<◌, suc, Bool, true, false, Some, List, [], ◌∷◌, ◌++◌, length, length-set, slice_get, slice_set, is_some, refl, sym, ◌∙◌, ap, subst}
+use Rattle.std.proofs.lemmas.Option.{slice_get_within}
 use Rattle.pipe_model.specs.declared.step.Entry.{Entry}
 use Rattle.pipe_model.specs.Play.{play}
 use Rattle.record_pool.specs.Places.{bytes_at}
 use Rattle.run_desk.specs.Moves.{CanCome, bare}
-use Rattle.confluence_laws.proofs.Basics.{at_place}
 use Rattle.core_machine.specs.Actors.{gone_on, given_up, asking_for, looks_in, bytes_told}
 use Rattle.core_machine.specs.Machine.{Machine, left_by, licence_of, looks_at, IsLawful}
 use Rattle.core_machine.specs.Sound.{IsSound}

@@ -1,9 +1,9 @@
 -- The words and their summary are filled.
 use Rattle.std.proofs.Common.{◌≡◌, ◌<◌, ◌==◌, sym, ap, subst, true}
+use Rattle.std.proofs.lemmas.Bool.{eqb-true}
 use Rattle.core_machine.specs.Members.{Members, is_member, has}
 use Rattle.core_machine.proofs.Fills.{filled_below, filled_bits}
 use Rattle.core_machine.proofs.Summaries.{least_inside}
-use Rattle.confluence_laws.proofs.Basics.{same_number}
 use Rattle.core_machine.proofs.ready.Ready.insert_all.Goals as goal
 
 pub invariant_of-self : goal.invariant_of-self
@@ -14,7 +14,7 @@ invariant_of-self c =
 -- who was in is below the size
 pub returns-clause-more : goal.returns-clause-more
 returns-clause-more c = λ t held.
-    let before : has c.self.inside.members t ≡ 1 = same_number (has c.self.inside.members t) 1 (subst (λ (z : Members). is_member z t ≡ true) (sym c.self.view_is) held) in
+    let before : has c.self.inside.members t ≡ 1 = eqb-true (has c.self.inside.members t) 1 (subst (λ (z : Members). is_member z t ≡ true) (sym c.self.view_is) held) in
     let below : t < c.self.inside.size = least_inside c.self.inside.size c.self.inside.members c.self.inside.summary t c.self.invariant before in
     ap (λ z. z == 1) (filled_below c.fill.new.self c.self.inside.size c.fill.ensures.words t below)
 

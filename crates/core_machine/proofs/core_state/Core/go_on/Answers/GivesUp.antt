@@ -1,8 +1,8 @@
 -- A strand whose coroutine wanted memory, in place or as it came home, is given up: the core is sound, and broken.
 use Rattle.std.proofs.Common.{rules, ◌≡◌, ◌<◌, suc, true, Some, [], ◌∷◌, ◌++◌, length, length-set, slice_get, slice_set, arith, refl, sym, ◌∙◌, ap, subst}
+use Rattle.std.proofs.lemmas.Option.{slice_get_within}
 use Rattle.pipe_model.specs.Play.{play}
 use Rattle.record_pool.specs.Places.{bytes_at}
-use Rattle.confluence_laws.proofs.Basics.{at_place}
 use Rattle.core_machine.specs.Actors.{asking_for, gone_on, given_up}
 use Rattle.core_machine.specs.Machine.{Machine, left_by, licence_of, IsLawful}
 use Rattle.core_machine.specs.Sound.{IsSound}
@@ -16,7 +16,7 @@ actor_there g c =
     let i = c.self.inside in
     let on = c.resume_at.ensures in
     let longer : length c.resume_at.new.actors.items ≡ length i.actors.items = ap length on.6 ∙ length-set i.actors.items c.args.strand (gone_on c.args.seen on.2 on.3 on.0) in
-    let below : c.args.strand < length i.actors.items = at_place i.actors.items c.args.strand on.4 in
+    let below : c.args.strand < length i.actors.items = slice_get_within i.actors.items c.args.strand _ on.4 in
     omega (arith, longer, below)
 
 pub sound_broken : goal.invariant_of-self
@@ -78,7 +78,7 @@ actor_there_home g c =
     let i = c.self.inside in
     let on = c.resume_at.ensures in
     let longer : length c.resume_at.new.actors.items ≡ length i.actors.items = ap length on.6 ∙ length-set i.actors.items c.args.strand (gone_on c.args.seen on.2 on.3 on.0) in
-    let below : c.args.strand < length i.actors.items = at_place i.actors.items c.args.strand on.4 in
+    let below : c.args.strand < length i.actors.items = slice_get_within i.actors.items c.args.strand _ on.4 in
     omega (arith, longer, below)
 
 pub actor_there_still : goal.give_up-requires-in_default-bring_back-clause-there
@@ -88,7 +88,7 @@ actor_there_still g c =
     let came = c.bring_back.ensures.actors in
     let longer : length c.resume_at.new.actors.items ≡ length i.actors.items = ap length on.6 ∙ length-set i.actors.items c.args.strand (gone_on c.args.seen on.2 on.3 on.0) in
     let still : length c.bring_back.new.actors.items ≡ length c.resume_at.new.actors.items = ap length came.3 ∙ length-set c.resume_at.new.actors.items c.args.strand (asking_for came.1 came.0) in
-    let below : c.args.strand < length i.actors.items = at_place i.actors.items c.args.strand on.4 in
+    let below : c.args.strand < length i.actors.items = slice_get_within i.actors.items c.args.strand _ on.4 in
     omega (arith, longer, still, below)
 
 pub sound_broken_home : goal.invariant_of-self-in_default-bring_back
