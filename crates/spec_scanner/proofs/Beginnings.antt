@@ -2,7 +2,7 @@
 use Rattle.std.proofs.Common.{◌≡◌, ◌≢◌, ℕ, suc, ◌+◌, ◌-◌, ◌≤◌, List, [], ◌∷◌, ◌++◌, length, get_or, replicate, take, drop, refl, sym, ap, ◌∙◌, subst, arith, Option, Some, None, inl, inr, length-append, length-drop}
 use Rattle.std.proofs.lemmas.List.{length-replicate, take_rest}
 use Rattle.bstr.specs.Find.{IsFirstByte, is_byte}
-use Rattle.stage_syntax.specs.Words.{IsUnblanked}
+use Rattle.pipe_model.specs.Words.{IsUnblanked}
 use Rattle.stage_syntax.proofs.Delimiters.{not_nowhere, not_before}
 use Rattle.spec_scanner.specs.declared.fault.Fault.{Fault}
 use Rattle.spec_scanner.specs.declared.settings.OptionsRead.{OptionsRead}

@@ -1,7 +1,7 @@
 -- The words of the options, as they are read.
 use Rattle.std.proofs.Common.{◌≡◌, ◌≢◌, ℕ, ◌+◌, ◌-◌, ◌<◌, List, [], ◌∷◌, ◌++◌, length, get_or, replicate, refl, sym, ap, ◌∙◌, subst, arith, Some, None, length-append}
 use Rattle.std.proofs.lemmas.List.{append-nil, append_assoc, get_or_default, length-replicate}
-use Rattle.stage_syntax.specs.Words.{IsFirstWord, IsUnblanked}
+use Rattle.pipe_model.specs.Words.{IsFirstWord, IsUnblanked}
 use Rattle.spec_scanner.specs.declared.settings.OptionsRead.{OptionsRead}
 use Rattle.spec_scanner.specs.Options.{AreWords, IsWordAt, Pair, Word, pairs_of}
 use Rattle.spec_scanner.specs.Settings.{IsReadOf}

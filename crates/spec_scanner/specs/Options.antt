@@ -5,7 +5,7 @@ use Rattle.std.specs.Str.{bytes_eq, str_to_ascii_lowercase}
 use Rattle.std.specs.List.{Contains, flat_map, list_any}
 use Rattle.std.specs.declared.option.Option.{Option}
 use Rattle.std.specs.declared.option.Option.TheVariants.{Some, None}
-use Rattle.stage_syntax.specs.Words.{IsFirstWord, IsUnblanked}
+use Rattle.pipe_model.specs.Words.{IsFirstWord, IsUnblanked}
 use Rattle.spec_scanner.specs.declared.fault.Fault.{Fault}
 use Rattle.spec_scanner.specs.declared.signs.Signs.{Signs}
 use Rattle.spec_scanner.specs.declared.signs.Choice.{Choice}

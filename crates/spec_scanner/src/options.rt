@@ -1,5 +1,5 @@
 ghost use Rattle.std.specs.Prelude.{◌≡◌, ◌+◌, ◌≤◌, [], List, MatchOption, length};
-ghost use Rattle.stage_syntax.specs.Words.{IsUnblanked};
+ghost use Rattle.pipe_model.specs.Words.{IsUnblanked};
 ghost use Rattle.spec_scanner.specs.Faults.{IsLeastSo};
 ghost use Rattle.spec_scanner.specs.Options as Options;
 ghost use Rattle.spec_scanner.specs.OptionWords.{word_of};
@@ -10,7 +10,7 @@ use crate::option_words::OptionWord;
 use crate::settings::{OptionsRead, least_with_clashes, nothing_read, read_pair, signs_of};
 use crate::signs::Signs;
 use bstr::ByteSlice;
-use stage_syntax::{first_word, without_blanks};
+use pipe_model::{first_word, without_blanks};
 
 /// How a text begins: the characters in force, the place of its body, and the least fault of its options.
 #[derive(Clone, Copy)]

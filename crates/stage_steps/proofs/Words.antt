@@ -1,12 +1,14 @@
 -- The words of a record, from its front on.
-use Rattle.std.proofs.Common.{◌≡◌, ◌≢◌, ◌⊎◌, inl, inr, ⊎_elim, ℕ, zero, suc, ◌+◌, ◌-◌, ◌<◌, ◌≤◌, Bool, true, false, cond, not, nat_lt, List, [], ◌∷◌, length, take, drop, refl, sym, ◌∙◌, ap, subst, arith, length-drop, Option, Some, None}
+use Rattle.std.proofs.Common.{◌≡◌, ◌≢◌, ◌⊎◌, inl, inr, ⊎_elim, ℕ, zero, suc, ◌+◌, ◌-◌, ◌<◌, ◌≤◌, Bool, true, false, cond, not, List, [], ◌∷◌, ◌++◌, length, take, drop, get_or, replicate, refl, sym, ◌∙◌, ap, subst, arith, length-drop}
 use Rattle.std.specs.Prelude.{◌==◌, if◌then◌else◌}
-use Rattle.std.specs.List.{position, position_or_len}
+use Rattle.std.specs.List.{Contains, position_or_len}
 use Rattle.std.proofs.lemmas.Bool.{cases_lt, ne_eqb, eq-eqb}
 use Rattle.std.proofs.lemmas.Bool.Decides.{nat_tests}
 use Rattle.std.proofs.lemmas.List.{take_all, drop_all, drop-drop}
+use Rattle.std.proofs.lemmas.List.Elements.{Contains-append_right}
 use Rattle.std.proofs.lemmas.List.Sums.{prefix_len-le-length}
 use Rattle.pipe_model.specs.Ranges.{Place, onto_word, words_from, spanned, words_spanned}
+use Rattle.pipe_model.specs.Words.{IsFirstWord, IsUnblanked}
 use Rattle.stage_steps.specs.Parts.{WordsBehind}
 
 abbrev pub blanks : List ℕ → ℕ
@@ -15,26 +17,49 @@ blanks text = position_or_len (λ b. not (b == 32)) text
 abbrev pub letters : List ℕ → ℕ
 letters text = position_or_len (λ b. b == 32) text
 
--- What a search says
-
-found : (k n : ℕ) (within : Bool) (at : ℕ) → cond within (Some k) None ≡ Some at → at ≡ k
-found k n true at e = cc
-found k n false at e = cc
-
-pub position_some : (p : ℕ → Bool) (text : List ℕ) (at : ℕ) → position p text ≡ Some at → at ≡ position_or_len p text
-position_some p text at e = found (position_or_len p text) (length text) (nat_lt (position_or_len p text) (length text)) at e
-
-missed : (k n : ℕ) (within : Bool) → nat_lt k n ≡ within → k ≤ n → ◌≡◌ {A = Option ℕ} (cond within (Some k) None) None → n ≡ k
-missed k n true is le e = cc
-missed k n false is le e = grind (arith, nat_tests)
-
-pub position_none : (p : ℕ → Bool) (text : List ℕ) → position p text ≡ None → length text ≡ position_or_len p text
-position_none p text e = missed (position_or_len p text) (length text) (nat_lt (position_or_len p text) (length text)) refl (prefix_len-le-length (λ x. not (p x)) text) e
-
--- Blanks
+-- What the walks over blanks and over a word say
 
 one_more : (n : ℕ) → 1 + n ≡ suc n
 one_more n = omega arith
+
+differs : (a b : ℕ) → a ≢ b → (a == b) ≡ false
+differs a b p = grind (arith, nat_tests)
+
+equals : (a b : ℕ) → a ≡ b → (a == b) ≡ true
+equals a b p = grind (arith, nat_tests)
+
+no_blank_first : (rest : List ℕ) → get_or rest 0 0 ≢ 32 → blanks rest ≡ 0
+no_blank_first [] other = refl
+no_blank_first (b ∷ rest) other = ap (λ c. cond (not (not c)) (1 + blanks rest) 0) (differs b 32 other)
+
+past_replicated : (n : ℕ) (rest : List ℕ) → get_or rest 0 0 ≢ 32 → rest ≡ drop (blanks (replicate n 32 ++ rest)) (replicate n 32 ++ rest)
+past_replicated zero rest other = sym (ap (λ k. drop k rest) (no_blank_first rest other))
+past_replicated (suc n) rest other =
+    let text = replicate n 32 ++ rest in
+    past_replicated n rest other ∙ ap (λ k. drop k (32 ∷ text)) (sym (one_more (blanks text)))
+
+-- what the walk over blanks leaves
+pub behind_blanks : (text rest : List ℕ) → IsUnblanked text rest → rest ≡ drop (blanks text) text
+behind_blanks text rest is = past_replicated is.blanks rest is.other ∙ ap (λ l. drop (blanks l) l) (sym is.spells)
+
+no_letter_first : (rest : List ℕ) → get_or rest 0 32 ≡ 32 → letters rest ≡ 0
+no_letter_first [] stops = refl
+no_letter_first (b ∷ rest) stops = ap (λ c. cond (not c) (1 + letters rest) 0) (equals b 32 stops)
+
+past_whole : (word rest : List ℕ) → ¬ Contains word 32 → get_or rest 0 32 ≡ 32 → rest ≡ drop (letters (word ++ rest)) (word ++ rest)
+past_whole [] rest whole stops = sym (ap (λ k. drop k rest) (no_letter_first rest stops))
+past_whole (b ∷ word) rest whole stops =
+    let text = word ++ rest in
+    let other : b ≢ 32 = λ is. whole (0, omega arith, is) in
+    past_whole word rest (λ found. whole (Contains-append_right (b ∷ []) word 32 found)) stops
+    ∙ ap (λ k. drop k (b ∷ text)) (sym (one_more (letters text)))
+    ∙ ap (λ c. drop (cond (not c) (1 + letters text) 0) (b ∷ text)) (sym (differs b 32 other))
+
+-- what the walk over a word leaves
+pub behind_first_word : (text word rest : List ℕ) → IsFirstWord text word rest → rest ≡ drop (letters text) text
+behind_first_word text word rest first = past_whole word rest first.whole first.stops ∙ ap (λ l. drop (letters l) l) (sym first.spells)
+
+-- Blanks
 
 move : (at at' n n' : ℕ) (text : List ℕ) → at ≡ at' → n ≡ n' → words_from at (drop n text) ≡ words_from at' (drop n' text)
 move at at' n n' text e f = ap (λ k. words_from k (drop n text)) e ∙ ap (λ k. words_from at' (drop k text)) f

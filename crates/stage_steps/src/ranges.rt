@@ -1,12 +1,12 @@
 ghost use Rattle.std.specs.Prelude.{◌≡◌, ◌==◌, ◌+◌, ◌-◌, ◌<◌, Option, ℕ, List, drop, take, not};
-ghost use Rattle.std.specs.List.{slice_split, join_with_byte, position, position_or_len};
+ghost use Rattle.std.specs.List.{slice_split, join_with_byte, position_or_len};
 ghost use Rattle.pipe_model.specs.Ranges.{between, cut_by, part_of, words_from, words_spanned};
 ghost use Rattle.pipe_model.specs.declared.range.Span.TheVariants.{Words, Fields};
 ghost use Rattle.stage_steps.specs.Parts.{AreBehind, WordsBehind};
 
 use crate::slices::{behind, front};
 use bstr::ByteSlice;
-use pipe_model::{Range, Span};
+use pipe_model::{Range, Span, first_word, without_blanks};
 
 // How many members a range has, which may be more than there are.
 fn width(first: u32, last: u32) -> usize
@@ -75,54 +75,6 @@ fn fields(rec: &[u8], first: u32, last: Option<u32>) -> &[u8]
     }
 }
 
-// Where its first byte is that is no blank.
-fn first_letter(text: &[u8]) -> Option<usize>
-    ensures { result ≡ position (λ b. not (b == 32)) text.now }
-{
-    text.iter().position(|b| *b != b' ')
-}
-
-// How many blanks it begins with.
-fn blanks(text: &[u8]) -> usize
-    ensures { result ≡ position_or_len (λ b. not (b == 32)) text.now }
-{
-    match first_letter(text) {
-        Some(k) => k,
-        None => text.len(),
-    }
-}
-
-// Where its first blank is.
-fn first_blank(text: &[u8]) -> Option<usize>
-    ensures { result ≡ position (λ b. b == 32) text.now }
-{
-    text.iter().position(|b| *b == b' ')
-}
-
-// How many other bytes it begins with.
-fn letters(text: &[u8]) -> usize
-    ensures { result ≡ position_or_len (λ b. b == 32) text.now }
-{
-    match first_blank(text) {
-        Some(k) => k,
-        None => text.len(),
-    }
-}
-
-// From its first word on.
-fn from_word(text: &[u8]) -> &[u8]
-    ensures { result.now ≡ drop (position_or_len (λ b. not (b == 32)) text.now) text.now }
-{
-    behind(text, blanks(text))
-}
-
-// What stands behind a word that it begins with.
-fn behind_word(text: &[u8]) -> &[u8]
-    ensures { result.now ≡ drop (position_or_len (λ b. b == 32) text.now) text.now }
-{
-    behind(text, letters(text))
-}
-
 // What stands behind the first words.
 fn behind_words(rec: &[u8], count: usize) -> &[u8]
     ensures { WordsBehind count rec.now result.now }
@@ -132,7 +84,7 @@ fn behind_words(rec: &[u8], count: usize) -> &[u8]
         if rest.is_empty() {
             return rest;
         }
-        rest = behind_word(from_word(rest));
+        rest = first_word(without_blanks(rest)).1;
     }
     rest
 }
@@ -144,11 +96,11 @@ fn front_words(text: &[u8], count: usize) -> &[u8]
 {
     let mut rest = text;
     for _ in 0..count {
-        let word = from_word(rest);
+        let word = without_blanks(rest);
         if word.is_empty() {
             return front(text, text.len() - rest.len());
         }
-        rest = behind_word(word);
+        rest = first_word(word).1;
     }
     front(text, text.len() - rest.len())
 }
@@ -157,7 +109,7 @@ fn front_words(text: &[u8], count: usize) -> &[u8]
 fn words(rec: &[u8], first: u32, last: Option<u32>) -> &[u8]
     ensures { result.now ≡ cut_by Words first last rec.now }
 {
-    let text = from_word(behind_words(rec, first.saturating_sub(1) as usize));
+    let text = without_blanks(behind_words(rec, first.saturating_sub(1) as usize));
     match last {
         None => front_words(text, text.len()),
         Some(last) => front_words(text, width(first, last)),

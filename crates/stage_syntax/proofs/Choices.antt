@@ -5,7 +5,7 @@ use Rattle.std.proofs.lemmas.List.{take_all}
 use Rattle.stage_syntax.proofs.OneParts.{misfit_is_not}
 use Rattle.stage_syntax.proofs.Passed.{blanks_passed}
 use Rattle.stage_syntax.specs.Parts.{BeginsNone, BeginsNot, IsFirstMisfit, IsFirstPart, IsNext, IsNoPart, IsNone, IsNot, IsPart, IsPartMisfit, fault_of, fault_of_last}
-use Rattle.stage_syntax.specs.Words.{IsUnblanked}
+use Rattle.pipe_model.specs.Words.{IsUnblanked}
 use Rattle.stage_syntax.specs.declared.part.Part.{Part}
 use Rattle.stage_syntax.specs.declared.part.TextFault.{TextFault}
 use Rattle.stage_syntax.specs.declared.part.Value.{Value}

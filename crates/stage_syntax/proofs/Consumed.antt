@@ -7,7 +7,7 @@ use Rattle.stage_syntax.specs.Parts.{AreTimes, IsFirstPart, IsNext, IsPart}
 use Rattle.stage_syntax.specs.PairsOfStrings.{AreStrings, IsAnyString}
 use Rattle.stage_syntax.specs.RangeWords.{IsRange}
 use Rattle.stage_syntax.specs.Strings.{IsDelimited, IsHexadecimalWord, IsString}
-use Rattle.stage_syntax.specs.Words.{IsFirstWord, IsUnblanked}
+use Rattle.pipe_model.specs.Words.{IsFirstWord, IsUnblanked}
 use Rattle.stage_syntax.specs.declared.part.Part.{Part}
 use Rattle.stage_syntax.specs.declared.part.Part.TheVariants as Asked
 use Rattle.stage_syntax.specs.declared.part.Value.{Value}

@@ -6,7 +6,7 @@ use Rattle.stage_syntax.specs.Bounds.{IsRangeOf, IsMisfit}
 use Rattle.stage_syntax.specs.Numbers.{IsNumber, decimal}
 use Rattle.stage_syntax.specs.Ranges.{IsSpelling}
 use Rattle.stage_syntax.specs.Strings.{IsHexadecimal}
-use Rattle.stage_syntax.specs.Words.{IsUnblanked}
+use Rattle.pipe_model.specs.Words.{IsUnblanked}
 use Rattle.stage_syntax.specs.declared.bounds.Misfit.TheVariants.{Second, Reversed}
 use Rattle.stage_syntax.specs.declared.ranges.Ending.TheVariants.{To, Long}
 

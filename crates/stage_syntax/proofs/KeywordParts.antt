@@ -1,9 +1,9 @@
 -- Keywords as parts.
 use Rattle.std.proofs.Common.{◌≡◌, ℕ, List, refl, ap, ◌∙◌}
 use Rattle.std.specs.Str.{str_to_ascii_lowercase}
-use Rattle.stage_syntax.proofs.FirstWords.{same_word}
+use Rattle.pipe_model.proofs.FirstWords.{same_word}
 use Rattle.stage_syntax.specs.Keywords.{IsKeyword, spelling_of}
-use Rattle.stage_syntax.specs.Words.{IsFirstWord}
+use Rattle.pipe_model.specs.Words.{IsFirstWord}
 use Rattle.stage_syntax.specs.declared.part.Word.{Word}
 use Rattle.stage_syntax.specs.declared.part.Word.TheVariants as Keys
 

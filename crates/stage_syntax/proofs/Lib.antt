@@ -1,11 +1,10 @@
-pub mod Blanks
 pub mod ByteParts
 pub mod Choices
 pub mod Consumed
 pub mod DelimitedParts
 pub mod Delimiters
 pub mod Examples
-pub mod FirstWords
+pub mod BadHex
 pub mod KeywordParts
 pub mod Letters
 pub mod Misfits

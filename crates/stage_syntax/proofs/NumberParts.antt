@@ -2,7 +2,7 @@
 use Rattle.std.proofs.Common.{◌≡◌, ℕ, ◌≤◌, List, [], ◌∷◌, length, refl, ap, subst, arith}
 use Rattle.pipe_model.specs.declared.kind.Times.{Times}
 use Rattle.pipe_model.specs.declared.kind.Times.TheVariants.{Only, All}
-use Rattle.stage_syntax.proofs.FirstWords.{same_rest, same_word}
+use Rattle.pipe_model.proofs.FirstWords.{same_rest, same_word}
 use Rattle.stage_syntax.proofs.OneSpellings.{one_value}
 use Rattle.stage_syntax.specs.Keywords.{IsKeyword}
 use Rattle.stage_syntax.specs.NamesOfFiles.{IsName, IsNameMisfit}

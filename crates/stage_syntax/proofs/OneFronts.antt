@@ -1,20 +1,9 @@
--- What stands after blanks, and what a word before a range says, is one.
-use Rattle.std.proofs.Common.{◌≡◌, ℕ, List, [], ◌++◌, get_or, replicate, zero, suc, codes, refl, sym, ap, ◌∙◌, arith, inl, inr}
+-- What a word before a range says is one.
+use Rattle.std.proofs.Common.{◌≡◌, ℕ, List, [], get_or, codes, refl, ap, arith, inl, inr}
 use Rattle.std.specs.Str.{str_to_ascii_lowercase}
 use Rattle.pipe_model.specs.declared.range.Span.{Span}
 use Rattle.pipe_model.specs.declared.range.Span.TheVariants.{Columns, Words, Fields}
 use Rattle.stage_syntax.specs.SpanNames.{IsSpanName}
-use Rattle.stage_syntax.specs.Words.{IsUnblanked}
-
--- what stands after blanks is determined
-same_front : (n m : ℕ) (a b : List ℕ) → ¬ (get_or a 0 0 ≡ 32) → ¬ (get_or b 0 0 ≡ 32) → replicate n 32 ++ a ≡ replicate m 32 ++ b → a ≡ b
-same_front zero zero a b other other_b same = same
-same_front zero (suc m) a b other other_b same = absurd (other (ap (λ bytes. get_or bytes 0 0) same))
-same_front (suc n) zero a b other other_b same = absurd (other_b (ap (λ bytes. get_or bytes 0 0) (sym same)))
-same_front (suc n) (suc m) a b other other_b same = let tails : replicate n 32 ++ a ≡ replicate m 32 ++ b = cc in same_front n m a b other other_b tails
-
-pub one_front : (text a b : List ℕ) → IsUnblanked text a → IsUnblanked text b → a ≡ b
-one_front text a b first second = same_front first.blanks second.blanks a b first.other second.other (sym first.spells ∙ second.spells)
 
 -- a word that says what is counted isn't empty
 pub no_empty_name : (span : Span) → ¬ IsSpanName [] span

@@ -2,14 +2,14 @@
 use Rattle.std.proofs.Common.{◌≡◌, ℕ, ◌<◌, List, [], ◌∷◌, length, sym, ap, ◌∙◌, arith, subst, inl, inr}
 use Rattle.stage_syntax.proofs.ByteParts.{byte_faultless, one_byte, one_byte_misfit}
 use Rattle.stage_syntax.proofs.NumberParts.{name_faultless, number_faultless, one_keyword, one_name, one_number, one_times, times_faultless}
-use Rattle.stage_syntax.proofs.OneFronts.{one_front}
+use Rattle.pipe_model.proofs.Blanks.{one_front}
 use Rattle.stage_syntax.proofs.OneRanges.{no_range_misfit, one_range, one_range_misfit}
 use Rattle.stage_syntax.proofs.OneStrings.{one_string}
 use Rattle.stage_syntax.proofs.Outcomes.{no_fault}
 use Rattle.stage_syntax.proofs.StringPairs.{one_pair, one_pair_misfit, pair_faultless}
 use Rattle.stage_syntax.proofs.StringParts.{any_string_faultless, one_any_misfit, one_any_string, one_string_misfit}
 use Rattle.stage_syntax.specs.Parts.{BeginsNone, IsAtEnd, IsFirstMisfit, IsFirstPart, IsMisfitOf, IsNext, IsNoNext, IsNone, IsNot, IsPart, IsPartMisfit}
-use Rattle.stage_syntax.specs.Words.{IsUnblanked}
+use Rattle.pipe_model.specs.Words.{IsUnblanked}
 use Rattle.stage_syntax.specs.declared.part.Part.{Part}
 use Rattle.stage_syntax.specs.declared.part.Part.TheVariants as Asked
 use Rattle.stage_syntax.specs.declared.part.TextFault.{TextFault}

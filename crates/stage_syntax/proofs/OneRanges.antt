@@ -4,15 +4,16 @@ use Rattle.std.proofs.lemmas.List.Elements.{All-nil}
 use Rattle.pipe_model.specs.declared.range.Range.{Range}
 use Rattle.pipe_model.specs.declared.range.Span.{Span}
 use Rattle.pipe_model.specs.declared.range.Span.TheVariants.{Columns}
-use Rattle.stage_syntax.proofs.FirstWords.{same_rest, same_word}
+use Rattle.pipe_model.proofs.FirstWords.{same_rest, same_word}
 use Rattle.stage_syntax.proofs.Letters.{IsOther, name_others, one_split, spelling_begins}
-use Rattle.stage_syntax.proofs.OneFronts.{no_empty_name, one_front, one_span}
+use Rattle.pipe_model.proofs.Blanks.{one_front}
+use Rattle.stage_syntax.proofs.OneFronts.{no_empty_name, one_span}
 use Rattle.stage_syntax.proofs.OneSpellings.{no_range_fault, one_plain_range, one_range_fault, spelling_filled}
 use Rattle.stage_syntax.specs.PlainRanges.{IsPlainRange, IsRangeFault}
 use Rattle.stage_syntax.specs.Ranges.{IsSpelling}
 use Rattle.stage_syntax.specs.RangeWords.{IsApart, IsJoined, IsNumberless, IsRange, IsRangeMisfit, IsRangeless, fault_in}
 use Rattle.stage_syntax.specs.SpanNames.{IsSpanName}
-use Rattle.stage_syntax.specs.Words.{IsFirstWord, IsUnblanked}
+use Rattle.pipe_model.specs.Words.{IsFirstWord, IsUnblanked}
 use Rattle.stage_syntax.specs.declared.fault.FaultKind.TheVariants.{NotANumber}
 use Rattle.stage_syntax.specs.declared.part.TextFault.{TextFault}
 use Rattle.stage_syntax.specs.declared.ranges.Spelling.{Spelling}

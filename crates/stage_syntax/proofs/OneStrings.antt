@@ -3,7 +3,7 @@ use Rattle.std.proofs.Common.{◌≡◌, ℕ, List, [], ◌∷◌, ◌++◌, get
 use Rattle.std.specs.List.{Contains}
 use Rattle.std.proofs.lemmas.List.Elements.{Contains-append_right}
 use Rattle.hex.specs.Hex.{decode_of}
-use Rattle.stage_syntax.proofs.FirstWords.{same_rest, same_word}
+use Rattle.pipe_model.proofs.FirstWords.{same_rest, same_word}
 use Rattle.stage_syntax.proofs.Outcomes.{delimited_front, hexadecimal_front, no_front, not_unclosed}
 use Rattle.stage_syntax.specs.Parts.{IsOfStrings}
 use Rattle.stage_syntax.specs.Strings.{IsDelimited, IsHexadecimalWord, IsNoString, IsString}

@@ -15,7 +15,7 @@ use Rattle.stage_syntax.proofs.StringPairs.{first_delimited}
 use Rattle.stage_syntax.specs.PairsOfStrings.{AreDelimited, AreMisfits, AreStrings, AreUnclosed, IsAnyString, IsAnyStringMisfit}
 use Rattle.stage_syntax.specs.Refusals.{Refuses}
 use Rattle.stage_syntax.specs.Strings.{IsDelimited, IsHexadecimalWord, IsOtherWord, IsUnclosed}
-use Rattle.stage_syntax.specs.Words.{IsUnblanked}
+use Rattle.pipe_model.specs.Words.{IsUnblanked}
 use Rattle.stage_syntax.specs.declared.fault.FaultKind.TheVariants.{Missing, UnknownWord}
 use Rattle.stage_syntax.specs.declared.refusal.Refusal.{Refusal}
 use Rattle.stage_syntax.specs.declared.refusal.Refusal.TheVariants.{Fault, NoMemory}

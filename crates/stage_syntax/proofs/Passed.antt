@@ -1,7 +1,7 @@
 -- What is left of a text after bytes at its front.
 use Rattle.std.proofs.Common.{◌≡◌, ℕ, ◌+◌, ◌-◌, List, ◌++◌, length, drop, replicate, refl, sym, ap, ◌∙◌, arith, length-append}
 use Rattle.std.proofs.lemmas.List.{drop-drop, drop_at}
-use Rattle.stage_syntax.specs.Words.{IsUnblanked}
+use Rattle.pipe_model.specs.Words.{IsUnblanked}
 
 -- the rest is what is left after as many bytes as stand before it
 pub rest_left : (text front rest : List ℕ) → text ≡ front ++ rest → drop (length text - length rest) text ≡ rest

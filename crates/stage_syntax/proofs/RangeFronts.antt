@@ -2,7 +2,7 @@
 use Rattle.std.proofs.Common.{◌≡◌, ℕ, ◌+◌, ◌-◌, ◌<◌, List, [], ◌∷◌, ◌++◌, length, drop, append-nil, refl, sym, ap, ◌∙◌, subst, inl, inr, arith}
 use Rattle.pipe_model.specs.declared.range.Span.{Span}
 use Rattle.pipe_model.specs.declared.range.Range.{Range}
-use Rattle.stage_syntax.proofs.FirstWords.{same_word}
+use Rattle.pipe_model.proofs.FirstWords.{same_word}
 use Rattle.stage_syntax.proofs.Letters.{name_others, one_split, spelling_begins}
 use Rattle.stage_syntax.proofs.Passed.{more_passed, word_passed}
 use Rattle.stage_syntax.specs.Numbers.{AreFirstOthers}
@@ -10,7 +10,7 @@ use Rattle.stage_syntax.specs.PlainRanges.{IsPlainRange}
 use Rattle.stage_syntax.specs.Ranges.{IsSpelling}
 use Rattle.stage_syntax.specs.RangeWords.{IsApart, IsJoined, IsNamed, IsNoRange, IsRange, IsRangeMisfit}
 use Rattle.stage_syntax.specs.SpanNames.{IsSpanName}
-use Rattle.stage_syntax.specs.Words.{IsFirstWord, IsUnblanked}
+use Rattle.pipe_model.specs.Words.{IsFirstWord, IsUnblanked}
 use Rattle.stage_syntax.specs.declared.fault.FaultKind.TheVariants.{Missing}
 use Rattle.stage_syntax.specs.declared.ranges.Spelling.{Spelling}
 

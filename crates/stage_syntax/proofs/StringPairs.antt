@@ -1,13 +1,13 @@
 -- Two strings are read in one way, or have one fault.
 use Rattle.std.proofs.Common.{◌≡◌, ℕ, List, [], ◌∷◌, ◌++◌, ◌<◌, ◌⊎◌, get_or, length, refl, sym, ap, ◌∙◌, subst, arith, inl, inr}
 use Rattle.std.specs.List.{Contains}
-use Rattle.stage_syntax.proofs.OneFronts.{one_front}
+use Rattle.pipe_model.proofs.Blanks.{one_front}
 use Rattle.stage_syntax.proofs.OneStrings.{not_hexadecimal, one_delimited, one_hexadecimal, one_until}
 use Rattle.stage_syntax.proofs.Outcomes.{hexadecimal_front, no_front}
 use Rattle.stage_syntax.proofs.StringParts.{any_string_faultless, no_any_misfit_of_word, no_any_string_of_word, one_any_misfit, one_any_string}
 use Rattle.stage_syntax.specs.PairsOfStrings.{AreDelimited, AreMisfits, AreStrings, AreUnclosed, IsAnyString, IsAnyStringMisfit, IsHexadecimalBefore, IsSecondMisfit}
 use Rattle.stage_syntax.specs.Strings.{IsBadHex, IsDelimited, IsOtherWord}
-use Rattle.stage_syntax.specs.Words.{IsUnblanked}
+use Rattle.pipe_model.specs.Words.{IsUnblanked}
 use Rattle.stage_syntax.specs.declared.fault.FaultKind.TheVariants.{Missing, UnknownWord}
 use Rattle.stage_syntax.specs.declared.part.TextFault.{TextFault}
 

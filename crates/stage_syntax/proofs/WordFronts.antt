@@ -14,7 +14,7 @@ use Rattle.stage_syntax.specs.Ranges.{IsSpelling}
 use Rattle.stage_syntax.specs.RangeWords.{IsApart, IsJoined, IsRange, IsRangeMisfit}
 use Rattle.stage_syntax.specs.SpanNames.{IsSpanName}
 use Rattle.stage_syntax.specs.Strings.{IsOtherWord}
-use Rattle.stage_syntax.specs.Words.{IsFirstWord}
+use Rattle.pipe_model.specs.Words.{IsFirstWord}
 use Rattle.stage_syntax.specs.declared.part.TextFault.{TextFault}
 use Rattle.stage_syntax.specs.declared.ranges.Ending.TheVariants.{Alone}
 use Rattle.stage_syntax.specs.declared.ranges.Spelling.{Spelling}

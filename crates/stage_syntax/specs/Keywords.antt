@@ -1,7 +1,7 @@
 -- Keywords, which are read in any case.
 use Rattle.std.specs.Prelude.{◌≡◌, ℕ, List, codes}
 use Rattle.std.specs.Str.{str_to_ascii_lowercase}
-use Rattle.stage_syntax.specs.Words.{IsFirstWord}
+use Rattle.pipe_model.specs.Words.{IsFirstWord}
 use Rattle.stage_syntax.specs.declared.part.Word.{Word}
 use Rattle.stage_syntax.specs.declared.part.Word.TheVariants as Keys
 

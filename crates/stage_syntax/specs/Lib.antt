@@ -23,4 +23,3 @@ pub mod SelectionForms
 pub mod SpanNames
 pub mod StageForms
 pub mod Strings
-pub mod Words

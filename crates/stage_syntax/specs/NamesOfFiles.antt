@@ -2,7 +2,7 @@
 use Rattle.std.specs.Prelude.{◌≡◌, ℕ, ◌<◌, ◌≤◌, List, length}
 use Rattle.stage_syntax.specs.declared.fault.FaultKind.TheVariants.{OutOfRange}
 use Rattle.stage_syntax.specs.declared.part.TextFault.{TextFault}
-use Rattle.stage_syntax.specs.Words.{IsFirstWord}
+use Rattle.pipe_model.specs.Words.{IsFirstWord}
 
 -- the first word of the text is the name
 pub record IsName (text name rest : List ℕ) : Type 0 where

@@ -3,7 +3,7 @@ use Rattle.std.specs.Prelude.{◌≡◌, ℕ, ◌≤◌, List, length}
 use Rattle.stage_syntax.specs.declared.fault.FaultKind.TheVariants.{OutOfRange}
 use Rattle.stage_syntax.specs.declared.part.TextFault.{TextFault}
 use Rattle.stage_syntax.specs.Numbers.{IsNumber}
-use Rattle.stage_syntax.specs.Words.{IsFirstWord}
+use Rattle.pipe_model.specs.Words.{IsFirstWord}
 
 -- the first word of the text is a number of this value, which isn't outside the limits, and the rest
 pub record IsNumberIn (text : List ℕ) (least most value : ℕ) (rest : List ℕ) : Type 0 where

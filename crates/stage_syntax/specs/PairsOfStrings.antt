@@ -4,7 +4,7 @@ use Rattle.std.specs.List.{Contains}
 use Rattle.stage_syntax.specs.declared.fault.FaultKind.TheVariants.{Missing, Unclosed, UnknownWord, BadHex}
 use Rattle.stage_syntax.specs.declared.part.TextFault.{TextFault}
 use Rattle.stage_syntax.specs.Strings.{is_delimiter, IsDelimited, IsUnclosed, IsHexadecimalWord, IsBadHex, IsOtherWord}
-use Rattle.stage_syntax.specs.Words.{IsUnblanked}
+use Rattle.pipe_model.specs.Words.{IsUnblanked}
 
 -- the text is a string, which may be empty, and the rest
 abbrev pub IsAnyString : List ℕ → List ℕ → List ℕ → Type 0

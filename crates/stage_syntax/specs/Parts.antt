@@ -17,7 +17,7 @@ use Rattle.stage_syntax.specs.NumberWords.{IsNumberIn, IsNumberMisfit}
 use Rattle.stage_syntax.specs.PairsOfStrings.{IsAnyString, IsAnyStringMisfit, AreStrings, AreMisfits}
 use Rattle.stage_syntax.specs.RangeWords.{IsRange, IsRangeMisfit, IsBareRange, IsBareRangeFault}
 use Rattle.stage_syntax.specs.Strings.{IsString, IsNoString}
-use Rattle.stage_syntax.specs.Words.{IsFirstWord, IsUnblanked}
+use Rattle.pipe_model.specs.Words.{IsFirstWord, IsUnblanked}
 
 -- One part
 

@@ -10,7 +10,7 @@ use Rattle.stage_syntax.specs.declared.spelled.WordFault.{WordFault}
 use Rattle.stage_syntax.specs.PlainRanges.{IsPlainRange, IsRangeFault}
 use Rattle.stage_syntax.specs.Ranges.{IsSpelling}
 use Rattle.stage_syntax.specs.SpanNames.{IsSpanName}
-use Rattle.stage_syntax.specs.Words.{IsFirstWord, IsUnblanked}
+use Rattle.pipe_model.specs.Words.{IsFirstWord, IsUnblanked}
 
 -- the first word of the text is a word that says what is counted, and numbers
 pub record IsJoined (text name numbers rest : List ℕ) (span : Span) : Type 0 where

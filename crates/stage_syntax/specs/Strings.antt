@@ -3,7 +3,7 @@ use Rattle.std.specs.Prelude.{◌≡◌, ◌≢◌, ℕ, ◌<◌, ◌==◌, ◌|
 use Rattle.std.specs.Char.{is_ascii_alphanumeric}
 use Rattle.std.specs.List.{Contains}
 use Rattle.hex.specs.Hex.{decode_of}
-use Rattle.stage_syntax.specs.Words.{IsFirstWord}
+use Rattle.pipe_model.specs.Words.{IsFirstWord}
 use Rattle.stage_syntax.specs.declared.fault.FaultKind.{FaultKind}
 use Rattle.stage_syntax.specs.declared.fault.FaultKind.TheVariants.{Missing, Extra, NotANumber, OutOfRange, Unclosed, EmptyString, UnknownWord, BadHex, Reversed}
 use Rattle.stage_syntax.specs.declared.part.TextFault.{TextFault}

@@ -1,12 +1,11 @@
 ghost use Rattle.std.specs.Prelude.{◌≤◌, ℕ, List, [], ◌∷◌, length, drop, IfOk, IfErr, IfSome, MatchOption};
 ghost use Rattle.stage_syntax.specs.NumberWords.{IsNoNumber, IsNumberMisfit};
 ghost use Rattle.stage_syntax.specs.Parts.{AreTimes, most_times};
-ghost use Rattle.stage_syntax.specs.Words.{IsFirstWord};
+ghost use Rattle.pipe_model.specs.Words.{IsFirstWord};
 
 use crate::number_words::number_in;
 use crate::part::TextFault;
-use crate::words::first_word;
-use pipe_model::Times;
+use pipe_model::{Times, first_word};
 
 /// The greatest count.
 const MOST: u32 = 2_147_483_647;

@@ -3,7 +3,7 @@ ghost use Rattle.std.specs.Str.{str_to_ascii_lowercase};
 ghost use Rattle.stage_syntax.specs.Keywords.{IsKeyword, spelling_of};
 
 use crate::part::Word;
-use crate::words::first_word;
+use pipe_model::first_word;
 
 impl Word {
     /// The keyword in lower case.

@@ -32,7 +32,6 @@ mod taken;
 #[cfg(test)]
 mod tests;
 mod text;
-mod words;
 
 pub use arg::Arg;
 pub use bounds::{Misfit, no_misfit, range_of};
@@ -57,4 +56,3 @@ pub use string_pairs::{SpelledStrings, any_string, two_strings};
 pub use strings::{delimited, hexadecimal};
 pub use taken::{Taken, part_at};
 pub use text::{Spelled, hexadecimal_word, no_fault_of_a_string, string};
-pub use words::{first_word, without_blanks};

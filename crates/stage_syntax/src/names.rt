@@ -5,8 +5,7 @@ ghost use Rattle.stage_syntax.specs.Refusals.{Refuses};
 use crate::fault::FaultKind;
 use crate::refusal::Refusal;
 use crate::text::Spelled;
-use crate::words::first_word;
-use pipe_model::Rec;
+use pipe_model::{Rec, first_word};
 use std::alloc::Global;
 
 /// The greatest length of a name.

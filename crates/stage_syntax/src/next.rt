@@ -6,7 +6,7 @@ use crate::fault::FaultKind;
 use crate::part::{Part, TextFault, Value};
 use crate::refusal::Refusal;
 use crate::taken::{Taken, part_at};
-use crate::words::without_blanks;
+use pipe_model::without_blanks;
 use std::alloc::Global;
 
 /// An argument that was read, how many bytes are left of the text where it begins, and how many spell it, with any blanks before it.

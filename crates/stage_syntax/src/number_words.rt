@@ -4,7 +4,7 @@ ghost use Rattle.stage_syntax.specs.NumberWords.{IsNoNumber, IsNumberIn, IsNumbe
 use crate::digits::number;
 use crate::fault::FaultKind;
 use crate::part::TextFault;
-use crate::words::first_word;
+use pipe_model::first_word;
 
 /// A number, and how many bytes spell it.
 #[derive(Clone, Copy, Debug, PartialEq, Eq)]

@@ -9,8 +9,7 @@ use crate::fault::FaultKind;
 use crate::part::TextFault;
 use crate::span_words::span_named;
 use crate::spelled::plain_range;
-use crate::words::{first_word, without_blanks};
-use pipe_model::{Range, Span};
+use pipe_model::{Range, Span, first_word, without_blanks};
 
 /// A range, and how many bytes spell it.
 #[derive(Clone, Copy, Debug, PartialEq, Eq)]

@@ -8,9 +8,8 @@ use crate::fault::FaultKind;
 use crate::refusal::Refusal;
 use crate::strings::delimited;
 use crate::text::{Spelled, hexadecimal_word};
-use crate::words::without_blanks;
 use bstr::ByteSlice;
-use pipe_model::Rec;
+use pipe_model::{Rec, without_blanks};
 use std::alloc::Global;
 
 /// Two strings, and how many bytes spell them.

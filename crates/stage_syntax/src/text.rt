@@ -7,8 +7,7 @@ ghost use Rattle.stage_syntax.specs.Strings.{IsBadHexAt, IsHexadecimalWord, IsNo
 use crate::fault::FaultKind;
 use crate::refusal::Refusal;
 use crate::strings::{delimited, hexadecimal};
-use crate::words::first_word;
-use pipe_model::Rec;
+use pipe_model::{Rec, first_word};
 use std::alloc::Global;
 
 /// A string, and how many bytes spell it.

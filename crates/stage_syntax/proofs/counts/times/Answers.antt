@@ -1,5 +1,5 @@
 use Rattle.std.proofs.Common.{[], ◌∷◌, arith}
-use Rattle.stage_syntax.proofs.FirstWords.{same_word}
+use Rattle.pipe_model.proofs.FirstWords.{same_word}
 use Rattle.stage_syntax.proofs.counts.times.Goals as goal
 
 pub returns-in-None-clause-read : goal.returns-in-None-clause-read

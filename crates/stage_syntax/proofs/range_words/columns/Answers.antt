@@ -1,5 +1,5 @@
 use Rattle.std.proofs.Common.{subst}
-use Rattle.stage_syntax.proofs.FirstWords.{same_word}
+use Rattle.pipe_model.proofs.FirstWords.{same_word}
 use Rattle.stage_syntax.specs.Ranges.{IsSpelling}
 use Rattle.stage_syntax.proofs.range_words.columns.Goals as goal
 

@@ -1,5 +1,5 @@
 use Rattle.std.proofs.Common.{arith, refl}
-use Rattle.stage_syntax.proofs.FirstWords.{bad_hex}
+use Rattle.stage_syntax.proofs.BadHex.{bad_hex}
 use Rattle.stage_syntax.proofs.text.hexadecimal_word.Goals as goal
 
 pub returns-in-None-clause-refused : goal.returns-in-None-clause-refused

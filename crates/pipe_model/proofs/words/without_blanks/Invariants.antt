@@ -1,6 +1,6 @@
 use Rattle.std.proofs.Common.{length}
-use Rattle.stage_syntax.proofs.Blanks.{AfterBlanks}
-use Rattle.stage_syntax.proofs.words.without_blanks.Given as goal
+use Rattle.pipe_model.proofs.Blanks.{AfterBlanks}
+use Rattle.pipe_model.proofs.words.without_blanks.Given as goal
 
 abbrev pub invariant-loop-text : goal.invariant-loop-text
 invariant-loop-text l = AfterBlanks l.fn.text l.text

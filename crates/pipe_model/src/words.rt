@@ -1,9 +1,8 @@
 ghost use Rattle.std.specs.Prelude.{◌≡◌, ◌≢◌, get_or};
-ghost use Rattle.stage_syntax.specs.Words.{IsFirstWord, IsUnblanked};
-
-use bstr::ByteSlice;
+ghost use Rattle.pipe_model.specs.Words.{IsFirstWord, IsUnblanked};
 
 /// The text without the blanks at its front.
+#[inline]
 pub fn without_blanks(mut text: &[u8]) -> &[u8]
     ensures { IsUnblanked text.entry.now result.now }
 {
@@ -14,10 +13,11 @@ pub fn without_blanks(mut text: &[u8]) -> &[u8]
 }
 
 /// The word at the front of a text, and what stands after it; the word is empty where the text is, or begins with a blank.
+#[inline]
 pub fn first_word(text: &[u8]) -> (&[u8], &[u8])
     ensures { IsFirstWord text.now result.0.now result.1.now }
 {
-    match text.find_byte(b' ') {
+    match text.iter().position(|b| *b == b' ') {
         Some(at) => (&text[..at], &text[at..]),
         None => (text, &[]),
     }

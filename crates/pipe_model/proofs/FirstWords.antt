@@ -1,10 +1,9 @@
 -- A text has one first word.
-use Rattle.std.proofs.Common.{◌≡◌, ℕ, List, [], ◌∷◌, ◌++◌, get_or, refl, sym, ap, ◌∙◌, arith, subst}
+use Rattle.std.proofs.Common.{◌≡◌, ℕ, List, [], ◌∷◌, ◌++◌, get_or, refl, sym, ap, ◌∙◌, arith}
 use Rattle.std.specs.List.{Contains}
 use Rattle.std.proofs.lemmas.List.{append_cancel_left}
 use Rattle.std.proofs.lemmas.List.Elements.{Contains-append_right}
-use Rattle.stage_syntax.specs.Words.{IsFirstWord}
-use Rattle.stage_syntax.specs.Strings.{IsBadHex, IsHexadecimal}
+use Rattle.pipe_model.specs.Words.{IsFirstWord}
 
 -- two words without blanks before a blank or an end are one
 one_word : (word other rest more : List ℕ) → ¬ Contains word 32 → ¬ Contains other 32 → get_or rest 0 32 ≡ 32 → get_or more 0 32 ≡ 32 → word ++ rest ≡ other ++ more → word ≡ other
@@ -30,13 +29,3 @@ pub same_rest : (text word rest other more : List ℕ) → IsFirstWord text word
 same_rest text word rest other more first second =
     let words = same_word text word rest other more first second in
     append_cancel_left word rest more (sym first.spells ∙ second.spells ∙ ap (λ b. b ++ more) (sym words))
-
--- where the first word isn't hexadecimal, there is no hexadecimal word
-pub bad_hex : (text word rest : List ℕ) → IsFirstWord text word rest → ((string : List ℕ) → ¬ IsHexadecimal word string) → get_or text 0 0 ≡ 120 → IsBadHex text
-bad_hex text word rest first none begins = record {
-  begins = begins;
-  none = λ string more hexadecimal.
-      let other = hexadecimal.first in
-      let same = same_word text hexadecimal.word more word rest other first in
-      none string (subst (λ bytes. IsHexadecimal bytes string) same hexadecimal.worth);
-}
