@@ -1,2 +1,3 @@
+pub mod AnyEdit
 pub mod Edit
 pub mod EditLists

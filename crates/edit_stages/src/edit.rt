@@ -1,6 +1,7 @@
 ghost use Rattle.std.specs.Prelude.{◌≡◌, IfOk};
 ghost use Rattle.edit_stages.specs.Edit.{is_edit};
 
+use crate::any_edit::AnyEdit;
 use crate::duplicate::Duplicates;
 use crate::edits::Edited;
 use crate::reverse::Reverses;
@@ -13,8 +14,7 @@ use std::alloc::Global;
 #[derive(Drop)]
 pub enum EditStage {
     Duplicate(Listed<Each<Duplicates>>),
-    Reverse(Listed<Each<Edited<Reverses>>>),
-    Strip(Listed<Each<Edited<Strips>>>),
+    Edit(Listed<Each<Edited<AnyEdit>>>),
 }
 
 /// Whether the kind is one of Editing.
@@ -41,14 +41,17 @@ impl EditStage {
             Kind::Duplicate(copies) => Ok(EditStage::Duplicate(Duplicates::stage(
                 alloc, *copies, outputs,
             )?)),
-            Kind::Reverse => Ok(EditStage::Reverse(Edited::stage(alloc, Reverses, outputs)?)),
+            Kind::Reverse => {
+                let edits = AnyEdit::Reverse(Reverses);
+                Ok(EditStage::Edit(Edited::stage(alloc, edits, outputs)?))
+            }
             Kind::Strip {
                 leading,
                 trailing,
                 set,
             } => {
                 let strips = Strips::new(alloc, *leading, *trailing, set)?;
-                Ok(EditStage::Strip(Edited::stage(alloc, strips, outputs)?))
+                Ok(EditStage::Edit(Edited::stage(alloc, AnyEdit::Strip(strips), outputs)?))
             }
             _ => unreachable!(),
         }
@@ -65,8 +68,7 @@ impl Stage for EditStage {
     fn first(&self) -> Want {
         match self {
             EditStage::Duplicate(stage) => stage.first(),
-            EditStage::Reverse(stage) => stage.first(),
-            EditStage::Strip(stage) => stage.first(),
+            EditStage::Edit(stage) => stage.first(),
         }
     }
 
@@ -76,24 +78,21 @@ impl Stage for EditStage {
     {
         match self {
             EditStage::Duplicate(stage) => stage.resume(alloc, seen, bytes),
-            EditStage::Reverse(stage) => stage.resume(alloc, seen, bytes),
-            EditStage::Strip(stage) => stage.resume(alloc, seen, bytes),
+            EditStage::Edit(stage) => stage.resume(alloc, seen, bytes),
         }
     }
 
     fn looks(&self) -> bool {
         match self {
             EditStage::Duplicate(stage) => stage.looks(),
-            EditStage::Reverse(stage) => stage.looks(),
-            EditStage::Strip(stage) => stage.looks(),
+            EditStage::Edit(stage) => stage.looks(),
         }
     }
 
     fn kept(&self) -> &[u8] {
         match self {
             EditStage::Duplicate(stage) => stage.kept(),
-            EditStage::Reverse(stage) => stage.kept(),
-            EditStage::Strip(stage) => stage.kept(),
+            EditStage::Edit(stage) => stage.kept(),
         }
     }
 }

@@ -1,6 +1,7 @@
 //! The stages of Editing: those that write what they make of each record.
 #![tactic(auto)]
 
+mod any_edit;
 mod duplicate;
 mod edit;
 mod edits;
