@@ -18,7 +18,6 @@ impl<S: Stage> Core<S> {
     /// Makes the least event that may be, of the least strand on its least stream, until there is none or the journal
     /// has as many entries as the budget allows. The gate is entered before the work on each record that a strand saw.
     /// After want of memory the core is broken.
-    #[inline(always)]
     pub fn run_one_thread<G: Gate>(&mut self, alloc: Global, gate: &G) -> Result<RunEnd, NoMemory>
         requires home { self.old.out ≡ [] }
         requires whole { self.old.is_broken ≡ false }
