@@ -39,8 +39,8 @@ impl EachRecord for Holes {
         None
     }
 
-    fn hand_over(&mut self, _alloc: Global) -> Result<Rec, NoMemory> {
-        unreachable!()
+    fn hand_over(&mut self, alloc: Global) -> Result<Rec, NoMemory> {
+        Ok(Rec::from_vec(Vec::new(alloc)))
     }
 
     fn looks(&self) -> bool {

@@ -78,8 +78,8 @@ impl EachRecord for Duplicates {
         }
     }
 
-    fn hand_over(&mut self, _alloc: Global) -> Result<Rec, NoMemory> {
-        unreachable!()
+    fn hand_over(&mut self, alloc: Global) -> Result<Rec, NoMemory> {
+        Ok(Rec::from_vec(Vec::new(alloc)))
     }
 
     fn looks(&self) -> bool {

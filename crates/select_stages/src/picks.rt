@@ -136,8 +136,8 @@ impl<P: Picks> Lists for Picked<P> {
         Ok(take_waiting(&mut self.waiting))
     }
 
-    fn hand_over(&mut self, _alloc: Global) -> Result<Rec, NoMemory> {
-        unreachable!()
+    fn hand_over(&mut self, alloc: Global) -> Result<Rec, NoMemory> {
+        Ok(Rec::from_vec(Vec::new(alloc)))
     }
 
     #[inline(always)]

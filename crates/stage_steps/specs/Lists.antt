@@ -1,5 +1,5 @@
 -- What the calls of a stage of lists do, where the value stands for a stream of the stage table, the records so far, and what is left to write of the list that it gives now.
-use Rattle.std.specs.Prelude.{◌≡◌, ◌<◌, ℕ, Bool, true, List, [], ◌∷◌, ◌++◌, length}
+use Rattle.std.specs.Prelude.{◌≡◌, ◌<◌, ℕ, Bool, true, List, [], ◌∷◌, ◌++◌, length, is_some, unwrap_or}
 use Rattle.std.specs.declared.option.Option.{Option}
 use Rattle.std.specs.declared.option.Option.TheVariants.{Some, None}
 use Rattle.pipe_model.specs.Row.{Act}
@@ -29,6 +29,10 @@ GivesNext {L} {T} stands made x y (Some g) = IsHeld (made y) g × ((t : T) (recs
 -- it stands for the same as before
 abbrev pub StandsOn : {L T : Type 0} → (L → T → Records → List Act → Type 0) → L → L → Type 0
 StandsOn {L} {T} stands x y = (t : T) (recs : Records) (acts : List Act) → stands x t recs acts → stands y t recs acts
+
+-- it hands over the new record, where it holds one
+abbrev pub HandsOver : {L T : Type 0} → (L → T → Records → List Act → Type 0) → (L → Option (List ℕ)) → L → List ℕ → L → Type 0
+HandsOver stands made x rec y = is_some (made x) ≡ true → (rec ≡ unwrap_or (made x) []) × StandsOn stands x y
 
 -- what it tells is what the stream says after the records so far
 abbrev pub Tells : {L A : Type 0} → (L → Stream → Records → List Act → Type 0) → L → A → (Stream → Records → A) → Type 0

@@ -50,8 +50,8 @@ impl EachRecord for Copies {
         take_waiting(&mut self.waiting)
     }
 
-    fn hand_over(&mut self, _alloc: Global) -> Result<Rec, NoMemory> {
-        unreachable!()
+    fn hand_over(&mut self, alloc: Global) -> Result<Rec, NoMemory> {
+        Ok(Rec::from_vec(Vec::new(alloc)))
     }
 
     fn looks(&self) -> bool {

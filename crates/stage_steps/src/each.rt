@@ -1,7 +1,7 @@
-ghost use Rattle.std.specs.Prelude.{◌≡◌, ◌<◌, ℕ, List, [], Bool, true, IfOk, IfSome, Option, None, is_some, unwrap_or};
+ghost use Rattle.std.specs.Prelude.{◌≡◌, ◌<◌, ℕ, List, Bool, IfOk, IfSome, Option, None};
 ghost use Rattle.pipe_model.specs.Row.{Act};
 ghost use Rattle.pipe_model.specs.Shape.{Records, Outs};
-ghost use Rattle.stage_steps.specs.Lists.{SeesEach, GivesNext, StandsOn};
+ghost use Rattle.stage_steps.specs.Lists.{SeesEach, GivesNext, HandsOver};
 
 use crate::group::Group;
 use crate::lists::Lists;
@@ -35,12 +35,10 @@ pub trait EachRecord: Sized + Drop {
         ensures falls { IfSome result (λ _. left self.new < left self.old) }
         ensures gives { GivesNext stands made self.old self.new result };
 
-    /// Hands over the new record that it holds.
+    /// Hands over the new record that it holds. It isn't asked for one that it doesn't hold.
     fn hand_over(&mut self, alloc: Global) -> Result<Rec, NoMemory>
-        requires { is_some (made self.old) ≡ true }
         ensures looks_same { is_looking self.new ≡ is_looking self.old }
-        ensures made { IfOk result (λ rec. rec ≡ unwrap_or (made self.old) []) }
-        ensures same { IfOk result (λ _. StandsOn stands self.old self.new) };
+        ensures hands { IfOk result (λ rec. HandsOver stands made self.old rec self.new) };
 
     /// Whether it needs the bytes of the records.
     fn looks(&self) -> bool

@@ -1,7 +1,7 @@
-ghost use Rattle.std.specs.Prelude.{◌≡◌, ◌<◌, ℕ, List, [], Bool, true, IfOk, IfSome, Option, is_some, unwrap_or};
+ghost use Rattle.std.specs.Prelude.{◌≡◌, ◌<◌, ℕ, List, [], Bool, IfOk, IfSome, Option};
 ghost use Rattle.pipe_model.specs.Row.{Act};
 ghost use Rattle.pipe_model.specs.Shape.{Records, Stream};
-ghost use Rattle.stage_steps.specs.Lists.{Begins, Sees, Finishes, GivesNext, StandsOn, Tells};
+ghost use Rattle.stage_steps.specs.Lists.{Begins, Sees, Finishes, GivesNext, HandsOver, Tells};
 
 use crate::group::Group;
 use pipe_model::{NoMemory, Rec};
@@ -44,12 +44,10 @@ pub trait Lists: Sized + Drop {
         ensures falls { IfOk result (λ given. IfSome given (λ _. left self.new < left self.old)) }
         ensures gives { IfOk result (λ given. GivesNext stands made self.old self.new given) };
 
-    /// Hands over the new record that it holds.
+    /// Hands over the new record that it holds. It isn't asked for one that it doesn't hold.
     fn hand_over(&mut self, alloc: Global) -> Result<Rec, NoMemory>
-        requires { is_some (made self.old) ≡ true }
         ensures looks_same { is_looking self.new ≡ is_looking self.old }
-        ensures made { IfOk result (λ rec. rec ≡ unwrap_or (made self.old) []) }
-        ensures same { IfOk result (λ _. StandsOn stands self.old self.new) };
+        ensures hands { IfOk result (λ rec. HandsOver stands made self.old rec self.new) };
 
     /// Whether it ends at the sight of the record at hand.
     fn halts(&self) -> bool
