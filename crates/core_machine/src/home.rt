@@ -57,7 +57,7 @@ pub(crate) fn move_home(
 }
 
 // The same for a strand that writes: it rests until its record is taken, or its output refuses.
-#[inline(never)]
+#[inline(always)]
 fn home_writing(
     desk: &mut Desk,
     pool: &mut Pool,

@@ -1,3 +1,4 @@
+pub mod AnyPick
 pub mod PickLists
 pub mod Picks
 pub mod Select

@@ -1,6 +1,7 @@
 //! The stages of Selection: those that write each record on output 0 or on output 1.
 #![tactic(auto)]
 
+mod any_pick;
 mod laws;
 mod locate;
 mod picks;

@@ -1,6 +1,7 @@
 ghost use Rattle.std.specs.Prelude.{◌≡◌};
 ghost use Rattle.select_stages.specs.Select.{is_select};
 
+use crate::any_pick::AnyPick;
 use crate::locate::Locates;
 use crate::picks::{Picked, Rejects};
 use pipe_model::{Kind, NoMemory, Seen, Strand, Want};
@@ -9,9 +10,8 @@ use std::alloc::Global;
 
 /// A stage of Selection.
 #[derive(Drop)]
-pub enum SelectStage {
-    Locate(Listed<Picked<Locates>>),
-    Nlocate(Listed<Picked<Rejects<Locates>>>),
+pub struct SelectStage {
+    stage: Listed<Picked<AnyPick>>,
 }
 
 /// Whether the kind is one of Selection.
@@ -33,12 +33,17 @@ impl SelectStage {
         let outputs = strand.ports.has_output.as_slice();
         match &strand.kind {
             Kind::Locate { range, text } => {
-                let picks = Locates::new(alloc, *range, text)?;
-                Ok(SelectStage::Locate(Picked::stage(alloc, picks, outputs)?))
+                let picks = AnyPick::Locate(Locates::new(alloc, *range, text)?);
+                Ok(SelectStage {
+                    stage: Picked::stage(alloc, picks, outputs)?,
+                })
             }
             Kind::Nlocate { range, text } => {
                 let picks = Locates::new(alloc, *range, text)?;
-                Ok(SelectStage::Nlocate(Picked::stage(alloc, Rejects { picks }, outputs)?))
+                let picks = AnyPick::Nlocate(Rejects { picks });
+                Ok(SelectStage {
+                    stage: Picked::stage(alloc, picks, outputs)?,
+                })
             }
             _ => unreachable!(),
         }
@@ -53,33 +58,21 @@ impl Stage for SelectStage {
     ghost stands = { SelectStands };
 
     fn first(&self) -> Want {
-        match self {
-            SelectStage::Locate(stage) => stage.first(),
-            SelectStage::Nlocate(stage) => stage.first(),
-        }
+        self.stage.first()
     }
 
     // It may be told any event; what isn't answered ends it.
     fn resume(&mut self, alloc: Global, seen: Seen, bytes: &[u8]) -> Result<Want, NoMemory>
         ensures { IfOk result (λ asked. Resumes SelectStands self.old self.new seen bytes.now asked) }
     {
-        match self {
-            SelectStage::Locate(stage) => stage.resume(alloc, seen, bytes),
-            SelectStage::Nlocate(stage) => stage.resume(alloc, seen, bytes),
-        }
+        self.stage.resume(alloc, seen, bytes)
     }
 
     fn looks(&self) -> bool {
-        match self {
-            SelectStage::Locate(stage) => stage.looks(),
-            SelectStage::Nlocate(stage) => stage.looks(),
-        }
+        self.stage.looks()
     }
 
     fn kept(&self) -> &[u8] {
-        match self {
-            SelectStage::Locate(stage) => stage.kept(),
-            SelectStage::Nlocate(stage) => stage.kept(),
-        }
+        self.stage.kept()
     }
 }

@@ -9,7 +9,7 @@ pub returns-in_ok-stage-in-Locate : goal.returns-in_ok-stage-in-Locate
 returns-in_ok-stage-in-Locate c =
     let range = c.in-Locate.range in
     let text = c.in-Locate.text in
-    c.in_ok-stage-in-Locate.ensures (Locate range text) (choice_by (locates range text)) (refl, refl) (ap (λ (x : Locates). choice_by (locates x.range x.sought)) (sym c.in_ok-picks-in-Locate.ensures))
+    c.in_ok-stage-in-Locate.ensures (Locate range text) (choice_by (locates range text)) (refl, refl) (ap (λ (x : Locates). choice_by (locates x.range x.sought)) (sym c.in_ok-new-in-Locate.ensures))
     c.args.strand.now c.in-Locate.is (sym c.as_slice-outputs.ensures)
 
 pub returns-in_ok-stage-in-Nlocate : goal.returns-in_ok-stage-in-Nlocate
