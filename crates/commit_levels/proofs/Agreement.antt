@@ -61,33 +61,7 @@ module _ (level : ℤ) (is : IsLevel level) where
       ap has_reached (s.progress level is) ∙ reached_where (event.has_reached level h) (commits_to level want) in
       grind (arith, common_steps, s.ended, reached, no_code h)
 
-  module _ (net : Net) (st : State) (left : Left) where
-    rest : (t : Who) (m : Member) (ts : List Who) (ms : List Member) → AreStrands net st left (t ∷ ts) (m ∷ ms) → AreStrands net st left ts ms
-    rest t m ts ms are = record { count = omega (arith, are.count); each = λ k s n s_at n_at. are.each (suc k) s n s_at n_at }
-
-    all_as : (ts : List Who) (ms : List Member) → AreStrands net st left ts ms → list_all (stands_at (place_of level)) ms ≡ list_all (licence.stands_at net st left level) ts
-    all_as [] [] are = refl
-    all_as [] (m ∷ ms) are = absurd (omega (arith, are.count))
-    all_as (t ∷ ts) [] are = absurd (omega (arith, are.count))
-    all_as (t ∷ ts) (m ∷ ms) are =
-        let here = stands_as (past st t) (want_at net st left t) m (are.each 0 t m refl refl) in
-        let there = all_as ts ms (rest t m ts ms are) in
-        grind (arith, common_steps, here, there)
-
-    worst_as : (ts : List Who) (ms : List Member) → AreStrands net st left ts ms → worst_early (place_of level) ms ≡ licence.worst_early st level ts
-    worst_as [] [] are = refl
-    worst_as [] (m ∷ ms) are = absurd (omega (arith, are.count))
-    worst_as (t ∷ ts) [] are = absurd (omega (arith, are.count))
-    worst_as (t ∷ ts) (m ∷ ms) are =
-        ap (λ code. worst_of code (worst_early (place_of level) ms)) (early_as (past st t) (want_at net st left t) m (are.each 0 t m refl refl))
-        ∙ ap (worst_of (licence.early_code level (past st t))) (worst_as ts ms (rest t m ts ms are))
-
-pub answers_as : (net : Net) (st : State) (left : Left) (s : Who) (unit : List Member) (level : ℤ) → IsLevel level → AreStrands net st left (members net st s) unit → answer unit level ≡ level_of net st left s level
-answers_as net st left s unit level is are =
-    ap (λ all. cond all (Some (worst_early (place_of level) unit)) None) (all_as level is net st left (members net st s) unit are)
-    ∙ ap (λ code. cond (list_all (licence.stands_at net st left level) (members net st s)) (Some code) None) (worst_as level is net st left (members net st s) unit are)
-
--- Members by their numbers
+-- Members from the last on
 
 get_front : (xs : List Member) (x : Member) (k : ℕ) (m : Member) → slice_get xs k ≡ Some m → slice_get (xs ++ x ∷ []) k ≡ Some m
 get_front [] x k m at = cc
@@ -141,11 +115,10 @@ module _ (level : ℤ) (is : IsLevel level) (net : Net) (st : State) (left : Lef
             ∙ ap (worst_of (licence.early_code level (past st n))) before.1,
       )
 
--- a unit that has the strands of a net by their numbers answers as the licence of each strand does
-pub answers_by_number : (net : Net) (st : State) (left : Left) (s : Who) (unit : List Member) (level : ℤ) → IsLevel level → length unit ≡ length net.strands →
-    ((k : Who) (m : Member) → slice_get unit k ≡ Some m → IsStrand (past st k) (want_at net st left k) m) → answer unit level ≡ level_of net st left s level
-answers_by_number net st left s unit level is count each =
-    let by = all_by level is net st left (length net.strands) unit count each in
+-- a unit whose members are the strands of a net answers as the licence of each strand does
+pub answers_as : (net : Net) (st : State) (left : Left) (s : Who) (unit : List Member) (level : ℤ) → IsLevel level → AreStrands net st left unit → answer unit level ≡ level_of net st left s level
+answers_as net st left s unit level is are =
+    let by = all_by level is net st left (length net.strands) unit are.count are.each in
     ap (λ all. cond all (Some (worst_early (place_of level) unit)) None) by.0
     ∙ ap (λ code. cond (list_all (licence.stands_at net st left level) (members net st s)) (Some code) None) by.1
 

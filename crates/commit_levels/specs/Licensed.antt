@@ -1,5 +1,5 @@
 -- Members as the histories and wants of strands tell them, so that a unit's answer is the one that a licence rests on.
-use Rattle.std.specs.Prelude.{◌≡◌, ℕ, false, List, length, ℤ, Option, Some, None, slice_get, if◌then◌else◌}
+use Rattle.std.specs.Prelude.{◌≡◌, false, List, length, ℤ, Option, Some, None, slice_get, if◌then◌else◌}
 use Rattle.pipe_model.specs.declared.net.Net.{Net}
 use Rattle.pipe_model.specs.Event.{Event, Want, has_ended, has_reached, code_of}
 use Rattle.pipe_model.specs.Licence.{Left, want_at, commits_to}
@@ -22,10 +22,10 @@ pub record IsStrand (h : List Event) (want : Option Want) (m : Member) : Type 0 
   pub progress : (level : ℤ) → IsLevel level → progress_at (place_of level) m ≡ progress_of h want level
   pub ended : m.ended ≡ end_of h
 
--- the members of the unit are these strands, one by one
-pub record AreStrands (net : Net) (st : State) (left : Left) (strands : List Who) (unit : List Member) : Type 0 where
-  pub count : length unit ≡ length strands
-  pub each : (k : ℕ) (s : Who) (m : Member) → slice_get strands k ≡ Some s → slice_get unit k ≡ Some m → IsStrand (past st s) (want_at net st left s) m
+-- the members of the unit are the strands of the net, by their numbers
+pub record AreStrands (net : Net) (st : State) (left : Left) (unit : List Member) : Type 0 where
+  pub count : length unit ≡ length net.strands
+  pub each : (s : Who) (m : Member) → slice_get unit s ≡ Some m → IsStrand (past st s) (want_at net st left s) m
 
 -- the want is not for a level
 abbrev pub WantsNoLevel : Option Want → Type 0

@@ -4,15 +4,15 @@ ghost use Rattle.pipe_model.specs.Event.{Event, Want, has_reached};
 ghost use Rattle.pipe_model.specs.Event.Event.{Up, Ended};
 ghost use Rattle.pipe_model.specs.Event.Want.{Commit};
 ghost use Rattle.pipe_model.specs.Licence.{Left, level_of};
-ghost use Rattle.pipe_model.specs.State.{Who, State, members};
+ghost use Rattle.pipe_model.specs.State.{Who, State};
 ghost use Rattle.commit_levels.specs.UnitState.{Member, IsLevel, answer, moved, ended_with, place_of};
 ghost use Rattle.commit_levels.specs.Licensed.{AreStrands, IsStrand, WantsNoLevel};
 ghost use Rattle.commit_levels.specs.declared.member.Progress.TheVariants.{Asked, Reached};
 
-/// A unit whose members are a strand's fellows answers a level as the strand's licence says.
+/// A unit whose members are the strands of a net, by their numbers, answers a level as the licence of each strand says.
 pub fn answers_as_licensed()
     ensures { (net : Net) → (st : State) → (left : Left) → (s : Who) → (unit : List Member) → (level : ℤ) →
-        IsLevel level → AreStrands net st left (members net st s) unit →
+        IsLevel level → AreStrands net st left unit →
         answer unit level ≡ level_of net st left s level }
 {}
 

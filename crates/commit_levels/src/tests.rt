@@ -27,3 +27,11 @@ fn nobody_holds_up_a_level(rt: HostRuntime) -> Result<(), Fail> {
     assert_eq!(rt; unit.answer(0), Some(0));
     Ok(())
 }
+
+// Calls for this type show that its values can be moved to another thread.
+fn is_send<T: Send>() {}
+
+#[test]
+fn a_value_can_go_to_another_thread() {
+    is_send::<Unit>();
+}

@@ -1,6 +1,6 @@
 -- What a connector stands for, and what each call makes of it.
 use Rattle.std.specs.Prelude.{◌≡◌, ◌⊎◌, ℕ, ◌+◌, ◌==◌, List, Option, Some, None, IsSome, Bool, false, if◌then◌else◌}
-use Rattle.record_pool.specs.declared.pool.Held.{Held}
+use Rattle.record_pool.specs.PoolState.{PoolState}
 use Rattle.record_pool.specs.Places.{IsHeld, given, record_at, one_less, OthersStay}
 
 -- the place of the record that is offered, how many were put and taken, and which ends are closed
@@ -40,16 +40,16 @@ abbrev pub cleared : WireState → WireState
 cleared wire = record wire { offer = None }
 
 -- the record of the offer, if there is one, is held in the pool
-abbrev pub IsHeldIn : List (Option Held) → Option ℕ → Type 0
-IsHeldIn places None = Unit {0}
-IsHeldIn places (Some grip) = IsHeld places grip
+abbrev pub IsHeldIn : PoolState → Option ℕ → Type 0
+IsHeldIn pool None = Unit {0}
+IsHeldIn pool (Some grip) = IsHeld pool grip
 
 -- the pool after the offer, if there is one, was given back
-abbrev pub given_in : List (Option Held) → Option ℕ → List (Option Held)
-given_in places None = places
-given_in places (Some grip) = given places grip
+abbrev pub given_in : PoolState → Option ℕ → PoolState
+given_in pool None = pool
+given_in pool (Some grip) = given pool grip
 
 -- the same, place by place: the record of the offer has one holder less, and all else is as before
-abbrev pub GivesBack : List (Option Held) → List (Option Held) → Option ℕ → Type 0
+abbrev pub GivesBack : PoolState → PoolState → Option ℕ → Type 0
 GivesBack before after None = after ≡ before
 GivesBack before after (Some grip) = (record_at after grip ≡ one_less (record_at before grip)) × OthersStay before after grip

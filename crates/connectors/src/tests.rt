@@ -1,4 +1,5 @@
 use crate::Wire;
+use pipe_model::NoMemory;
 use record_pool::Pool;
 use std::test::Fail;
 
@@ -7,43 +8,69 @@ fn told(wire: &Wire) -> (bool, u64, u64) {
     (wire.at_hand().is_some(), wire.puts(), wire.tooks())
 }
 
-// A record is offered, taken and settled, and the next one is withdrawn.
-#[test]
-fn a_record_goes_over(rt: HostRuntime) -> Result<(), Fail> {
-    let mut pool = Pool::new(rt.alloc());
+// What is told before a record is offered, then, after it was taken and after it was settled.
+fn go_over(pool: &mut Pool) -> Result<[(bool, u64, u64); 4], NoMemory> {
     let grip = pool.put(b"one")?;
     let mut wire = Wire::new(false);
     let fresh = told(&wire);
     wire.offer(grip);
     let offered = told(&wire);
-    wire.take(&mut pool);
+    wire.take(pool);
     let taken = told(&wire);
-    wire.settle(&mut pool);
+    wire.settle(pool);
+    let settled = told(&wire);
+    wire.drain(pool);
+    Ok([fresh, offered, taken, settled])
+}
+
+#[test]
+fn a_record_goes_over(rt: HostRuntime) -> Result<(), Fail> {
+    let mut pool = Pool::new(rt.alloc());
+    let went = go_over(&mut pool);
+    assert_eq!(rt; pool.in_use(), 0);
+    pool.close();
     assert_eq!(rt;
-        [fresh, offered, taken, told(&wire)],
+        went?,
         [(false, 0, 0), (true, 0, 0), (false, 0, 1), (false, 1, 1)]
     );
-    assert_eq!(rt; pool.in_use(), 0);
-    wire.drain(&mut pool);
     Ok(())
+}
+
+// What is told after an offer was refused, whether both ends are closed then, and the blocks that one more offer holds.
+fn go_back(pool: &mut Pool) -> Result<((bool, u64, u64), bool, u64), NoMemory> {
+    let grip = pool.put(b"two")?;
+    let second = pool.share(&grip);
+    let mut wire = Wire::new(false);
+    wire.offer(grip);
+    wire.close_in();
+    wire.withdraw(pool);
+    let withdrawn = told(&wire);
+    wire.offer(second);
+    wire.close_out();
+    let is_closed = wire.in_closed() && wire.out_closed();
+    let used = pool.in_use();
+    wire.drain(pool);
+    Ok((withdrawn, is_closed, used))
 }
 
 // An offer that is refused, and one that stands when the run ends: each is given back.
 #[test]
 fn an_offer_goes_back(rt: HostRuntime) -> Result<(), Fail> {
     let mut pool = Pool::new(rt.alloc());
-    let grip = pool.put(b"two")?;
-    let second = pool.share(&grip);
-    let mut wire = Wire::new(false);
-    wire.offer(grip);
-    wire.close_in();
-    wire.withdraw(&mut pool);
-    assert_eq!(rt; told(&wire), (false, 0, 0));
-    wire.offer(second);
-    wire.close_out();
-    assert!(rt; wire.in_closed() && wire.out_closed());
-    assert_eq!(rt; pool.in_use(), 1);
-    wire.drain(&mut pool);
+    let went = go_back(&mut pool);
     assert_eq!(rt; pool.in_use(), 0);
+    pool.close();
+    let (withdrawn, is_closed, used) = went?;
+    assert_eq!(rt; withdrawn, (false, 0, 0));
+    assert!(rt; is_closed);
+    assert_eq!(rt; used, 1);
+    Ok(())
+}
+
+fn is_send<T: Send>() {}
+
+#[test]
+fn types_are_sent_between_threads(_rt: HostRuntime) -> Result<(), Fail> {
+    is_send::<Wire>();
     Ok(())
 }

@@ -1,5 +1,5 @@
 -- Words that are filled from the first bit on hold the numbers below a count.
-use Rattle.std.proofs.Common.{◌≡◌, inl, inr, ℕ, ◌+◌, ◌-◌, ◌*◌, ◌/◌, ◌%◌, ◌<◌, ◌≤◌, List, length, sym, ◌∙◌, ap, subst, arith}
+use Rattle.std.proofs.Common.{◌≡◌, inl, inr, ℕ, zero, suc, ◌+◌, ◌-◌, ◌*◌, ◌/◌, ◌%◌, ◌<◌, ◌≤◌, List, length, refl, sym, ◌∙◌, ap, subst, arith}
 use Rattle.std.specs.Prelude.{min}
 use Rattle.std.specs.Int.{bit_at}
 use Rattle.std.proofs.lemmas.Nat.Bits.{bit_at_ones, bit_at_ones_above}
@@ -12,6 +12,14 @@ less_min a b c p q = grind arith
 
 min_most : (a b c : ℕ) → b ≤ a → min b c ≤ a
 min_most a b c p = grind arith
+
+-- so many words hold the numbers below this one
+pub ceil_is : (n : ℕ) → n / 64 + min 1 (n % 64) ≡ (n + 63) / 64
+ceil_is n = go (n % 64) refl
+  where
+    go : (r : ℕ) → n % 64 ≡ r → n / 64 + min 1 r ≡ (n + 63) / 64
+    go zero e = let m : min 1 0 ≡ 0 = grind arith in omega (arith, e, m)
+    go (suc r) e = let m : min 1 (suc r) ≡ 1 = grind arith in omega (arith, e, m)
 
 module _ (words : List ℕ) (count : ℕ) (filled : (k : ℕ) → word_at words k ≡ low_word (count - 64 * k)) where
   -- a number below the count is held
@@ -33,9 +41,7 @@ pub filled_bits : (size : ℕ) (words summary words' summary' : List ℕ) → Ha
 filled_bits size words summary words' summary' is filled length_is summary_filled summary_length = record {
   few = is.few;
   fits = subst (λ z. size < 64 * z) (sym length_is) is.fits;
-  few_words = subst (λ z. z ≤ 1025) (sym length_is) is.few_words;
   summary_fits = subst (λ z. z < 64 * length summary') (sym length_is) (subst (λ z. length words < 64 * z) (sym summary_length) is.summary_fits);
-  few_summary = subst (λ z. z ≤ 17) (sym summary_length) is.few_summary;
   inside = filled_above words' size filled;
   full = λ k one. elim (cases_lt k ((size + 63) / 64)) [
     | inl p ↦ (let place : (64 * k) / 64 ≡ k = omega arith in subst (λ z. 0 < word_at words' z) place (some_word words' (64 * k) (filled_below words' size filled (64 * k) (omega (arith, p)))))

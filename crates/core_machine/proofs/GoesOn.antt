@@ -13,15 +13,16 @@ use Rattle.pipe_model.specs.Licence.{licence}
 use Rattle.pipe_model.specs.Play.{play}
 use Rattle.pipe_model.proofs.Numbers.{test_same}
 use Rattle.pipe_model.proofs.Lists.{get_set_same}
-use Rattle.record_pool.specs.declared.pool.Held.{Held}
+use Rattle.record_pool.specs.PoolState.{PoolState}
 use Rattle.stage_steps.specs.Coroutine.{told, bytes_with, CanResume, Resumes}
 use Rattle.run_desk.specs.Desk.{DeskState}
-use Rattle.run_desk.specs.Moves.{made, pool_moved, sight_through, CanCome, bare, ends}
+use Rattle.run_desk.specs.Pure.{sight_through}
+use Rattle.run_desk.specs.Moves.{made, pool_moved, CanCome, bare, ends}
 use Rattle.run_desk.specs.Pure as Pure
 use Rattle.connectors.specs.WireState.{IsHeldIn}
 use Rattle.core_machine.specs.declared.actor.Actor.{Actor}
 use Rattle.core_machine.specs.Actors.{is_end, gone_out, gone_on, given_up, asking_for, bytes_told}
-use Rattle.core_machine.specs.Jobs.{JobStands, DoneStands}
+use Rattle.core_machine.specs.Jobs.{JobState, JobStands, HasGoneOn}
 use Rattle.core_machine.specs.Machine.{left_by, without, is_among, looks_at}
 use Rattle.core_machine.specs.Members.{Members}
 use Rattle.core_machine.specs.Sound.{IsSound}
@@ -57,12 +58,12 @@ end_told (Opened k) h going = going
 end_told (Joined k c) h going = going
 end_told (Severed s) h going = going
 
-module _ {S : Type 0} (stands : S → Strand → List Event → Type 0) (net : Net) (budget : ℕ) (journal : List Entry) (out : List ℕ) (actors : List (Actor S)) (d : DeskState) (places : List (Option Held)) (ready : Members)
-    (sound : IsSound stands net budget journal out actors d places ready)
+module _ {S : Type 0} (stands : S → Strand → List Event → Type 0) (net : Net) (budget : ℕ) (journal : List Entry) (out : List ℕ) (actors : List (Actor S)) (d : DeskState) (pool : PoolState) (ready : Members)
+    (sound : IsSound stands net budget journal out actors d pool ready)
     (s : Who) (k : ℕ) (e : Event) (may : licence net (play net journal) (left_by journal out) s k ≡ Some e)
     (a : Actor S) (stage : S) (there : slice_get actors s ≡ Some a) (was : a.stage ≡ Some stage) (seen : Seen) (seen_at : told e ≡ seen)
-    (space : length journal < budget) (d' : DeskState) (places' : List (Option Held)) (ready' : Members)
-    (desk_is : d' ≡ made d s seen) (pool_is : places' ≡ pool_moved d places s seen) (size : ready'.size ≡ ready.size) (covers : IsCovering d' ready') where
+    (space : length journal < budget) (d' : DeskState) (pool' : PoolState) (ready' : Members)
+    (desk_is : d' ≡ made d s seen) (pool_is : pool' ≡ pool_moved d pool s seen) (size : ready'.size ≡ ready.size) (covers : IsCovering d' ready') where
   abbrev pub longer : List Entry
   longer = journal ++ (record { strand = s; stream = k }) ∷ []
 
@@ -71,29 +72,32 @@ module _ {S : Type 0} (stands : S → Strand → List Event → Type 0) (net : N
 
   -- After the turn
 
-  was_out : IsSound stands net budget longer (out ++ here ∷ []) (slice_set actors s (gone_out seen a)) d' places' ready'
-  was_out = sound_turned stands net budget journal out actors d places ready sound s k e may a stage there was seen seen_at (gone_out seen a) refl refl refl space d' places' ready' desk_is pool_is size covers
+  was_out : IsSound stands net budget longer (out ++ here ∷ []) (slice_set actors s (gone_out seen a)) d' pool' ready'
+  was_out = sound_turned stands net budget journal out actors d pool ready sound s k e may a stage there was seen seen_at (gone_out seen a) refl refl refl space d' pool' ready' desk_is pool_is size covers
 
-  pub sights : (i : ℕ) → IsHeldIn places' (sight_through d'.sights (Pure.in_door d' s i))
-  sights i = sight_held stands net budget longer (out ++ here ∷ []) (slice_set actors s (gone_out seen a)) d' places' ready' was_out s i
+  pub sights : (i : ℕ) → IsHeldIn pool' (sight_through d'.sights (Pure.sight_door d' s i))
+  sights i = sight_held stands net budget longer (out ++ here ∷ []) (slice_set actors s (gone_out seen a)) d' pool' ready' was_out s i
 
   -- the bytes at hand are those of the event
-  pub right_bytes : bytes_with (looks_at net s) e ≡ bytes_told (looks_at net s) d' places' s seen
+  pub right_bytes : bytes_with (looks_at net s) e ≡ bytes_told (looks_at net s) d' pool' s seen
   right_bytes =
-      sym (told_are stands net budget longer (out ++ here ∷ []) (slice_set actors s (gone_out seen a)) d' places' ready' was_out (looks_at net s) s e (past (play net journal) s) seen
-      (turned_past stands net budget journal out actors d places ready sound s k e may) (goes_on stands net budget journal out actors d places ready sound s k e may) seen_at)
+      sym (told_are stands net budget longer (out ++ here ∷ []) (slice_set actors s (gone_out seen a)) d' pool' ready' was_out (looks_at net s) s e (past (play net journal) s) seen
+      (turned_past stands net budget journal out actors d pool ready sound s k e may) (goes_on stands net budget journal out actors d pool ready sound s k e may) seen_at)
 
-  abbrev job : (b : Actor S) → b.stage ≡ None → b.looks ≡ a.looks → b.saw_end ≡ (a.saw_end || is_end seen) → JobStands stands net longer s here seen stage
-  job b b_out b_looks b_end = job_turned stands net budget journal out actors d places ready sound s k e may a stage there was seen seen_at b b_out b_looks b_end space d' places' ready' desk_is pool_is size covers
+  abbrev its : JobState S
+  its = record { strand = s; place = here; seen = seen; stage = stage }
 
-  job_bytes : (b : Actor S) (b_out : b.stage ≡ None) (b_looks : b.looks ≡ a.looks) (b_end : b.saw_end ≡ (a.saw_end || is_end seen)) (bytes : List ℕ) → bytes ≡ bytes_told (looks_at net s) d' places' s seen →
+  abbrev job : (b : Actor S) → b.stage ≡ None → b.looks ≡ a.looks → b.saw_end ≡ (a.saw_end || is_end seen) → JobStands stands net longer its
+  job b b_out b_looks b_end = job_turned stands net budget journal out actors d pool ready sound s k e may a stage there was seen seen_at b b_out b_looks b_end space d' pool' ready' desk_is pool_is size covers
+
+  job_bytes : (b : Actor S) (b_out : b.stage ≡ None) (b_looks : b.looks ≡ a.looks) (b_end : b.saw_end ≡ (a.saw_end || is_end seen)) (bytes : List ℕ) → bytes ≡ bytes_told (looks_at net s) d' pool' s seen →
       bytes_with (looks_at net s) (job b b_out b_looks b_end).event ≡ bytes
   job_bytes b b_out b_looks b_end bytes is =
-      ap (bytes_with (looks_at net s)) (job_event stands net budget journal out actors d places ready sound s k e may a stage there was seen seen_at b b_out b_looks b_end space d' places' ready' desk_is pool_is size covers)
+      ap (bytes_with (looks_at net s)) (job_event stands net budget journal out actors d pool ready sound s k e may a stage there was seen seen_at b b_out b_looks b_end space d' pool' ready' desk_is pool_is size covers)
       ∙ right_bytes ∙ sym is
 
-  pub can_go : (bytes : List ℕ) → bytes ≡ bytes_told (looks_at net s) d' places' s seen → CanResume stands stage seen bytes
-  can_go bytes is = can_run stands net longer s here seen stage (job (gone_out seen a) refl refl refl) bytes (job_bytes (gone_out seen a) refl refl refl bytes is)
+  pub can_go : (bytes : List ℕ) → bytes ≡ bytes_told (looks_at net s) d' pool' s seen → CanResume stands stage seen bytes
+  can_go bytes is = can_run stands net longer its (job (gone_out seen a) refl refl refl) bytes (job_bytes (gone_out seen a) refl refl refl bytes is)
 
   -- After the coroutine went on
 
@@ -107,16 +111,16 @@ module _ {S : Type 0} (stands : S → Strand → List Event → Type 0) (net : N
     abbrev pub stayed : List (Actor S)
     stayed = slice_set actors s on
 
-    pub lost : IsSound stands net budget longer (out ++ here ∷ []) (slice_set actors s off) d' places' ready'
-    lost = sound_turned stands net budget journal out actors d places ready sound s k e may a stage there was seen seen_at off refl refl refl space d' places' ready' desk_is pool_is size covers
+    pub lost : IsSound stands net budget longer (out ++ here ∷ []) (slice_set actors s off) d' pool' ready'
+    lost = sound_turned stands net budget journal out actors d pool ready sound s k e may a stage there was seen seen_at off refl refl refl space d' pool' ready' desk_is pool_is size covers
 
     -- the coroutine is given up
-    pub gave_up : (b : Actor S) → slice_get stayed s ≡ Some b → IsSound stands net budget longer (out ++ here ∷ []) (slice_set stayed s (given_up b)) d' places' ready'
+    pub gave_up : (b : Actor S) → slice_get stayed s ≡ Some b → IsSound stands net budget longer (out ++ here ∷ []) (slice_set stayed s (given_up b)) d' pool' ready'
     gave_up b at =
         let one : Some on ≡ Some b = sym (get_set_same actors s on a there) ∙ at in
         let b_is : on ≡ b = cc in
-        subst (λ (x : Actor S). IsSound stands net budget longer (out ++ here ∷ []) (slice_set stayed s (given_up x)) d' places' ready') b_is
-        (subst (λ (l : List (Actor S)). IsSound stands net budget longer (out ++ here ∷ []) l d' places' ready') (sym (set_set actors s on off)) lost)
+        subst (λ (x : Actor S). IsSound stands net budget longer (out ++ here ∷ []) (slice_set stayed s (given_up x)) d' pool' ready') b_is
+        (subst (λ (l : List (Actor S)). IsSound stands net budget longer (out ++ here ∷ []) l d' pool' ready') (sym (set_set actors s on off)) lost)
 
     -- what is kept of it where it asks for something else
     pub asking : (b : Actor S) → slice_get stayed s ≡ Some b → (shown : Asked) → slice_set stayed s (asking_for shown b) ≡ slice_set actors s (gone_on seen next shown a)
@@ -131,7 +135,7 @@ module _ {S : Type 0} (stands : S → Strand → List Event → Type 0) (net : N
         let b_is : on ≡ b = cc in
         ap (λ (x : Actor S). x.asked) b_is
 
-    module _ (alone : out ≡ []) (bytes : List ℕ) (bytes_are : bytes ≡ bytes_told (looks_at net s) d' places' s seen) (resumed : Resumes stands stage next seen bytes asked) where
+    module _ (alone : out ≡ []) (bytes : List ℕ) (bytes_are : bytes ≡ bytes_told (looks_at net s) d' pool' s seen) (resumed : Resumes stands stage next seen bytes asked) where
       abbrev out' : List ℕ
       out' = out ++ here ∷ []
 
@@ -141,30 +145,30 @@ module _ {S : Type 0} (stands : S → Strand → List Event → Type 0) (net : N
       among : is_among here out' ≡ true
       among = ap (is_among here) out_is ∙ one_among here
 
-      done : DoneStands stands net (take here longer) s here next asked
-      done = done_take stands net longer s here seen stage (job off refl refl refl) bytes (job_bytes off refl refl refl bytes bytes_are) next asked resumed
+      done : HasGoneOn stands net (take here longer) s here next asked
+      done = done_take stands net longer its (job off refl refl refl) bytes (job_bytes off refl refl refl bytes bytes_are) next asked resumed
 
       -- it has ended just where that is what it was told
       pub home_ended : ends seen ≡ Pure.ended_at d' s
       home_ended =
-          sym (ended_is stands net budget longer out' (slice_set actors s off) d' places' ready' lost s here next asked among done
-          ∙ ap has_ended (turned_past stands net budget journal out actors d places ready sound s k e may)
-          ∙ end_told e (past (play net journal) s) (goes_on stands net budget journal out actors d places ready sound s k e may) ∙ ap ends seen_at)
+          sym (ended_is stands net budget longer out' (slice_set actors s off) d' pool' ready' lost s here next asked among done
+          ∙ ap has_ended (turned_past stands net budget journal out actors d pool ready sound s k e may)
+          ∙ end_told e (past (play net journal) s) (goes_on stands net budget journal out actors d pool ready sound s k e may) ∙ ap ends seen_at)
 
-      pub home_can : Pure.ended_at d' s ≡ false → CanCome d' places' s asked
-      home_can = can_home stands net budget longer out' (slice_set actors s off) d' places' ready' lost s here next asked among done
+      pub home_can : Pure.ended_at d' s ≡ false → CanCome d' pool' s asked
+      home_can = can_home stands net budget longer out' (slice_set actors s off) d' pool' ready' lost s here next asked among done
 
-      pub home_early : (d2 : DeskState) (places2 : List (Option Held)) → HasReturned d' places' s asked d2 places2 → AsksEarly d2
-      home_early = came_early stands net budget longer out' (slice_set actors s off) d' places' ready' lost s here next asked among done
+      pub home_early : (d2 : DeskState) (pool2 : PoolState) → HasReturned d' pool' s asked d2 pool2 → AsksEarly d2
+      home_early = came_early stands net budget longer out' (slice_set actors s off) d' pool' ready' lost s here next asked among done
 
       -- and its strand came home
       pub went_home : (shown : Asked) → (Pure.ended_at d' s ≡ false → shown ≡ bare asked) →
-          (d2 : DeskState) (places2 : List (Option Held)) (ready2 : Members) → HasReturned d' places' s asked d2 places2 → ready2.size ≡ ready'.size → IsCovering d2 ready2 →
-          IsSound stands net budget longer [] (slice_set actors s (gone_on seen next shown a)) d2 places2 ready2
-      went_home shown bared d2 places2 ready2 returned size2 covers2 =
+          (d2 : DeskState) (pool2 : PoolState) (ready2 : Members) → HasReturned d' pool' s asked d2 pool2 → ready2.size ≡ ready'.size → IsCovering d2 ready2 →
+          IsSound stands net budget longer [] (slice_set actors s (gone_on seen next shown a)) d2 pool2 ready2
+      went_home shown bared d2 pool2 ready2 returned size2 covers2 =
           let new : Actor S = gone_on seen next shown a in
-          let home = sound_home stands net budget longer out' (slice_set actors s off) d' places' ready' lost s here next asked among done d2 places2 ready2 off (get_set_same actors s off a there)
-          (came stands net budget longer out' (slice_set actors s off) d' places' ready' lost s here next asked among done d2 places2 returned) size2 covers2 shown bared in
+          let home = sound_home stands net budget longer out' (slice_set actors s off) d' pool' ready' lost s here next asked among done d2 pool2 ready2 off (get_set_same actors s off a there)
+          (came stands net budget longer out' (slice_set actors s off) d' pool' ready' lost s here next asked among done d2 pool2 returned) size2 covers2 shown bared in
           let none : without here out' ≡ [] = ap (without here) out_is ∙ none_without here in
-          subst (λ (l : List (Actor S)). IsSound stands net budget longer [] l d2 places2 ready2) (set_set actors s off new)
-          (subst (λ o. IsSound stands net budget longer o (slice_set (slice_set actors s off) s new) d2 places2 ready2) none home)
+          subst (λ (l : List (Actor S)). IsSound stands net budget longer [] l d2 pool2 ready2) (set_set actors s off new)
+          (subst (λ o. IsSound stands net budget longer o (slice_set (slice_set actors s off) s new) d2 pool2 ready2) none home)

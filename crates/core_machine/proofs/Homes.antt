@@ -9,7 +9,7 @@ use Rattle.pipe_model.specs.declared.step.Want.TheVariants as want
 use Rattle.pipe_model.specs.State.{State}
 use Rattle.pipe_model.specs.Licence.{Left}
 use Rattle.pipe_model.specs.WellFormed.{IsWellFormed}
-use Rattle.record_pool.specs.declared.pool.Held.{Held}
+use Rattle.record_pool.specs.PoolState.{PoolState}
 use Rattle.run_desk.specs.declared.seat.Ask.{Ask}
 use Rattle.run_desk.specs.declared.seat.Ask.TheVariants as Now
 use Rattle.run_desk.specs.declared.seat.Seat.{Seat}
@@ -49,28 +49,28 @@ module _ (net : Net) (d n : DeskState) (s : ℕ) (new : Members) (low zero : Boo
       (λ u off. subst (IsStill net.links u d.wires) (sym (ap (λ (z : DeskState). z.wires) is)) (still_same net.links u d.wires))
       (λ u inside off level early. same_code d n level (ap (λ (z : DeskState). z.unit) is ∙ unit))
 
-  around_want : (places after : List (Option Held)) (w : Want) → HasCome d places s w n after → IsReaderIn d net.links s w new →
+  around_want : (pool after : PoolState) (w : Want) → HasCome d pool s w n after → IsReaderIn d net.links s w new →
       low ≡ (not (commits w) || is_some (Pure.level_code d (negsuc 0))) → zero ≡ (not (commits w) || is_some (Pure.level_code d (pos 0))) → IsAround net d n s new
-  around_want places after (want.Write o out) come reader low_is zero_is =
+  around_want pool after (want.Write o out) come reader low_is zero_is =
       around_home (Now.Write o) (ap (λ (z : DeskState). z.seats) come.2) (ap (λ (z : DeskState). z.doors) come.2)
       (λ u off. subst (IsStill net.links u d.wires) (sym (ap (λ (z : DeskState). z.wires) come.2))
       (still_changed net.links u d.wires (offers come.0) (Pure.out_door d s o)
       (λ j link wire door l to at. clash new u (ap (is_member new) (sym to) ∙ reader link (ap (link_through net.links) door ∙ l)) off)
       (λ j link wire door l from at. (λ p. p, λ p. p))))
       (λ u inside off level early. same_code d n level (ap (λ (z : DeskState). z.unit) come.2))
-  around_want places after (want.Commit l) come reader low_is zero_is =
+  around_want pool after (want.Commit l) come reader low_is zero_is =
       around_home (Now.Commit l) (ap (λ (z : DeskState). z.seats) come.0) (ap (λ (z : DeskState). z.doors) come.0)
       (λ u off. subst (IsStill net.links u d.wires) (sym (ap (λ (z : DeskState). z.wires) come.0)) (still_same net.links u d.wires))
       (full_levels d n new low zero low_is zero_is fills_low fills_zero)
-  around_want places after (want.Read i) come reader low_is zero_is = around_plain (Now.Read i) come.0 refl
-  around_want places after want.Any come reader low_is zero_is = around_plain Now.Any come.0 refl
-  around_want places after want.Gate come reader low_is zero_is = around_plain Now.Gate come.0 refl
-  around_want places after (want.Take i) come reader low_is zero_is = around_plain (Now.Take i) come.0 refl
-  around_want places after want.Primed come reader low_is zero_is = around_plain Now.Primed come.0 refl
-  around_want places after (want.Issue text) come reader low_is zero_is = around_plain Now.Issue come.0 refl
-  around_want places after (want.Join unit) come reader low_is zero_is = around_plain (Now.Join unit) come.0 refl
-  around_want places after (want.Cut i) come reader low_is zero_is = around_plain (Now.Cut i) come.0 refl
-  around_want places after (want.Done code) come reader low_is zero_is = around_plain (Now.Done code) come.0 refl
+  around_want pool after (want.Read i) come reader low_is zero_is = around_plain (Now.Read i) come.0 refl
+  around_want pool after want.Any come reader low_is zero_is = around_plain Now.Any come.0 refl
+  around_want pool after want.Gate come reader low_is zero_is = around_plain Now.Gate come.0 refl
+  around_want pool after (want.Take i) come reader low_is zero_is = around_plain (Now.Take i) come.0 refl
+  around_want pool after want.Primed come reader low_is zero_is = around_plain Now.Primed come.0 refl
+  around_want pool after (want.Issue text) come reader low_is zero_is = around_plain Now.Issue come.0 refl
+  around_want pool after (want.Join unit) come reader low_is zero_is = around_plain (Now.Join unit) come.0 refl
+  around_want pool after (want.Cut i) come reader low_is zero_is = around_plain (Now.Cut i) come.0 refl
+  around_want pool after (want.Done code) come reader low_is zero_is = around_plain (Now.Done code) come.0 refl
 
 more_readers : (d : DeskState) (links : List Link) (s : ℕ) (w : Want) (set more : Members) → ((t : ℕ) → is_member set t ≡ true → is_member more t ≡ true) → IsReaderIn d links s w set → IsReaderIn d links s w more
 more_readers d links s (want.Write o out) set more larger reader = λ link l. larger link.to (reader link l)
@@ -115,18 +115,18 @@ no_commit (want.Done code) other = refl
 
 -- after a strand came home the set covers the strands that may go on, where it, who reads what it writes and those for whom it settled something were woken
 pub covers_home : (net : Net) (texts : ℕ → List ℕ) (st : State) (left : Left) (d n : DeskState) (links : List Link) → net.links ≡ links → IsWellFormed net → IsKept net texts st left d → AsksEarly n →
-    (places after : List (Option Held)) (s : ℕ) (w : Want) (old set new : Members) (low zero : Bool) → length net.strands ≡ old.size → HasCome d places s w n after →
+    (pool after : PoolState) (s : ℕ) (w : Want) (old set new : Members) (low zero : Bool) → length net.strands ≡ old.size → HasCome d pool s w n after →
     IsLarger old set → is_member set s ≡ true → IsReaderIn d links s w set → IsLarger set new →
     low ≡ (not (commits w) || is_some (Pure.level_code d (negsuc 0))) → zero ≡ (not (commits w) || is_some (Pure.level_code d (pos 0))) →
     (low ≡ false → is_some (Pure.level_code n (negsuc 0)) ≡ true → IsWhole new) → (zero ≡ false → is_some (Pure.level_code n (pos 0)) ≡ true → IsWhole new) →
     IsCovering d old → IsCovering n new
-covers_home net texts st left d n links same formed kept early places after s w old set new low zero size come larger here reader larger' low_is zero_is fills_low fills_zero covers =
+covers_home net texts st left d n links same formed kept early pool after s w old set new low zero size come larger here reader larger' low_is zero_is fills_low fills_zero covers =
     covers_on net st formed d n kept.laid s new (larger'.0 ∙ larger.0 ∙ sym size) around
     old (λ t held. larger'.1 t (larger.1 t held)) covers
     (λ u apart level asks. early u level (ap Pure.ask_of (around.seats u apart) ∙ asks))
   where
     around : IsAround net d n s new
-    around = around_want net d n s new low zero (larger'.1 s here) fills_low fills_zero places after w come
+    around = around_want net d n s new low zero (larger'.1 s here) fills_low fills_zero pool after w come
         (more_readers d net.links s w set new larger'.1 (subst (λ z. IsReaderIn d z s w set) (sym same) reader)) low_is zero_is
 
 -- who came home to write may go on only where the record that it offered may be put, or refused

@@ -12,7 +12,7 @@ use Rattle.pipe_model.specs.Event.{has_ended}
 use Rattle.pipe_model.specs.State.{State, past}
 use Rattle.pipe_model.specs.Licence.{Left}
 use Rattle.pipe_model.specs.WellFormed.{IsWellFormed}
-use Rattle.record_pool.specs.declared.pool.Held.{Held}
+use Rattle.record_pool.specs.PoolState.{PoolState}
 use Rattle.connectors.specs.WireState.{WireState, at_hand, taken, settled, cleared}
 use Rattle.run_desk.specs.declared.seat.Seat.{Seat}
 use Rattle.run_desk.specs.Desk.{DeskState}
@@ -103,10 +103,10 @@ module _ (net : Net) (texts : ℕ → List ℕ) (st : State) (left : Left) (d : 
   still_open : (o j : ℕ) (link : Link) (wire : WireState) → Pure.out_door d s o ≡ Some j → slice_get net.links j ≡ Some link → slice_get d.wires j ≡ Some wire → wire.out_closed ≡ false
   still_open o j link wire door l at = (kept.wires j link wire l at).out_closed ∙ ap (λ z. has_ended (past st z)) (leads_from net st d kept.laid s o j link door l) ∙ going
 
-module _ (net : Net) (texts : ℕ → List ℕ) (st : State) (left : Left) (d : DeskState) (kept : IsKept net texts st left d) (places : List (Option Held)) (s : ℕ) (live : Pure.ended_at d s ≡ false) (new : Members) where
+module _ (net : Net) (texts : ℕ → List ℕ) (st : State) (left : Left) (d : DeskState) (kept : IsKept net texts st left d) (pool : PoolState) (s : ℕ) (live : Pure.ended_at d s ≡ false) (new : Members) where
   module _ (u : ℕ) (apart : u ≢ s) (off : is_member new u ≡ false) where
     -- a strand that wasn't woken sees no more on the wires
-    still_made : (seen : Seen) → CanMove d places s seen → AreEndsIn d net.links s seen new → IsStill net.links u d.wires (made d s seen).wires
+    still_made : (seen : Seen) → CanMove d pool s seen → AreEndsIn d net.links s seen new → IsStill net.links u d.wires (made d s seen).wires
     still_made (Took i) can woken = still_changed net.links u d.wires taken (Pure.in_door d s i)
         (λ j link wire door l to at. taken_reads wire (can.0 wire (ap (Pure.through d.wires) door ∙ at)))
         (λ j link wire door l from at. clash new u (ap (is_member new) (sym from) ∙ woken link (ap (link_through net.links) door ∙ l)) off)
@@ -145,7 +145,7 @@ module _ (net : Net) (texts : ℕ → List ℕ) (st : State) (left : Left) (d : 
 
   -- which levels were full before, and what was woken where they are now
   module _ (low zero : Bool) where
-    levels_made : (seen : Seen) → CanMove d places s seen →
+    levels_made : (seen : Seen) → CanMove d pool s seen →
         low ≡ (not (ends seen) || is_some (Pure.level_code d (negsuc 0))) → zero ≡ (not (ends seen) || is_some (Pure.level_code d (pos 0))) →
         (low ≡ false → is_some (Pure.level_code (made d s seen) (negsuc 0)) ≡ true → IsWhole new) → (zero ≡ false → is_some (Pure.level_code (made d s seen) (pos 0)) ≡ true → IsWhole new) →
         (u : ℕ) → u < new.size → is_member new u ≡ false → (level : ℤ) → (level ≡ negsuc 0) ⊎ (level ≡ pos 0) →
@@ -177,7 +177,7 @@ module _ (net : Net) (texts : ℕ → List ℕ) (st : State) (left : Left) (d : 
           absurd (let r : ⊥ = cc in r)
 
       -- the desk after a turn differs by what happened at the strand
-      around_made : CanMove d places s seen → AreEndsIn d net.links s seen new →
+      around_made : CanMove d pool s seen → AreEndsIn d net.links s seen new →
           low ≡ (not (ends seen) || is_some (Pure.level_code d (negsuc 0))) → zero ≡ (not (ends seen) || is_some (Pure.level_code d (pos 0))) →
           (is_some (Pure.primed_of (slice_get n.seats s)) ≡ true → (is_some (Pure.primed_of (slice_get d.seats s)) ≡ true) ⊎ IsStageIn n s new) →
           (low ≡ false → is_some (Pure.level_code n (negsuc 0)) ≡ true → IsWhole new) → (zero ≡ false → is_some (Pure.level_code n (pos 0)) ≡ true → IsWhole new) →
@@ -208,14 +208,14 @@ more_ends d links s (Joined k c) set more larger woken = woken
 
 -- after a turn the set covers the strands that may go on, where those next to it and those for whom it settled something were woken
 pub covers_out : (net : Net) (texts : ℕ → List ℕ) (st : State) (left : Left) (d : DeskState) (links : List Link) → net.links ≡ links → IsWellFormed net → IsKept net texts st left d → AsksEarly d →
-    (places : List (Option Held)) (s : ℕ) (seen : Seen) (old set new : Members) (low zero : Bool) → length net.strands ≡ old.size → CanMove d places s seen → Pure.ended_at d s ≡ false →
+    (pool : PoolState) (s : ℕ) (seen : Seen) (old set new : Members) (low zero : Bool) → length net.strands ≡ old.size → CanMove d pool s seen → Pure.ended_at d s ≡ false →
     IsLarger old set → AreEndsIn d links s seen set → IsLarger set new →
     low ≡ (not (ends seen) || is_some (Pure.level_code d (negsuc 0))) → zero ≡ (not (ends seen) || is_some (Pure.level_code d (pos 0))) →
     (is_some (Pure.primed_of (slice_get (made d s seen).seats s)) ≡ true → (is_some (Pure.primed_of (slice_get d.seats s)) ≡ true) ⊎ IsStageIn (made d s seen) s new) →
     (low ≡ false → is_some (Pure.level_code (made d s seen) (negsuc 0)) ≡ true → IsWhole new) → (zero ≡ false → is_some (Pure.level_code (made d s seen) (pos 0)) ≡ true → IsWhole new) →
     IsCovering d old → IsCovering (made d s seen) new
-covers_out net texts st left d links same formed kept early places s seen old set new low zero size can live larger woken larger' low_is zero_is stage fills_low fills_zero covers =
+covers_out net texts st left d links same formed kept early pool s seen old set new low zero size can live larger woken larger' low_is zero_is stage fills_low fills_zero covers =
     covers_on net st formed d (made d s seen) kept.laid s new (larger'.0 ∙ larger.0 ∙ sym size)
-    (around_made net texts st left d kept places s live new low zero seen can (more_ends d net.links s seen set new larger'.1 (subst (λ z. AreEndsIn d z s seen set) (sym same) woken))
+    (around_made net texts st left d kept pool s live new low zero seen can (more_ends d net.links s seen set new larger'.1 (subst (λ z. AreEndsIn d z s seen set) (sym same) woken))
     low_is zero_is stage fills_low fills_zero)
     old (λ t held. larger'.1 t (larger.1 t held)) covers (λ u apart level asks. early u level asks)

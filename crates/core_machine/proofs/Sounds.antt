@@ -19,12 +19,13 @@ use Rattle.pipe_model.specs.Licence.{Left, none_left, want_after, want_at, at_ha
 use Rattle.pipe_model.specs.Play.{play}
 use Rattle.pipe_model.proofs.Numbers.{equal_or_not, test_same}
 use Rattle.pipe_model.proofs.Lists.{at_some, get_set_same, get_set_other, length_more}
-use Rattle.record_pool.specs.declared.pool.Held.{Held}
+use Rattle.record_pool.specs.PoolState.{PoolState}
 use Rattle.record_pool.specs.Places.{bytes_at}
-use Rattle.stage_steps.specs.Coroutine.{told, bytes_with, meaning, last_seen}
+use Rattle.stage_steps.specs.Coroutine.{told, bytes_with, meaning, last_seen, IsSeenBefore}
 use Rattle.run_desk.specs.Desk.{DeskState}
+use Rattle.run_desk.specs.Pure.{sight_through}
 use Rattle.run_desk.specs.Kept.{left_out, left_in}
-use Rattle.run_desk.specs.Moves.{made, pool_moved, CanMove, CanCome, bare, hand_on, sight_through}
+use Rattle.run_desk.specs.Moves.{made, pool_moved, CanMove, CanCome, bare, hand_on}
 use Rattle.connectors.specs.WireState.{IsHeldIn}
 use Rattle.run_desk.specs.Order.{IsRun}
 use Rattle.run_desk.specs.Pure as Pure
@@ -32,7 +33,7 @@ use Rattle.run_desk.proofs.Runs.{run_can, run_made, run_can_come, run_home, run_
 use Rattle.run_desk.proofs.Acts.{goes}
 use Rattle.run_desk.proofs.Conditions as conditions
 use Rattle.run_desk.proofs.Limits.{sights_held}
-use Rattle.run_desk.proofs.Offers.{sight_text}
+use Rattle.run_desk.proofs.Offers.{sight_bytes}
 use Rattle.run_desk.proofs.Shown.{shows_it}
 use Rattle.run_desk.proofs.Sees.{seen_is}
 use Rattle.confluence_laws.proofs.Basics.{at_same, at_other}
@@ -42,7 +43,7 @@ use Rattle.confluence_laws.proofs.Lengths.{play_last, legal_last}
 use Rattle.core_machine.specs.declared.actor.Actor.{Actor}
 use Rattle.core_machine.specs.Actors.{is_end, come_back, looks_in, bytes_told}
 use Rattle.core_machine.specs.Answered.{LeastReady, LeastEvent, Shows}
-use Rattle.core_machine.specs.Jobs.{JobStands, DoneStands}
+use Rattle.core_machine.specs.Jobs.{JobStands, HasGoneOn}
 use Rattle.core_machine.specs.Machine.{is_of, is_at, left_by, without, is_among, looks_at, IsLawful}
 use Rattle.core_machine.specs.Members.{Members}
 use Rattle.core_machine.specs.Sound.{IsLast, IsActor, AreActors, IsSound}
@@ -50,8 +51,8 @@ use Rattle.core_machine.specs.Woken.{IsCovering, AsksEarly, AreInside, HasReturn
 use Rattle.core_machine.proofs.Away.{left_turned, last_turned, apart_turned, left_home, apart_home, last_home, among_last, among_left, one_strand, fewer_out}
 use Rattle.core_machine.proofs.Plays.{get_take, looks_here, looks_nowhere, play_length, end_seen, shows_bare, early_on, links_inside}
 
-module _ {S : Type 0} (stands : S → Strand → List Event → Type 0) (net : Net) (budget : ℕ) (journal : List Entry) (out : List ℕ) (actors : List (Actor S)) (d : DeskState) (places : List (Option Held)) (ready : Members)
-    (sound : IsSound stands net budget journal out actors d places ready) where
+module _ {S : Type 0} (stands : S → Strand → List Event → Type 0) (net : Net) (budget : ℕ) (journal : List Entry) (out : List ℕ) (actors : List (Actor S)) (d : DeskState) (pool : PoolState) (ready : Members)
+    (sound : IsSound stands net budget journal out actors d pool ready) where
   abbrev pub st : State
   st = play net journal
 
@@ -67,7 +68,7 @@ module _ {S : Type 0} (stands : S → Strand → List Event → Type 0) (net : N
   -- Readiness
 
   pub desk_sees : (s : Who) (k : ℕ) → Pure.seen_at d s k ≡ option_map told (licence net st left s k)
-  desk_sees s k = seen_is net (bytes_at places) st left d sound.formed sound.run.kept s k
+  desk_sees s k = seen_is net (bytes_at pool) st left d sound.formed sound.run.kept s k
 
   some_map : (x : Option Event) → is_some (option_map told x) ≡ is_some x
   some_map None = refl
@@ -102,7 +103,7 @@ module _ {S : Type 0} (stands : S → Strand → List Event → Type 0) (net : N
   event_is b (Some r) is = (least_is b (Some (r.0, r.1)) is.0, some_is r.0 r.1 r.2 is.1)
 
   pub asks_early : AsksEarly d
-  asks_early = early_on net st sound.formed own (bytes_at places) left d sound.run.kept
+  asks_early = early_on net st sound.formed own (bytes_at pool) left d sound.run.kept
 
   pub ended_here : (s : Who) → s < length net.strands → Pure.ended_at d s ≡ has_ended (past st s)
   ended_here s place =
@@ -110,7 +111,7 @@ module _ {S : Type 0} (stands : S → Strand → List Event → Type 0) (net : N
       ap Pure.ended_of a.1 ∙ (sound.run.kept.seats s a.0 a.1).ended
 
   -- the same with another set of strands that may be ready
-  pub sound_ready : (ready' : Members) → ready'.size ≡ ready.size → IsCovering d ready' → IsSound stands net budget journal out actors d places ready'
+  pub sound_ready : (ready' : Members) → ready'.size ≡ ready.size → IsCovering d ready' → IsSound stands net budget journal out actors d pool ready'
   sound_ready ready' size covers = record {
     formed = sound.formed;
     few = sound.few;
@@ -130,26 +131,26 @@ module _ {S : Type 0} (stands : S → Strand → List Event → Type 0) (net : N
 
   -- Records
 
-  pub sight_held : (s i : ℕ) → IsHeldIn places (sight_through d.sights (Pure.in_door d s i))
-  sight_held s i = sights_held d.wires d.sights places sound.run.pooled (Pure.in_door d s i)
+  pub sight_held : (s i : ℕ) → IsHeldIn pool (sight_through d.sights (Pure.sight_door d s i))
+  sight_held s i = sights_held d.wires d.sights pool sound.run.pooled (Pure.sight_door d s i)
 
-  pub hand_held : (s i : ℕ) → IsHeldIn places (hand_on (Pure.wire_in d s i))
+  pub hand_held : (s i : ℕ) → IsHeldIn pool (hand_on (Pure.wire_in d s i))
   hand_held s i = go (hand_on (Pure.wire_in d s i)) refl
     where
-      go : (x : Option ℕ) → hand_on (Pure.wire_in d s i) ≡ x → IsHeldIn places x
+      go : (x : Option ℕ) → hand_on (Pure.wire_in d s i) ≡ x → IsHeldIn pool x
       go None is = tt
-      go (Some grip) is = conditions.hand_held net st left d places sound.formed sound.run (Pure.in_door d s i) grip is
+      go (Some grip) is = conditions.hand_held net st left d pool sound.formed sound.run (Pure.in_door d s i) grip is
 
   -- the record that a licensed look shows
   pub looks_long : (s k : ℕ) (e : Event) (i : ℕ) → licence net st left s k ≡ Some e → told e ≡ Told.Saw i →
-      length (option_map_or (bytes_at places) (hand_on (Pure.wire_in d s i)) []) ≡ length (bytes_with true e)
+      length (option_map_or (bytes_at pool) (hand_on (Pure.wire_in d s i)) []) ≡ length (bytes_with true e)
   looks_long s k e i may is = go e may is
     where
-      go : (f : Event) → licence net st left s k ≡ Some f → told f ≡ Told.Saw i → length (option_map_or (bytes_at places) (hand_on (Pure.wire_in d s i)) []) ≡ length (bytes_with true f)
+      go : (f : Event) → licence net st left s k ≡ Some f → told f ≡ Told.Saw i → length (option_map_or (bytes_at pool) (hand_on (Pure.wire_in d s i)) []) ≡ length (bytes_with true f)
       go (Saw j rec) may is =
           let same : j ≡ i = cc in
-          let there = shows_it net (bytes_at places) st left d sound.run.kept s i rec (subst (λ z. at_hand net st left (link_in net st s z) ≡ Some rec) same (saw_it net st left s k j rec may)) in
-          ap (λ x. length (option_map_or (bytes_at places) x [])) there.1 ∙ ap length there.2
+          let there = shows_it net (bytes_at pool) st left d sound.run.kept s i rec (subst (λ z. at_hand net st left (link_in net st s z) ≡ Some rec) same (saw_it net st left s k j rec may)) in
+          ap (λ x. length (option_map_or (bytes_at pool) x [])) there.1 ∙ ap length there.2
       go (Up l c) may is = cc
       go (SawEnd j) may is = cc
       go SawAllEnd may is = cc
@@ -164,13 +165,13 @@ module _ {S : Type 0} (stands : S → Strand → List Event → Type 0) (net : N
 
   -- the record that a strand saw last, where that was its last event
   pub bytes_are : (s : Who) (e : Event) (h : List Event) (i : ℕ) → past st s ≡ e ∷ h → has_ended h ≡ false → told e ≡ Told.Saw i →
-      option_map_or (bytes_at places) (sight_through d.sights (Pure.in_door d s i)) [] ≡ bytes_with true e
+      option_map_or (bytes_at pool) (sight_through d.sights (Pure.sight_door d s i)) [] ≡ bytes_with true e
   bytes_are s e h i past_is going is = go e past_is is
     where
-      go : (f : Event) → past st s ≡ f ∷ h → told f ≡ Told.Saw i → option_map_or (bytes_at places) (sight_through d.sights (Pure.in_door d s i)) [] ≡ bytes_with true f
+      go : (f : Event) → past st s ≡ f ∷ h → told f ≡ Told.Saw i → option_map_or (bytes_at pool) (sight_through d.sights (Pure.sight_door d s i)) [] ≡ bytes_with true f
       go (Saw j rec) past_is is =
           let same : j ≡ i = cc in
-          sight_text net (bytes_at places) st left d sound.run.kept s (ap has_ended past_is ∙ going) i
+          sight_bytes net (bytes_at pool) st left d sound.run.kept s (ap has_ended past_is ∙ going) i
           ∙ ap (last_seen_on i) past_is ∙ ap (λ b. cond b rec (last_seen_on i h)) (ap (λ z. z == i) same ∙ test_same i)
       go (Up l c) past_is is = cc
       go (SawEnd j) past_is is = cc
@@ -185,10 +186,10 @@ module _ {S : Type 0} (stands : S → Strand → List Event → Type 0) (net : N
       go (Ended c) past_is is = cc
 
   -- the same, whatever a strand was told last and whether it looks
-  pub told_are : (b : Bool) (s : Who) (e : Event) (h : List Event) (seen : Seen) → past st s ≡ e ∷ h → has_ended h ≡ false → told e ≡ seen → bytes_told b d places s seen ≡ bytes_with b e
-  told_are b s e h seen past_is going is = ap (bytes_told b d places s) (sym is) ∙ go b e past_is
+  pub told_are : (b : Bool) (s : Who) (e : Event) (h : List Event) (seen : Seen) → past st s ≡ e ∷ h → has_ended h ≡ false → told e ≡ seen → bytes_told b d pool s seen ≡ bytes_with b e
+  told_are b s e h seen past_is going is = ap (bytes_told b d pool s) (sym is) ∙ go b e past_is
     where
-      go : (b : Bool) (f : Event) → past st s ≡ f ∷ h → bytes_told b d places s (told f) ≡ bytes_with b f
+      go : (b : Bool) (f : Event) → past st s ≡ f ∷ h → bytes_told b d pool s (told f) ≡ bytes_with b f
       go false f past_is = refl
       go true (Saw i rec) past_is = bytes_are s (Saw i rec) h i past_is going refl
       go true (Up l c) past_is = refl
@@ -283,12 +284,12 @@ module _ {S : Type 0} (stands : S → Strand → List Event → Type 0) (net : N
       bounded = sound.bounded;
     }
 
-    pub can_turn : (seen : Seen) → told e ≡ seen → CanMove d places s seen
-    can_turn seen at = subst (CanMove d places s) at (run_can net st left d places sound.formed own sound.few sound.run short s k e may)
+    pub can_turn : (seen : Seen) → told e ≡ seen → CanMove d pool s seen
+    can_turn seen at = subst (CanMove d pool s) at (run_can net st left d pool sound.formed own sound.few sound.run short s k e may)
 
     module _ (a : Actor S) (stage : S) (there : slice_get actors s ≡ Some a) (was : a.stage ≡ Some stage) (seen : Seen) (seen_at : told e ≡ seen) (b : Actor S) (b_out : b.stage ≡ None) (b_looks : b.looks ≡ a.looks) (b_end : b.saw_end ≡ (a.saw_end || is_end seen))
-        (space : length journal < budget) (d' : DeskState) (places' : List (Option Held)) (ready' : Members)
-        (desk_is : d' ≡ made d s seen) (pool_is : places' ≡ pool_moved d places s seen) (size : ready'.size ≡ ready.size) (covers : IsCovering d' ready') where
+        (space : length journal < budget) (d' : DeskState) (pool' : PoolState) (ready' : Members)
+        (desk_is : d' ≡ made d s seen) (pool_is : pool' ≡ pool_moved d pool s seen) (size : ready'.size ≡ ready.size) (covers : IsCovering d' ready') where
       abbrev longer : List Entry
       longer = journal ++ entry ∷ []
 
@@ -346,7 +347,7 @@ module _ {S : Type 0} (stands : S → Strand → List Event → Type 0) (net : N
               } in
               subst (λ h. P h (want_at net (play net longer) (left_by longer out') u) x) (sym h_is) (subst (λ w. P (e ∷ past st s) w x) (sym w_is) (subst (P (e ∷ past st s) None) x_is new))
 
-      pub sound_turned : IsSound stands net budget longer out' (slice_set actors s b) d' places' ready'
+      pub sound_turned : IsSound stands net budget longer out' (slice_set actors s b) d' pool' ready'
       sound_turned = record {
         formed = sound.formed;
         few = sound.few;
@@ -355,18 +356,18 @@ module _ {S : Type 0} (stands : S → Strand → List Event → Type 0) (net : N
         bounded = sound.bounded;
         last = last_turned net journal entry in_range same_past out sound.last is_home;
         apart = apart_turned net journal entry out sound.last sound.apart is_home;
-        run = subst (λ y. IsRun net y (left_by longer out') d' places') (sym now)
-            (subst (λ y. IsRun net (with_event st s e) y d' places') (sym left_is)
-            (subst (λ y. IsRun net (with_event st s e) (left_out left s) y places') (sym desk_is ∙ refl)
+        run = subst (λ y. IsRun net y (left_by longer out') d' pool') (sym now)
+            (subst (λ y. IsRun net (with_event st s e) y d' pool') (sym left_is)
+            (subst (λ y. IsRun net (with_event st s e) (left_out left s) y pool') (sym desk_is ∙ refl)
             (subst (λ y. IsRun net (with_event st s e) (left_out left s) (made d s seen) y) (sym pool_is)
-            (subst (λ y. IsRun net (with_event st s e) (left_out left s) (made d s y) (pool_moved d places s y)) seen_at
-            (run_made net st left d places sound.formed own sound.few sound.run short s k e may)))));
+            (subst (λ y. IsRun net (with_event st s e) (left_out left s) (made d s y) (pool_moved d pool s y)) seen_at
+            (run_made net st left d pool sound.formed own sound.few sound.run short s k e may)))));
         strands = actors_turned;
         size = size ∙ sound.size;
         covers = covers;
       }
 
-      pub job_turned : JobStands stands net longer s (suc (length journal)) seen stage
+      pub job_turned : JobStands stands net longer (record { strand = s; place = suc (length journal); seen = seen; stage = stage })
       job_turned = record {
         place_is = sym (length_more journal entry);
         before = journal;
@@ -386,7 +387,7 @@ module _ {S : Type 0} (stands : S → Strand → List Event → Type 0) (net : N
 
   -- A coming home
 
-  module _ (s : Who) (p : ℕ) (stage : S) (want : Asked) (among : is_among p out ≡ true) (done : DoneStands stands net (take p journal) s p stage want) where
+  module _ (s : Who) (p : ℕ) (stage : S) (want : Asked) (among : is_among p out ≡ true) (done : HasGoneOn stands net (take p journal) s p stage want) where
     its : is_at journal s p ≡ true
     its = go p done.mine
       where
@@ -415,25 +416,28 @@ module _ {S : Type 0} (stands : S → Strand → List Event → Type 0) (net : N
     asks : has_ended (past st s) ≡ false → Some (meaning want (last_seen (past st s))) ≡ next strand.0 (past st s)
     asks going = subst (λ h. has_ended h ≡ false → Some (meaning want (last_seen h)) ≡ next strand.0 h) (sym home_past) (done.asks strand.0 strand.1) going
 
+    seen : IsSeenBefore want (past st s)
+    seen = subst (IsSeenBefore want) (sym home_past) (done.seen strand.0 strand.1)
+
     pub ended_is : Pure.ended_at d s ≡ has_ended (past st s)
     ended_is = ended_here s place
 
-    pub can_home : Pure.ended_at d s ≡ false → CanCome d places s want
-    can_home not_ended = run_can_come net st left d places sound.formed own sound.few sound.run s strand.0 want away strand.1 (sym ended_is ∙ not_ended) (asks (sym ended_is ∙ not_ended))
+    pub can_home : Pure.ended_at d s ≡ false → CanCome d pool s want
+    can_home not_ended = run_can_come net st left d pool sound.formed own sound.few sound.run s strand.0 want away strand.1 (sym ended_is ∙ not_ended) (asks (sym ended_is ∙ not_ended)) seen
 
-    pub came : (d' : DeskState) (places' : List (Option Held)) → HasReturned d places s want d' places' → IsRun net st (left_in left s) d' places'
-    came d' places' returned = elim returned [
-      | inl gone ↦ subst (λ x. IsRun net st (left_in left s) x places') (sym gone.1) (subst (IsRun net st (left_in left s) d) (sym gone.2) (run_gone net st left d places sound.formed own sound.few sound.run s (sym ended_is ∙ gone.0)))
-      | inr come ↦ run_home net st left d places sound.formed own sound.few sound.run s strand.0 want away strand.1 (sym ended_is ∙ come.0) (asks (sym ended_is ∙ come.0)) d' places' come.1
+    pub came : (d' : DeskState) (pool' : PoolState) → HasReturned d pool s want d' pool' → IsRun net st (left_in left s) d' pool'
+    came d' pool' returned = elim returned [
+      | inl gone ↦ subst (λ x. IsRun net st (left_in left s) x pool') (sym gone.1) (subst (IsRun net st (left_in left s) d) (sym gone.2) (run_gone net st left d pool sound.formed own sound.few sound.run s (sym ended_is ∙ gone.0)))
+      | inr come ↦ run_home net st left d pool sound.formed own sound.few sound.run s strand.0 want away strand.1 (sym ended_is ∙ come.0) (asks (sym ended_is ∙ come.0)) seen d' pool' come.1
     ]
 
-    pub came_early : (d' : DeskState) (places' : List (Option Held)) → HasReturned d places s want d' places' → AsksEarly d'
-    came_early d' places' returned = early_on net st sound.formed own (bytes_at places') (left_in left s) d' (came d' places' returned).kept
+    pub came_early : (d' : DeskState) (pool' : PoolState) → HasReturned d pool s want d' pool' → AsksEarly d'
+    came_early d' pool' returned = early_on net st sound.formed own (bytes_at pool') (left_in left s) d' (came d' pool' returned).kept
 
     left_now : left_by journal (without p out) ≡ left_in left s
     left_now = left_home net journal s p its out sound.apart among
 
-    module _ (d' : DeskState) (places' : List (Option Held)) (ready' : Members) (a : Actor S) (there : slice_get actors s ≡ Some a) (run : IsRun net st (left_in left s) d' places') (size : ready'.size ≡ ready.size) (covers : IsCovering d' ready')
+    module _ (d' : DeskState) (pool' : PoolState) (ready' : Members) (a : Actor S) (there : slice_get actors s ≡ Some a) (run : IsRun net st (left_in left s) d' pool') (size : ready'.size ≡ ready.size) (covers : IsCovering d' ready')
         (asked : Asked) (bared : Pure.ended_at d s ≡ false → asked ≡ bare want) where
       abbrev new : Actor S
       new = come_back stage asked a
@@ -492,7 +496,7 @@ module _ {S : Type 0} (stands : S → Strand → List Event → Type 0) (net : N
               } in
               subst (λ t. P t q x) (sym z) (subst (λ r. P s r x) q_is (subst (P s strand.0) x_is fresh))
 
-      pub sound_home : IsSound stands net budget journal (without p out) (slice_set actors s new) d' places' ready'
+      pub sound_home : IsSound stands net budget journal (without p out) (slice_set actors s new) d' pool' ready'
       sound_home = record {
         formed = sound.formed;
         few = sound.few;
@@ -501,7 +505,7 @@ module _ {S : Type 0} (stands : S → Strand → List Event → Type 0) (net : N
         bounded = sound.bounded;
         last = last_home net journal s p its out sound.last;
         apart = apart_home net journal s p its out sound.apart;
-        run = subst (λ l. IsRun net st l d' places') (sym left_now) run;
+        run = subst (λ l. IsRun net st l d' pool') (sym left_now) run;
         strands = actors_home;
         size = size ∙ sound.size;
         covers = covers;

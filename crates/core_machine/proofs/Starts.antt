@@ -1,5 +1,5 @@
 -- A core before the first step is sound.
-use Rattle.std.proofs.Common.{◌≡◌, ◌≢◌, inl, inr, ℕ, zero, suc, ◌≤◌, ◌<◌, Bool, true, false, cond, ◌&&◌, not, nat_lt, ◌==◌, List, [], ◌∷◌, length, refl, sym, ◌∙◌, ap, subst, arith, Option, Some, None, slice_get, slice_set, length-set, is_some}
+use Rattle.std.proofs.Common.{◌≡◌, ◌≢◌, inl, inr, ℕ, zero, suc, ◌≤◌, ◌<◌, Bool, true, false, cond, ◌&&◌, not, nat_lt, ◌==◌, List, [], ◌∷◌, length, refl, sym, ◌∙◌, ap, subst, arith, Option, Some, None, slice_get, slice_set, length-set, is_some, ℤ}
 use Rattle.std.proofs.lemmas.Bool.Decides.{nat_tests}
 use Rattle.std.proofs.lemmas.Bool.{ne_eqb}
 use Rattle.std.proofs.lemmas.Option.{slice_get_within}
@@ -10,16 +10,18 @@ use mathlib.Core.Path.{fun_ext}
 use Rattle.pipe_model.specs.declared.net.Net.{Net}
 use Rattle.pipe_model.specs.declared.net.Strand.{Strand}
 use Rattle.pipe_model.specs.declared.step.Want.{Want as Asked}
+use Rattle.pipe_model.specs.declared.step.Want.TheVariants as Ask
 use Rattle.pipe_model.specs.Event.{Event, Want}
-use Rattle.pipe_model.specs.Next.{next, IsOwn}
+use Rattle.pipe_model.specs.Next.{next, want_in, first_phase, IsOwn}
+use Rattle.pipe_model.specs.Table.{form}
 use Rattle.pipe_model.specs.State.{Who, past, nothing_yet, strand_at}
 use Rattle.pipe_model.specs.Licence.{none_left, want_after, want_at, answer, sight_of, licence}
 use Rattle.pipe_model.specs.WellFormed.{IsWellFormed}
 use Rattle.pipe_model.proofs.Numbers.{equal_or_not, test_same}
 use Rattle.pipe_model.proofs.Lists.{at_some, get_set_same, get_set_other}
-use Rattle.record_pool.specs.declared.pool.Held.{Held}
+use Rattle.record_pool.specs.PoolState.{PoolState, empty_pool}
 use Rattle.record_pool.specs.Places.{bytes_at}
-use Rattle.stage_steps.specs.Coroutine.{told, meaning, last_seen}
+use Rattle.stage_steps.specs.Coroutine.{told, meaning, last_seen, IsSeenBefore}
 use Rattle.run_desk.specs.Desk.{DeskState}
 use Rattle.run_desk.specs.Kept.{left_in}
 use Rattle.run_desk.specs.Moves.{CanCome, HasCome, bare}
@@ -38,6 +40,15 @@ use Rattle.core_machine.proofs.Plays.{shows_bare, early_on}
 -- before the first step every history is a strand's own
 pub own_first : (net : Net) (t : Who) (q : Strand) → strand_at net nothing_yet t ≡ Some q → IsOwn q (past nothing_yet t)
 own_first net t q is = tt
+
+-- what a strand wants first is no write
+first_is_plain : (s : Strand) (want : Asked) → Some (meaning want (last_seen [])) ≡ next s [] → IsSeenBefore want []
+first_is_plain s want is = go want (form s).row.early is
+  where
+    go : (w : Asked) (early : Option ℤ) → Some (meaning w (last_seen [])) ≡ want_in (first_phase early) → IsSeenBefore w []
+    go (Ask.Write o out) None is = cc
+    go (Ask.Write o out) (Some code) is = cc
+    go _ early is = tt
 
 -- Who is out
 
@@ -102,7 +113,7 @@ module _ {S : Type 0} (stands : S → Strand → List Event → Type 0) (net : N
 
   -- Each strand is called
 
-  module _ (s : Who) (actors : List (Actor S)) (d : DeskState) (places : List (Option Held)) (ready : Members) (called : IsCalled stands net s actors d places ready) (within : s < n) where
+  module _ (s : Who) (actors : List (Actor S)) (d : DeskState) (pool : PoolState) (ready : Members) (called : IsCalled stands net s actors d pool ready) (within : s < n) where
     pub its_strand : (p : Strand) × (strand_at net nothing_yet s ≡ Some p)
     its_strand = at_some net.strands s within
 
@@ -118,21 +129,24 @@ module _ {S : Type 0} (stands : S → Strand → List Event → Type 0) (net : N
           let c = its_coroutine in
           asks c.0 c.1 c.2 c.3 its_strand.0 ((called.each s its_strand.0 c.0 its_strand.1 c.2).stands_for c.1 c.3)
 
-      pub can_call : CanCome d places s want
-      can_call = run_can_come net nothing_yet (out_from s n) d places formed (own_first net) called.few called.run s its_strand.0 want (still_out s n within) its_strand.1 refl means
+      seen : IsSeenBefore want []
+      seen = first_is_plain its_strand.0 want means
 
-      pub called_run : (d' : DeskState) (places' : List (Option Held)) → HasCome d places s want d' places' → IsRun net nothing_yet (out_from (suc s) n) d' places'
-      called_run d' places' come = subst (λ l. IsRun net nothing_yet l d' places') (next_in s n)
-          (run_home net nothing_yet (out_from s n) d places formed (own_first net) called.few called.run s its_strand.0 want (still_out s n within) its_strand.1 refl means d' places' come)
+      pub can_call : CanCome d pool s want
+      can_call = run_can_come net nothing_yet (out_from s n) d pool formed (own_first net) called.few called.run s its_strand.0 want (still_out s n within) its_strand.1 refl means seen
 
-      pub called_early : (d' : DeskState) (places' : List (Option Held)) → HasCome d places s want d' places' → AsksEarly d'
-      called_early d' places' come = early_on net nothing_yet formed (own_first net) (bytes_at places') (out_from (suc s) n) d' (called_run d' places' come).kept
+      pub called_run : (d' : DeskState) (pool' : PoolState) → HasCome d pool s want d' pool' → IsRun net nothing_yet (out_from (suc s) n) d' pool'
+      called_run d' pool' come = subst (λ l. IsRun net nothing_yet l d' pool') (next_in s n)
+          (run_home net nothing_yet (out_from s n) d pool formed (own_first net) called.few called.run s its_strand.0 want (still_out s n within) its_strand.1 refl means seen d' pool' come)
 
-      pub called_next : (d' : DeskState) (places' : List (Option Held)) (ready' : Members) (a : Actor S) → slice_get actors s ≡ Some a → HasCome d places s want d' places' → ready'.size ≡ ready.size → IsCovering d' ready' →
-          IsCalled stands net (suc s) (slice_set actors s (asking_for (bare want) a)) d' places' ready'
-      called_next d' places' ready' a there come size covers = record {
+      pub called_early : (d' : DeskState) (pool' : PoolState) → HasCome d pool s want d' pool' → AsksEarly d'
+      called_early d' pool' come = early_on net nothing_yet formed (own_first net) (bytes_at pool') (out_from (suc s) n) d' (called_run d' pool' come).kept
+
+      pub called_next : (d' : DeskState) (pool' : PoolState) (ready' : Members) (a : Actor S) → slice_get actors s ≡ Some a → HasCome d pool s want d' pool' → ready'.size ≡ ready.size → IsCovering d' ready' →
+          IsCalled stands net (suc s) (slice_set actors s (asking_for (bare want) a)) d' pool' ready'
+      called_next d' pool' ready' a there come size covers = record {
         few = called.few;
-        run = called_run d' places' come;
+        run = called_run d' pool' come;
         count = length-set actors s (asking_for (bare want) a) ∙ called.count;
         each = λ t p x is at. elim (equal_or_not t s) [
           | inl z ↦ here t p x z is at
@@ -186,8 +200,8 @@ module _ {S : Type 0} (stands : S → Strand → List Event → Type 0) (net : N
       go None is = ap (λ y. cond (out_from 0 n t) None (want_after y [])) is ∙ nothing (out_from 0 n t)
       go (Some p) is = ap (λ b. cond b None (want_after (strand_at net nothing_yet t) [])) (all_out t n (slice_get_within net.strands t _ is))
 
-  pub none_called : (stages : List S) (actors : List (Actor S)) (d : DeskState) (ready : Members) → length net.links < 2147483648 → AreFresh stands net.strands stages → AreNew stands stages actors → IsRun net nothing_yet (out_from 0 n) d [] → ready.size ≡ n →
-      IsCalled stands net 0 actors d [] ready
+  pub none_called : (stages : List S) (actors : List (Actor S)) (d : DeskState) (ready : Members) → length net.links < 2147483648 → AreFresh stands net.strands stages → AreNew stands stages actors → IsRun net nothing_yet (out_from 0 n) d empty_pool → ready.size ≡ n →
+      IsCalled stands net 0 actors d empty_pool ready
   none_called stages actors d ready few fresh new run size = record {
     few = few;
     run = run;
@@ -198,7 +212,7 @@ module _ {S : Type 0} (stands : S → Strand → List Event → Type 0) (net : N
     home = λ t x at. (let y = new_at stages actors new t x at in (y.0, y.2.stage_is));
     size = size;
     covers = λ t k may.
-        let seen = seen_is net (bytes_at []) nothing_yet (out_from 0 n) d formed run.kept t k in
+        let seen = seen_is net (bytes_at empty_pool) nothing_yet (out_from 0 n) d formed run.kept t k in
         let none : licence net nothing_yet (out_from 0 n) t k ≡ None = ap (answer (sight_of net nothing_yet (out_from 0 n) t) k) (no_want t) in
         let off : is_some (Pure.seen_at d t k) ≡ false = ap is_some (seen ∙ ap (option_map told) none) in
         (let no : true ≡ false = sym may ∙ off in cc);
@@ -227,9 +241,9 @@ module _ {S : Type 0} (stands : S → Strand → List Event → Type 0) (net : N
 
   -- After all
 
-  pub all_called : (actors : List (Actor S)) (d : DeskState) (places : List (Option Held)) (ready : Members) (budget : ℕ) → budget ≤ 50000000 → IsCalled stands net n actors d places ready →
-      IsSound stands net budget [] [] actors d places ready
-  all_called actors d places ready budget bounded called = record {
+  pub all_called : (actors : List (Actor S)) (d : DeskState) (pool : PoolState) (ready : Members) (budget : ℕ) → budget ≤ 50000000 → IsCalled stands net n actors d pool ready →
+      IsSound stands net budget [] [] actors d pool ready
+  all_called actors d pool ready budget bounded called = record {
     formed = formed;
     few = called.few;
     legal = tt;
@@ -237,7 +251,7 @@ module _ {S : Type 0} (stands : S → Strand → List Event → Type 0) (net : N
     bounded = bounded;
     last = tt;
     apart = tt;
-    run = subst (λ l. IsRun net nothing_yet l d places) (none_out n) called.run;
+    run = subst (λ l. IsRun net nothing_yet l d pool) (none_out n) called.run;
     strands = record {
       count = called.count;
       each = λ t p x is at. subst (λ l. IsActor stands [] (want_at net nothing_yet l t) p x) (none_out n) (called.each t p x is at);

@@ -51,9 +51,7 @@ module _ (size : ℕ) (words summary words' summary' : List ℕ) (s : ℕ) (less
     inserted here summary_here = record {
       few = is.few;
       fits = subst (λ z. size < 64 * z) (sym length_is) is.fits;
-      few_words = subst (λ z. z ≤ 1025) (sym length_is) is.few_words;
       summary_fits = subst (λ z. z < 64 * length summary') (sym length_is) (subst (λ z. length words < 64 * z) (sym summary_length) is.summary_fits);
-      few_summary = subst (λ z. z ≤ 17) (sym summary_length) is.few_summary;
       inside = outside;
       full = λ k e. elim (equal_or_not k (s / 64)) [
         | inl q ↦ subst (λ z. 0 < word_at words' z) (sym q) (some_word words' s here)
@@ -69,9 +67,7 @@ module _ (size : ℕ) (words summary words' summary' : List ℕ) (s : ℕ) (less
     emptied none summary_here = record {
       few = is.few;
       fits = subst (λ z. size < 64 * z) (sym length_is) is.fits;
-      few_words = subst (λ z. z ≤ 1025) (sym length_is) is.few_words;
       summary_fits = subst (λ z. z < 64 * length summary') (sym length_is) (subst (λ z. length words < 64 * z) (sym summary_length) is.summary_fits);
-      few_summary = subst (λ z. z ≤ 17) (sym summary_length) is.few_summary;
       inside = outside;
       full = λ k e. elim (equal_or_not k (s / 64)) [
         | inl q ↦ (let one : 1 ≡ 0 = sym e ∙ ap (has summary') q ∙ summary_here in absurd (omega (arith, one)))
@@ -88,9 +84,7 @@ module _ (size : ℕ) (words summary words' summary' : List ℕ) (s : ℕ) (less
   lessened some before = record {
     few = is.few;
     fits = subst (λ z. size < 64 * z) (sym length_is) is.fits;
-    few_words = subst (λ z. z ≤ 1025) (sym length_is) is.few_words;
     summary_fits = subst (λ z. z < 64 * length summary) (sym length_is) is.summary_fits;
-    few_summary = is.few_summary;
     inside = outside;
     full = λ k e. elim (equal_or_not k (s / 64)) [
       | inl q ↦ subst (λ z. 0 < word_at words' z) (sym q) some

@@ -10,7 +10,7 @@ use Rattle.pipe_model.specs.Event.{Event, Want}
 use Rattle.pipe_model.specs.State.{Who, past, nothing_yet, strand_at}
 use Rattle.pipe_model.specs.Play.{play}
 use Rattle.pipe_model.proofs.Lists.{at_some}
-use Rattle.record_pool.specs.declared.pool.Held.{Held}
+use Rattle.record_pool.specs.PoolState.{PoolState}
 use Rattle.record_pool.specs.Places.{bytes_at}
 use Rattle.commit_levels.specs.UnitState.{Member}
 use Rattle.run_desk.specs.Desk.{DeskState}
@@ -49,8 +49,8 @@ some_want : (w : Option Want) → Pure.asks_nothing (asked w) ≡ false → (x :
 some_want None is = cc
 some_want (Some x) is = (x, refl)
 
-module _ {S : Type 0} (stands : S → Strand → List Event → Type 0) (net : Net) (budget : ℕ) (journal : List Entry) (out : List ℕ) (actors : List (Actor S)) (d : DeskState) (places : List (Option Held)) (ready : Members)
-    (sound : IsSound stands net budget journal out actors d places ready) (is_broken : Bool) where
+module _ {S : Type 0} (stands : S → Strand → List Event → Type 0) (net : Net) (budget : ℕ) (journal : List Entry) (out : List ℕ) (actors : List (Actor S)) (d : DeskState) (pool : PoolState) (ready : Members)
+    (sound : IsSound stands net budget journal out actors d pool ready) (is_broken : Bool) where
   -- what the core stands for
   abbrev pub seen_as : Machine
   seen_as = record { net = net; budget = budget; journal = journal; out = out; is_broken = is_broken }
@@ -59,10 +59,10 @@ module _ {S : Type 0} (stands : S → Strand → List Event → Type 0) (net : N
 
   -- the least stream on the desk is the strand's least stream
   pub stream_is : (s : Who) (r : Option ℕ) → Pure.IsFirst d s r → LeastStream seen_as s r
-  stream_is s None is = λ k. none_is stands net budget journal out actors d places ready sound s k (is k)
+  stream_is s None is = λ k. none_is stands net budget journal out actors d pool ready sound s k (is k)
   stream_is s (Some j) is = (
-    sym (ready_is stands net budget journal out actors d places ready sound s j) ∙ is.0,
-    λ k p. none_is stands net budget journal out actors d places ready sound s k (is.1 k p),
+    sym (ready_is stands net budget journal out actors d pool ready sound s j) ∙ is.0,
+    λ k p. none_is stands net budget journal out actors d pool ready sound s k (is.1 k p),
   )
 
   -- who is no strand may have no event
@@ -72,7 +72,7 @@ module _ {S : Type 0} (stands : S → Strand → List Event → Type 0) (net : N
       go : (x : Option Event) → licence_of seen_as s k ≡ x → licence_of seen_as s k ≡ None
       go None is = is
       go (Some e) is =
-          let a = in_range stands net budget journal out actors d places ready sound s k e is in
+          let a = in_range stands net budget journal out actors d pool ready sound s k e is in
           let b = sound.strands.count in
           absurd (omega (arith, a, b, beyond))
 
@@ -81,7 +81,7 @@ module _ {S : Type 0} (stands : S → Strand → List Event → Type 0) (net : N
   stopped none each = (none, λ s k. by s k (cases_lt s (length actors)))
     where
       by : (s k : ℕ) → (s < length actors) ⊎ (length actors ≤ s) → licence_of seen_as s k ≡ None
-      by s k (inl a) = none_is stands net budget journal out actors d places ready sound s k (each s k a)
+      by s k (inl a) = none_is stands net budget journal out actors d pool ready sound s k (each s k a)
       by s k (inr b) = nobody_goes s k b
 
   -- where a strand has a stream, it hasn't
@@ -105,7 +105,7 @@ module _ {S : Type 0} (stands : S → Strand → List Event → Type 0) (net : N
   pub wanted_shown : (s : Who) (actor : Actor S) → slice_get actors s ≡ Some actor → Pure.asks_nothing (Pure.ask_at d s) ≡ false →
       (w : Want) × (want_of seen_as s ≡ Some w) × Shows (past (state_of seen_as) s) actor.asked w
   wanted_shown s actor at is =
-      let x = some_want (want_of seen_as s) (ap Pure.asks_nothing (sym (ask_is net (bytes_at places) (play net journal) (left_by journal out) d sound.formed sound.run.kept s)) ∙ is) in
+      let x = some_want (want_of seen_as s) (ap Pure.asks_nothing (sym (ask_is net (bytes_at pool) (play net journal) (left_by journal out) d sound.formed sound.run.kept s)) ∙ is) in
       let p = its_strand s actor at in
       (x.0, x.1, (sound.strands.each s p.0 actor p.1 at).asked x.0 x.1)
     where

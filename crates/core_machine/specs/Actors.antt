@@ -4,11 +4,10 @@ use Rattle.std.specs.Option.{option_map_or}
 use Rattle.pipe_model.specs.declared.step.Seen.{Seen}
 use Rattle.pipe_model.specs.declared.step.Seen.TheVariants.{Saw, SawEnd}
 use Rattle.pipe_model.specs.declared.step.Want.{Want}
-use Rattle.record_pool.specs.declared.pool.Held.{Held}
+use Rattle.record_pool.specs.PoolState.{PoolState}
 use Rattle.record_pool.specs.Places.{bytes_at}
 use Rattle.run_desk.specs.Desk.{DeskState}
-use Rattle.run_desk.specs.Moves.{sight_through}
-use Rattle.run_desk.specs.Pure.{in_door}
+use Rattle.run_desk.specs.Pure.{sight_door, sight_through}
 use Rattle.core_machine.specs.declared.actor.Actor.{Actor}
 
 -- it is told that input 0 has ended
@@ -39,6 +38,6 @@ abbrev pub looks_in : {S : Type 0} → List (Actor S) → ℕ → Bool
 looks_in {S} actors s = slice_index_or (map (λ (actor : Actor S). actor.looks) actors) s false
 
 -- the bytes that go with what a strand was told last: those of the record that it saw, where it looks
-abbrev pub bytes_told : Bool → DeskState → List (Option Held) → ℕ → Seen → List ℕ
-bytes_told true d places s (Saw i) = option_map_or (bytes_at places) (sight_through d.sights (in_door d s i)) []
-bytes_told _ d places s seen = []
+abbrev pub bytes_told : Bool → DeskState → PoolState → ℕ → Seen → List ℕ
+bytes_told true d pool s (Saw i) = option_map_or (bytes_at pool) (sight_through d.sights (sight_door d s i)) []
+bytes_told _ d pool s seen = []

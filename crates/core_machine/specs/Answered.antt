@@ -1,5 +1,5 @@
 -- What the answers of a core tell.
-use Rattle.std.specs.Prelude.{◌≡◌, ℕ, ◌<◌, Bool, true, false, List, [], ◌∷◌, ◌++◌, length, Option, Some, None, is_some, ℤ, if◌then◌else◌}
+use Rattle.std.specs.Prelude.{◌≡◌, ℕ, ◌<◌, ◌≤◌, Bool, true, false, List, [], ◌∷◌, ◌++◌, length, Option, Some, None, is_some, ℤ, if◌then◌else◌}
 use Rattle.pipe_model.specs.declared.net.Strand.{Strand}
 use Rattle.pipe_model.specs.declared.step.Entry.{Entry}
 use Rattle.pipe_model.specs.declared.step.Out.TheVariants.{Fresh}
@@ -33,7 +33,7 @@ TurnedAs stands m s k room (Room size) n bytes =
     (m.is_broken ≡ false) × (looks_at m.net s ≡ true) × IsLook (licence_of m s k) size × (length m.journal < m.budget) × (room < size) × (n ≡ m)
 TurnedAs stands m s k room (Work job) n bytes =
     (m.is_broken ≡ false) × (length m.journal < m.budget) × (n ≡ turned m (record { strand = s; stream = k }))
-    × (job.strand ≡ s) × JobStands stands n.net n.journal job.strand job.place job.seen job.stage
+    × (job.strand ≡ s) × (length bytes ≤ room) × JobStands stands n.net n.journal job
     × ((e : Event) × (licence_of m s k ≡ Some e) × (bytes ≡ bytes_with (looks_at m.net s) e))
 
 -- the turn gives no job

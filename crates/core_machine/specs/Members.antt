@@ -31,13 +31,11 @@ is_member set s = has set.words s == 1
 abbrev pub IsLeast : Members → ℕ → Type 0
 IsLeast set s = (is_member set s ≡ true) × ((t : ℕ) → t < s → is_member set t ≡ false)
 
--- the words hold no number from the size on, and the summary holds the numbers of the words that aren't 0
+-- the words hold no number from the size on, which has 32 bits, and the summary holds the numbers of the words that aren't 0
 pub record HasBits (size : ℕ) (words summary : List ℕ) : Type 0 where
-  pub few : size ≤ 65536
+  pub few : size < 4294967296
   pub fits : size < 64 * length words
-  pub few_words : length words ≤ 1025
   pub summary_fits : length words < 64 * length summary
-  pub few_summary : length summary ≤ 17
   pub inside : (t : ℕ) → size ≤ t → has words t ≡ 0
   pub full : (k : ℕ) → has summary k ≡ 1 → 0 < word_at words k
   pub empty : (k : ℕ) → has summary k ≡ 0 → word_at words k ≡ 0

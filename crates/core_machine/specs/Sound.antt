@@ -9,7 +9,7 @@ use Rattle.pipe_model.specs.Table.{form}
 use Rattle.pipe_model.specs.Licence.{want_at}
 use Rattle.pipe_model.specs.Play.{play, IsLegal}
 use Rattle.pipe_model.specs.WellFormed.{IsWellFormed}
-use Rattle.record_pool.specs.declared.pool.Held.{Held}
+use Rattle.record_pool.specs.PoolState.{PoolState}
 use Rattle.run_desk.specs.Desk.{DeskState}
 use Rattle.run_desk.specs.Order.{IsRun}
 use Rattle.core_machine.specs.declared.actor.Actor.{Actor}
@@ -49,7 +49,7 @@ pub record AreActors {S : Type 0} (stands : S → Strand → List Event → Type
   pub home : (s : Who) (actor : Actor S) → slice_get actors s ≡ Some actor → left_by journal out s ≡ false → is_some actor.stage ≡ true
 
 -- all that a core keeps
-pub record IsSound {S : Type 0} (stands : S → Strand → List Event → Type 0) (net : Net) (budget : ℕ) (journal : List Entry) (out : List ℕ) (actors : List (Actor S)) (d : DeskState) (places : List (Option Held)) (ready : Members) : Type 0 where
+pub record IsSound {S : Type 0} (stands : S → Strand → List Event → Type 0) (net : Net) (budget : ℕ) (journal : List Entry) (out : List ℕ) (actors : List (Actor S)) (d : DeskState) (pool : PoolState) (ready : Members) : Type 0 where
   pub formed : IsWellFormed net
   pub few : length net.links < 2147483648
   pub legal : IsLegal net journal
@@ -57,7 +57,7 @@ pub record IsSound {S : Type 0} (stands : S → Strand → List Event → Type 0
   pub bounded : budget ≤ 50000000
   pub last : AreLast net journal out
   pub apart : AreApart journal out
-  pub run : IsRun net (play net journal) (left_by journal out) d places
+  pub run : IsRun net (play net journal) (left_by journal out) d pool
   pub strands : AreActors stands net journal out actors
   pub size : ready.size ≡ length net.strands
   pub covers : IsCovering d ready

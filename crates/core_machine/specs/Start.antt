@@ -7,7 +7,7 @@ use Rattle.pipe_model.specs.Event.{Event}
 use Rattle.pipe_model.specs.State.{Who, nothing_yet, strand_at}
 use Rattle.pipe_model.specs.Table.{form}
 use Rattle.pipe_model.specs.Licence.{want_at}
-use Rattle.record_pool.specs.declared.pool.Held.{Held}
+use Rattle.record_pool.specs.PoolState.{PoolState}
 use Rattle.run_desk.specs.Desk.{DeskState}
 use Rattle.run_desk.specs.Order.{IsRun, out_from}
 use Rattle.core_machine.specs.declared.actor.Actor.{Actor}
@@ -37,9 +37,9 @@ AreNew stands (stage ∷ stages) (actor ∷ actors) = IsNew stands stage actor �
 AreNew stands _ _ = ⊥
 
 -- the strands below a number have asked for what they want first, and the others are out
-pub record IsCalled {S : Type 0} (stands : S → Strand → List Event → Type 0) (net : Net) (s : Who) (actors : List (Actor S)) (d : DeskState) (places : List (Option Held)) (ready : Members) : Type 0 where
+pub record IsCalled {S : Type 0} (stands : S → Strand → List Event → Type 0) (net : Net) (s : Who) (actors : List (Actor S)) (d : DeskState) (pool : PoolState) (ready : Members) : Type 0 where
   pub few : length net.links < 2147483648
-  pub run : IsRun net nothing_yet (out_from s (length net.strands)) d places
+  pub run : IsRun net nothing_yet (out_from s (length net.strands)) d pool
   pub count : length actors ≡ length net.strands
   pub each : (t : Who) (p : Strand) (actor : Actor S) → strand_at net nothing_yet t ≡ Some p → slice_get actors t ≡ Some actor →
       IsActor stands [] (want_at net nothing_yet (out_from s (length net.strands)) t) p actor

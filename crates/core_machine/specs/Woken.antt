@@ -7,7 +7,7 @@ use Rattle.pipe_model.specs.declared.step.Want.{Want}
 use Rattle.pipe_model.specs.declared.step.Want.TheVariants as want
 use Rattle.run_desk.specs.declared.seat.Ask.TheVariants as Ask
 use Rattle.run_desk.specs.Desk.{DeskState}
-use Rattle.record_pool.specs.declared.pool.Held.{Held}
+use Rattle.record_pool.specs.PoolState.{PoolState}
 use Rattle.run_desk.specs.Kept.{link_through}
 use Rattle.run_desk.specs.Moves.{HasCome, ends, sees}
 use Rattle.run_desk.specs.Pure as Pure
@@ -36,9 +36,9 @@ LeastEventAwake d set None = LeastAwake d set None
 LeastEventAwake d set (Some r) = LeastAwake d set (Some (r.0, r.1)) × (Pure.seen_at d r.0 r.1 ≡ Some r.2)
 
 -- the strand came home with this want, or had ended and changed nothing
-abbrev pub HasReturned : DeskState → List (Option Held) → ℕ → Want → DeskState → List (Option Held) → Type 0
-HasReturned d places s w new after =
-    ((Pure.ended_at d s ≡ true) × (new ≡ d) × (after ≡ places)) ⊎ ((Pure.ended_at d s ≡ false) × HasCome d places s w new after)
+abbrev pub HasReturned : DeskState → PoolState → ℕ → Want → DeskState → PoolState → Type 0
+HasReturned d pool s w new after =
+    ((Pure.ended_at d s ≡ true) × (new ≡ d) × (after ≡ pool)) ⊎ ((Pure.ended_at d s ≡ false) × HasCome d pool s w new after)
 
 -- Who is woken
 

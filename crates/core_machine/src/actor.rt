@@ -1,8 +1,7 @@
 ghost use Rattle.std.specs.Prelude.{◌≡◌, ◌<◌, ◌||◌, ◌∷◌, ◌++◌, [], ℕ, Some, None, length, slice_get, slice_set, vec_capacity, IfOk};
 ghost use Rattle.connectors.specs.WireState.{IsHeldIn};
 ghost use Rattle.pipe_model.specs.declared.step.Want.{Want as Asked};
-ghost use Rattle.run_desk.specs.Moves.{sight_through};
-ghost use Rattle.run_desk.specs.Pure.{in_door};
+ghost use Rattle.run_desk.specs.Pure.{sight_door, sight_through};
 ghost use Rattle.stage_steps.specs.Coroutine.{CanResume, Resumes};
 ghost use Rattle.core_machine.specs.Actors.{is_end, gone_out, come_back, gone_on, given_up, looks_in, bytes_told};
 ghost use Rattle.core_machine.specs.declared.actor.Actor.{Actor as ActorIs};
@@ -115,7 +114,7 @@ pub(crate) fn bytes_told<'a>(
     strand: u32,
     seen: Seen,
 ) -> &'a [u8]
-    requires { (i : ℕ) → IsHeldIn pool.now (sight_through desk.now.sights (in_door desk.now strand i)) }
+    requires { (i : ℕ) → IsHeldIn pool.now (sight_through desk.now.sights (sight_door desk.now strand i)) }
     ensures { result.now ≡ bytes_told looks desk.now pool.now strand seen }
 {
     match seen {

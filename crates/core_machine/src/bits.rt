@@ -12,19 +12,19 @@ pub struct Bits {
 }
 
 impl Model for Bits {
-    ghost use Rattle.std.specs.Prelude.{ℕ, ◌<◌, List, length};
+    ghost use Rattle.std.specs.Prelude.{ℕ, ◌≤◌, List, length};
 
     ghost Value = { List ℕ };
 
     ghost view = { λ bits. bits.words.items };
 
-    ghost invariant = { λ bits. length bits.words.items < 67108864 };
+    ghost invariant = { λ bits. length bits.words.items ≤ 67108864 };
 }
 
 impl Bits {
-    /// No number, with so many words.
+    /// No number, with so many words: at most those of the numbers of 32 bits.
     pub fn new(alloc: Global, count: usize) -> Result<Bits, NoMemory>
-        requires { count < 67108864 }
+        requires { count ≤ 67108864 }
         ensures { IfOk result (λ bits. bits ≡ replicate count 0) }
     {
         Ok(Bits {

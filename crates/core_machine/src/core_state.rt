@@ -47,7 +47,7 @@ impl<S: Stage> Core<S> {
     ghost use Rattle.pipe_model.specs.State.{past};
     ghost use Rattle.stage_steps.specs.Coroutine.{told, bytes_with};
     ghost use Rattle.core_machine.specs.Machine.{licence_of, state_of, looks_at, turned, came_home, broke_down, is_among, IsLawful};
-    ghost use Rattle.core_machine.specs.Jobs.{JobStands, DoneStands};
+    ghost use Rattle.core_machine.specs.Jobs.{JobStands, HasGoneOn, DoneStands};
     ghost use Rattle.core_machine.specs.Answered.{IsRefusal, TurnedAs};
 
     /// Whether a strand may have an event on a stream.
@@ -58,11 +58,12 @@ impl<S: Stage> Core<S> {
     }
 
     /// Makes a strand's event on a stream: its entry is appended to the journal, and the strand is out until its job
-    /// comes home by `finish`. `room` then holds the record where the strand looks and saw one, and is empty otherwise.
-    /// On another answer nothing changes. It takes no memory.
+    /// comes home by `finish`. `room` then holds the record where the strand looks and saw one, and is empty otherwise;
+    /// it never gets smaller. On another answer nothing changes. It takes no memory.
     pub fn turn(&mut self, strand: u32, stream: u16, room: &mut Vec<u8>) -> Turned<S>
         ensures turned { TurnedAs S.stands self.old strand stream (vec_capacity room.old) result self.new room.new.items }
-        ensures room { IsRefusal result → room.new.items ≡ room.old.items }
+        ensures room { IsRefusal result → (room.new.items ≡ room.old.items) × (vec_capacity room.new ≡ vec_capacity room.old) }
+        ensures capacity { vec_capacity room.old ≤ vec_capacity room.new }
         ensures lawful { IsLawful self.new }
     {
         if self.is_broken {
@@ -89,7 +90,7 @@ impl<S: Stage> Core<S> {
     /// that its cost doesn't grow.
     pub fn finish(&mut self, done: Finished<S>) -> Result<(), NoMemory>
         requires among { is_among done.place self.old.out ≡ true }
-        requires stands { IfOk done.want (λ want. DoneStands S.stands self.old.net (take done.place self.old.journal) done.strand done.place done.stage want) }
+        requires stands { DoneStands S.stands self.old.net (take done.place self.old.journal) done }
         ensures whole { OnOk result (self.old.is_broken ≡ false) }
         ensures home { OnOk result (self.new ≡ came_home self.old done.place) }
         ensures broken { OnErr result (self.new ≡ broke_down self.old) }
@@ -123,7 +124,7 @@ impl<S: Stage> Core<S> {
         ensures after { self.new ≡ turned self.old (record { strand = strand; stream = stream }) }
         ensures strand { result.strand ≡ strand }
         ensures seen { result.seen ≡ seen }
-        ensures job { JobStands S.stands self.new.net self.new.journal result.strand result.place result.seen result.stage }
+        ensures job { JobStands S.stands self.new.net self.new.journal result }
     {
         let stage = send_out(&mut self.actors, strand as usize, seen);
         move_out(
@@ -154,7 +155,7 @@ impl<S: Stage> Core<S> {
         mut want: Want,
     ) -> Result<(), NoMemory>
         requires among { is_among place self.old.out ≡ true }
-        requires stands { DoneStands S.stands self.old.net (take place self.old.journal) strand place stage want }
+        requires stands { HasGoneOn S.stands self.old.net (take place self.old.journal) strand place stage want }
         ensures home { OnOk result (self.new ≡ came_home self.old place) }
         ensures err { OnErr result (self.new ≡ self.old) }
     {
@@ -201,7 +202,8 @@ impl<S: Stage> Core<S> {
 // Puts the bytes in place of what the room holds, which can hold them.
 fn fill(room: &mut Vec<u8>, bytes: &[u8])
     requires { length bytes.now ≤ vec_capacity room.old }
-    ensures { room.new.items ≡ bytes.now }
+    ensures items { room.new.items ≡ bytes.now }
+    ensures capacity { vec_capacity room.old ≤ vec_capacity room.new }
 {
     room.clear();
     room.extend_from_slice(bytes).unwrap();
@@ -215,7 +217,8 @@ fn remove(out: &mut Vec<u64>, place: u64)
 }
 
 impl<S: Stage> Drop for Core<S> {
-    /// Gives up the core with its records.
+    /// Gives up the core. All that it holds of the pool is given back first: a pool is closed only where no block is in
+    /// use any more.
     fn drop(self) {
         let Core {
             net: _,
@@ -229,5 +232,6 @@ impl<S: Stage> Drop for Core<S> {
             is_broken: _,
         } = self;
         desk.drain(&mut pool);
+        pool.close();
     }
 }

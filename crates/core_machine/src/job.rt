@@ -4,26 +4,41 @@ ghost use Rattle.stage_steps.specs.Coroutine.{CanResume, Resumes};
 use pipe_model::{NoMemory, Seen, Want};
 use stage_steps::Stage;
 use std::alloc::Global;
+use std::marker::Model;
 
 /// A coroutine that is out, to be told an event.
 #[derive(Drop)]
 pub struct Job<S: Stage> {
-    pub strand: u32,
-    /// The place of its entry in the journal, counted from 1.
-    pub place: u64,
-    pub seen: Seen,
-    pub stage: S,
+    pub(crate) strand: u32,
+    pub(crate) place: u64,
+    pub(crate) seen: Seen,
+    pub(crate) stage: S,
+}
+
+impl<S: Stage> Model for Job<S> {
+    ghost use Rattle.core_machine.specs.Jobs.{JobState};
+
+    ghost Value = { JobState S };
+
+    ghost view = { λ job. record { strand = job.strand; place = job.place; seen = job.seen; stage = job.stage } };
 }
 
 /// A coroutine that was told an event, with what it asks for then.
 #[derive(Drop)]
 pub struct Finished<S: Stage> {
-    pub strand: u32,
-    /// The place of its entry in the journal, counted from 1.
-    pub place: u64,
-    pub seen: Seen,
-    pub stage: S,
-    pub want: Result<Want, NoMemory>,
+    pub(crate) strand: u32,
+    pub(crate) place: u64,
+    pub(crate) seen: Seen,
+    pub(crate) stage: S,
+    pub(crate) want: Result<Want, NoMemory>,
+}
+
+impl<S: Stage> Model for Finished<S> {
+    ghost use Rattle.core_machine.specs.Jobs.{FinishedState};
+
+    ghost Value = { FinishedState S };
+
+    ghost view = { λ done. record { strand = done.strand; place = done.place; seen = done.seen; stage = done.stage; want = done.want } };
 }
 
 /// The answer of a turn.
@@ -78,18 +93,21 @@ impl<S: Stage> Job<S> {
         }
     }
 
+    /// Its strand.
     pub fn strand(&self) -> u32
         ensures { result ≡ self.now.strand }
     {
         self.strand
     }
 
+    /// The place of its entry in the journal, counted from 1.
     pub fn place(&self) -> u64
         ensures { result ≡ self.now.place }
     {
         self.place
     }
 
+    /// What its coroutine is to be told.
     pub fn seen(&self) -> Seen
         ensures { result ≡ self.now.seen }
     {
@@ -100,18 +118,21 @@ impl<S: Stage> Job<S> {
 impl<S: Stage> Finished<S> {
     ghost use Rattle.std.specs.Prelude.{◌≡◌};
 
+    /// Its strand.
     pub fn strand(&self) -> u32
         ensures { result ≡ self.now.strand }
     {
         self.strand
     }
 
+    /// The place of its entry in the journal, counted from 1.
     pub fn place(&self) -> u64
         ensures { result ≡ self.now.place }
     {
         self.place
     }
 
+    /// What its coroutine was told.
     pub fn seen(&self) -> Seen
         ensures { result ≡ self.now.seen }
     {

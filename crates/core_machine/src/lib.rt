@@ -5,9 +5,15 @@ mod actor;
 mod bits;
 mod core_state;
 mod far_ends;
+#[cfg(test)]
+mod gate_tests;
 mod home;
 mod job;
+#[cfg(test)]
+mod passing;
 mod ready;
+#[cfg(test)]
+mod ready_tests;
 mod run;
 mod settle;
 mod start;

@@ -6,7 +6,7 @@ use pipe_model::NoMemory;
 use std::alloc::Global;
 use std::marker::Model;
 
-/// A set of strand numbers below a size, for the strands that may be ready.
+/// A set of numbers below a size, for the strands that may be ready.
 #[derive(Drop)]
 pub struct Ready {
     size: u32,
@@ -28,7 +28,6 @@ impl Model for Ready {
 impl Ready {
     /// The empty set.
     pub fn new(alloc: Global, size: u32) -> Result<Ready, NoMemory>
-        requires { size ≤ 65536 }
         ensures size { IfOk result (λ ready. ready.size ≡ size) }
         ensures empty { IfOk result (λ ready. (t : ℕ) → is_member ready t ≡ false) }
     {
@@ -66,7 +65,7 @@ impl Ready {
         ensures size { self.new.size ≡ self.old.size }
     {
         self.members.fill(self.size);
-        self.summary.fill((self.size + 63) / 64);
+        self.summary.fill(self.size.div_ceil(64));
     }
 
     /// Takes a strand out.
@@ -82,7 +81,7 @@ impl Ready {
         }
     }
 
-    /// The least strand of the set: a look along the summary, then at one word.
+    /// The least strand of the set: a look along the summary, a word for each 4,096 of the size, then at one word.
     pub fn least(&self) -> Option<u32>
         ensures inside { IfSome result (λ strand. strand < self.now.size) }
         ensures least { MatchOption result ((t : ℕ) → is_member self.now t ≡ false) (λ strand. IsLeast self.now strand) }

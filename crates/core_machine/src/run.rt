@@ -110,9 +110,10 @@ impl<S: Stage> Core<S> {
         Ok(())
     }
 
-    // The least strand that may have an event, its least stream, and what it is told there.
+    /// The least strand that may have an event, its least stream, and what it would be told there. It makes no event:
+    /// it only forgets those that it found to have none. A strand that is out has none.
     #[inline(always)]
-    fn least_event(&mut self) -> Option<(u32, u16, Seen)>
+    pub fn least_event(&mut self) -> Option<(u32, u16, Seen)>
         ensures same { self.new ≡ self.old }
         ensures least { LeastEvent self.old result }
         ensures lawful { IsLawful self.new }

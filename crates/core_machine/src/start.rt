@@ -44,11 +44,12 @@ impl<S: Stage> Core<S> {
         let out = Vec::with_capacity(alloc, strands)?;
         let mut actors = new_actors(alloc, stages)?;
         let mut ready = Ready::new(alloc, strands as u32)?;
-        let mut pool = Pool::new(alloc);
         let mut desk = Desk::blank(alloc, &net)?;
+        let mut pool = Pool::new(alloc);
         let called = call_all(&net, &mut desk, &mut pool, &mut ready, &mut actors);
         if called.is_err() {
             desk.drain(&mut pool);
+            pool.close();
             return Err(NoMemory);
         }
         Ok(Core {

@@ -8,6 +8,7 @@ impl<S: Stage> Core<S> {
     ghost use Rattle.pipe_model.specs.Event.{Want as Wanted, has_seen_end};
     ghost use Rattle.pipe_model.specs.State.{past, strand_at, nothing_yet};
     ghost use Rattle.pipe_model.specs.Table.{form};
+    ghost use Rattle.pipe_model.specs.WellFormed.{IsWellFormed};
     ghost use Rattle.stage_steps.specs.Coroutine.{kept_by};
     ghost use Rattle.core_machine.specs.Machine.{state_of, left_by, want_of as wanted, HasStopped, IsLawful};
     ghost use Rattle.core_machine.specs.Answered.{LeastStream, Shows, end_of as ending};
@@ -24,6 +25,15 @@ impl<S: Stage> Core<S> {
         ensures { result ≡ length self.now.out }
     {
         self.out.len() as u32
+    }
+
+    /// How many strands the net has, whether they are out or not.
+    pub fn strand_count(&self) -> u32
+        ensures count { result ≡ length self.now.net.strands }
+        ensures formed { IsWellFormed self.now.net }
+        ensures lawful { IsLawful self.now }
+    {
+        self.actors.len() as u32
     }
 
     /// Whether no strand is out and none may have an event. It asks every strand.
@@ -115,6 +125,7 @@ impl<S: Stage> Core<S> {
         self.is_broken
     }
 
-    /// Gives up the core. All its records are given back and freed.
+    /// Gives up the core. All its records are given back: to be let go, it has to close its pool, which it may only do
+    /// where no block is in use.
     pub fn drain(self) {}
 }

@@ -1,5 +1,5 @@
 -- What the lists of LITERAL and HOLE stand for.
-use Rattle.std.specs.Prelude.{◌≡◌, ℕ, Bool, false, List, [], ◌∷◌}
+use Rattle.std.specs.Prelude.{◌≡◌, ◌<◌, length, ℕ, Bool, false, List, [], ◌∷◌}
 use Rattle.pipe_model.specs.DeviceRows.{literal, hole}
 use Rattle.pipe_model.specs.Row.{Act}
 use Rattle.pipe_model.specs.Row.Act.{Writes}
@@ -15,6 +15,11 @@ due_acts Nothing text rec = []
 due_acts Text text rec = Writes 0 text ∷ []
 due_acts AtHand text rec = Writes 0 rec ∷ []
 
+-- where it is the record at hand, there was one
+abbrev pub IsDue : Due → Records → Type 0
+IsDue AtHand recs = 0 < length recs
+IsDue _ recs = Unit {0}
+
 -- how much is left to write
 abbrev pub due_count : Due → ℕ
 due_count Nothing = 0
@@ -22,7 +27,7 @@ due_count _ = 1
 
 -- the text, and then each record
 abbrev pub LiteralsStand : Literals → Stream → Records → List Act → Type 0
-LiteralsStand x t recs acts = (t ≡ literal x.text) × (acts ≡ due_acts x.due x.text (at_hand_of recs))
+LiteralsStand x t recs acts = (t ≡ literal x.text) × (acts ≡ due_acts x.due x.text (at_hand_of recs)) × IsDue x.due recs
 
 -- LITERAL doesn't look at records
 abbrev pub literals_look : Literals → Bool

@@ -1,6 +1,6 @@
 use crate::console::console;
 use crate::source::source;
-use crate::{Holes, Literals};
+use crate::{DeviceStage, Holes, Literals};
 use pipe_model::{Rec, Seen};
 use stage_steps::{Listed, Lists, Stage};
 use std::alloc::Global;
@@ -101,4 +101,12 @@ fn a_hole_writes_nothing(rt: HostRuntime) -> Result<(), Fail> {
     ];
     let stage = Holes::stage(alloc, &[true])?;
     driven(&rt, alloc, stage, &steps)
+}
+
+// Calls for this type show that its values can be moved to another thread.
+fn is_send<T: Send>() {}
+
+#[test]
+fn a_value_can_go_to_another_thread() {
+    is_send::<DeviceStage>();
 }

@@ -1,5 +1,5 @@
 -- What the lists of Editing stand for.
-use Rattle.std.specs.Prelude.{◌≡◌, ℕ, Bool, true, false, List, [], ◌∷◌}
+use Rattle.std.specs.Prelude.{◌≡◌, ◌<◌, length, ℕ, Bool, true, false, List, [], ◌∷◌}
 use Rattle.std.specs.declared.option.Option.{Option}
 use Rattle.std.specs.declared.option.Option.TheVariants.{Some, None}
 use Rattle.pipe_model.specs.declared.kind.Kind.{Kind}
@@ -52,6 +52,11 @@ due_acts Nothing copies rec = []
 due_acts Copies copies rec = acts_by copies 0 rec
 due_acts All copies rec = Writes 0 rec ∷ acts_by copies 0 rec
 
+-- where some are left, there was a record
+abbrev pub IsDue : Due → Records → Type 0
+IsDue Nothing recs = Unit {0}
+IsDue _ recs = 0 < length recs
+
 abbrev pub due_count : Due → ℕ
 due_count Nothing = 0
 due_count Copies = 1
@@ -59,7 +64,7 @@ due_count All = 2
 
 -- each record so many times, of which some may be left
 abbrev pub DuplicatesStand : Duplicates → Outs → Records → List Act → Type 0
-DuplicatesStand x outs recs acts = (outs ≡ (duplicate x.copies).outs) × (acts ≡ due_acts x.due x.copies (at_hand_of recs))
+DuplicatesStand x outs recs acts = (outs ≡ (duplicate x.copies).outs) × (acts ≡ due_acts x.due x.copies (at_hand_of recs)) × IsDue x.due recs
 
 -- DUPLICATE doesn't look at records
 abbrev pub duplicates_look : Duplicates → Bool

@@ -1,3 +1,4 @@
+use crate::EditStage;
 use crate::duplicate::Duplicates;
 use crate::edits::Edits;
 use crate::reverse::Reverses;
@@ -90,4 +91,12 @@ fn ends_are_stripped(rt: HostRuntime) -> Result<(), Fail> {
         assert_eq!(rt; made.bytes(), stripped, "of {rec:?}");
     }
     Ok(())
+}
+
+// Calls for this type show that its values can be moved to another thread.
+fn is_send<T: Send>() {}
+
+#[test]
+fn a_value_can_go_to_another_thread() {
+    is_send::<EditStage>();
 }

@@ -1,3 +1,4 @@
+use crate::GateStage;
 use crate::copy::copy;
 use pipe_model::Seen;
 use stage_steps::Stage;
@@ -24,4 +25,12 @@ fn a_copy_is_taken_before_it_is_written(rt: HostRuntime) -> Result<(), Fail> {
     }
     assert!(rt; stage.kept().is_empty());
     Ok(())
+}
+
+// Calls for this type show that its values can be moved to another thread.
+fn is_send<T: Send>() {}
+
+#[test]
+fn a_value_can_go_to_another_thread() {
+    is_send::<GateStage>();
 }

@@ -18,7 +18,8 @@ use Rattle.spec_scanner.specs.declared.piece.Piece.{Piece}
 use Rattle.spec_scanner.specs.declared.piece.PieceKind.{PieceKind}
 use Rattle.spec_scanner.specs.declared.piece.PieceKind.TheVariants.{Stage, Reference, Connector}
 use Rattle.net_graph.specs.Flags.{AreFlags}
-use Rattle.net_graph.specs.Nets.{inputs_of, is_linked_in, is_linked_out, links_of, net_of, outputs_of, strand_of, strands_from}
+use Rattle.net_graph.specs.Nets.{inputs_of, is_linked_in, is_linked_out, joins_of, outputs_of}
+use Rattle.net_graph.proofs.WholeNets.{whole_net, whole_strand, whole_strands}
 use Rattle.net_graph.specs.Numbered.{AreNumbered, AreScanned, pieces_of, uses_after}
 use Rattle.net_graph.specs.Stands.{Stand, is_label, is_of_stage, is_stage, refers_to, stage_of, stages_of, stands_in, stands_of}
 use Rattle.net_graph.specs.Searches.{stand}
@@ -114,7 +115,7 @@ row_same flags count is_linked are stage places below few =
     (λ k within. get_or-take places (drop (64 * stage) flags) k false within ∙ (get_or-drop (64 * stage) flags k false ∙ are.told stage k below (omega arith)))
 
 module _ (stands : List Stand) (links : List Link) (count : ℕ) (inputs outputs : List Bool) (are_in : AreFlags inputs count (is_linked_in links)) (are_out : AreFlags outputs count (is_linked_out links)) where
-  strand_same : (stage : ℕ) (s : Stand) (kind : Kind) → stage < count → strand_by inputs outputs stage kind (more_streams stands s) ≡ strand_of stands links stage s kind
+  strand_same : (stage : ℕ) (s : Stand) (kind : Kind) → stage < count → strand_by inputs outputs stage kind (more_streams stands s) ≡ whole_strand stands links stage s kind
   strand_same stage s kind below =
       let places_in = min (suc (more_streams stands s)) (inputs_of kind) in
       let places_out = min (suc (more_streams stands s)) (outputs_of kind) in
@@ -123,7 +124,7 @@ module _ (stands : List Stand) (links : List Link) (count : ℕ) (inputs outputs
       rw (row_in, row_out) refl
 
   pub strands_same : (stage : ℕ) (stages : List Stand) (kinds : List Kind) → stage + length stages ≤ count →
-      strands_by inputs outputs stage (map (more_streams stands) stages) kinds ≡ strands_from stands links stage stages kinds
+      strands_by inputs outputs stage (map (more_streams stands) stages) kinds ≡ whole_strands stands links stage stages kinds
   strands_same stage [] [] few = refl
   strands_same stage [] (kind ∷ kinds) few = refl
   strands_same stage (s ∷ stages) [] few = refl
@@ -149,15 +150,15 @@ pub assembled : (pipelines : List (List Piece)) (kinds : List Kind) (table : Lis
     (strands : List Strand) (links seen_in seen_out : List Link) (later : List ℕ) (inputs outputs : List Bool) (count : ℕ) →
     links ≡ links_by_all table 0 pipelines → seen_in ≡ links → seen_out ≡ links → later ≡ map (more_streams (stands_of pipelines)) (stages_of (stands_of pipelines)) → count ≡ length later →
     AreFlags inputs count (is_linked_in seen_in) → AreFlags outputs count (is_linked_out seen_out) → strands ≡ strands_by inputs outputs 0 later kinds →
-    (strands ≡ (net_of pipelines kinds).strands) × (links ≡ (net_of pipelines kinds).links)
+    (strands ≡ (whole_net pipelines kinds).strands) × (links ≡ (whole_net pipelines kinds).links)
 assembled pipelines kinds table labelled strands links seen_in seen_out later inputs outputs count links_is in_is out_is counted count_is are_in are_out strands_is =
-    let same : links ≡ links_of pipelines = links_is ∙ all_links_same (stands_of pipelines) table labelled 0 pipelines in
+    let same : links ≡ joins_of pipelines = links_is ∙ all_links_same (stands_of pipelines) table labelled 0 pipelines in
     let flags_in = subst (λ (seen : List Link). AreFlags inputs count (is_linked_in seen)) (in_is ∙ same) are_in in
     let flags_out = subst (λ (seen : List Link). AreFlags outputs count (is_linked_out seen)) (out_is ∙ same) are_out in
     let size = later_size pipelines later counted in (
       strands_is
           ∙ (ap (λ (counts : List ℕ). strands_by inputs outputs 0 counts kinds) counted
-          ∙ strands_same (stands_of pipelines) (links_of pipelines) count inputs outputs flags_in flags_out 0 (stages_of (stands_of pipelines)) kinds (omega (arith, count_is, size))),
+          ∙ strands_same (stands_of pipelines) (joins_of pipelines) count inputs outputs flags_in flags_out 0 (stages_of (stands_of pipelines)) kinds (omega (arith, count_is, size))),
       same,
     )
 

@@ -1,10 +1,11 @@
 -- Specifications whose nets and faults are as they should be, by computation.
-use Rattle.std.proofs.Common.{◌≡◌, ℕ, true, false, List, [], ◌∷◌, map, slice_get, option_map, codes, refl, Some, None, Ok, Err, inl, inr}
+use Rattle.std.proofs.Common.{◌≡◌, ℕ, true, false, List, [], ◌∷◌, drop, map, slice_get, take, option_map, codes, refl, Some, None, Ok, Err, inl, inr}
 use Rattle.pipe_model.specs.declared.kind.Kind.{Kind}
-use Rattle.pipe_model.specs.declared.kind.Kind.TheVariants.{ConsoleIn, ConsoleOut, Locate}
+use Rattle.pipe_model.specs.declared.kind.Kind.TheVariants.{ConsoleIn, ConsoleOut, Dam, Elastic, FanIn, FanOut, Hole, Literal, Locate}
 use Rattle.pipe_model.specs.declared.range.Span.TheVariants.{Columns}
 use Rattle.pipe_model.specs.declared.net.Link.{Link}
 use Rattle.pipe_model.specs.declared.net.Net.{Net}
+use Rattle.pipe_model.specs.declared.net.Ports.{Ports}
 use Rattle.pipe_model.specs.declared.net.Strand.{Strand}
 use Rattle.stage_syntax.specs.Arg.{ArgText}
 use Rattle.stage_syntax.specs.declared.fault.KindFault.TheVariants.{Unknown}
@@ -74,6 +75,52 @@ ports_in_two = refl
 last_ports_in_two : option_map (λ (strand : Strand). strand.ports) (slice_get net_of_two.strands 3)
     ≡ Some (record { inputs = 1; outputs = 1; has_input = true ∷ []; has_output = false ∷ [] })
 last_ports_in_two = refl
+
+-- console | a: fanout | b: fanin | console ? a: | elastic | b:
+
+abbrev buffered : List (List Piece)
+buffered = (console 0 ∷ (labelled 0 (codes "fanout") 10 13 ∷ (labelled 1 (codes "fanin") 22 25 ∷ (console 33 ∷ [])))) ∷ ((later 0 1 43 ∷ (stage (codes "elastic") 48 ∷ (later 1 1 58 ∷ []))) ∷ [])
+
+abbrev net_of_buffered : Net
+net_of_buffered = net_of buffered (ConsoleIn [] ∷ (FanOut ∷ (FanIn ∷ (ConsoleOut ∷ (Elastic ∷ [])))))
+
+-- ELASTIC has two strands, and its queue leads from the first to the second
+names_in_buffered : map (λ (strand : Strand). strand.name) net_of_buffered.strands ≡ (0 ∷ []) ∷ ((1 ∷ []) ∷ ((2 ∷ []) ∷ ((3 ∷ []) ∷ ((4 ∷ []) ∷ ((4 ∷ []) ∷ [])))))
+names_in_buffered = refl
+
+parts_in_buffered : map (λ (strand : Strand). strand.part) net_of_buffered.strands ≡ 0 ∷ (0 ∷ (0 ∷ (0 ∷ (0 ∷ (1 ∷ [])))))
+parts_in_buffered = refl
+
+links_in_buffered : net_of_buffered.links
+    ≡ joins 0 0 1 0 ∷ (joins 1 0 2 0 ∷ (joins 2 0 3 0 ∷ (joins 1 1 4 0 ∷ (joins 5 0 2 1 ∷ (record { from = 4; output = 0; to = 5; input = 0; queue = true } ∷ [])))))
+links_in_buffered = refl
+
+abbrev one_each : Ports
+one_each = record { inputs = 1; outputs = 1; has_input = true ∷ []; has_output = true ∷ [] }
+
+ports_in_buffered : map (λ (strand : Strand). strand.ports) (drop 4 net_of_buffered.strands) ≡ one_each ∷ (one_each ∷ [])
+ports_in_buffered = refl
+
+-- console | locate /go/ | d: dam | hole ? literal x | d: | console
+
+abbrev dammed : List (List Piece)
+dammed = (console 0 ∷ (locate 10 ∷ (labelled 0 (codes "dam") 24 27 ∷ (stage (codes "hole") 33 ∷ [])))) ∷ ((stage (codes "literal") 40 ∷ (later 0 1 52 ∷ (console 57 ∷ []))) ∷ [])
+
+abbrev net_of_dammed : Net
+net_of_dammed = net_of dammed (ConsoleIn [] ∷ (locates (codes "go") ∷ (Dam ∷ (Hole ∷ (Literal (codes "x") ∷ (ConsoleOut ∷ []))))))
+
+-- DAM has a strand for each of its two streams, and so later stages have higher numbers
+names_in_dammed : map (λ (strand : Strand). strand.name) net_of_dammed.strands ≡ (0 ∷ []) ∷ ((1 ∷ []) ∷ ((2 ∷ []) ∷ ((2 ∷ []) ∷ ((3 ∷ []) ∷ ((4 ∷ []) ∷ ((5 ∷ []) ∷ []))))))
+names_in_dammed = refl
+
+parts_in_dammed : map (λ (strand : Strand). strand.part) net_of_dammed.strands ≡ 0 ∷ (0 ∷ (0 ∷ (1 ∷ (0 ∷ (0 ∷ (0 ∷ []))))))
+parts_in_dammed = refl
+
+links_in_dammed : net_of_dammed.links ≡ joins 0 0 1 0 ∷ (joins 1 0 2 0 ∷ (joins 2 0 4 0 ∷ (joins 5 0 3 0 ∷ (joins 3 0 6 0 ∷ []))))
+links_in_dammed = refl
+
+ports_in_dammed : map (λ (strand : Strand). strand.ports) (take 2 (drop 2 net_of_dammed.strands)) ≡ one_each ∷ (one_each ∷ [])
+ports_in_dammed = refl
 
 scanned_two : AreScanned two
 scanned_two = ((inl refl, refl), ((inr refl, refl), ((inl refl, refl), (record { label = 0; count = 0; label_is = refl; defined = refl; uses_is = refl }, ((inl refl, refl), tt)))))

@@ -1,22 +1,22 @@
--- A net whose reading CONSOLE is given bytes stays well-formed.
-use Rattle.std.proofs.Common.{◌≡◌, ◌≢◌, ◌⊎◌, inl, inr, ℕ, ◌+◌, ◌-◌, ◌<◌, true, List, ◌∙◌, length, length-set, slice_get, slice_set, refl, ap, ap₂, sym, subst, arith, Option, Some, None}
-use Rattle.std.specs.Option.{option_map_or}
+-- A net whose stages are fed stays well-formed.
+use Rattle.std.proofs.Common.{◌≡◌, ◌≢◌, ◌⊎◌, inl, inr, ℕ, ◌+◌, ◌-◌, ◌<◌, true, List, ◌∙◌, length-set, map, slice_get, slice_set, refl, ap, ap₂, sym, subst, arith, Option, Some, None}
+use Rattle.std.specs.Option.{option_map, option_map_or}
+use Rattle.std.proofs.lemmas.Option.{slice_get-map}
+use Rattle.std.proofs.lemmas.List.{length-map}
 use Rattle.pipe_model.specs.declared.kind.Kind.{Kind}
-use Rattle.pipe_model.specs.declared.kind.Kind.TheVariants.{ConsoleIn}
-use Rattle.pipe_model.specs.declared.net.Link.{Link}
+use Rattle.pipe_model.specs.declared.kind.Kind.TheVariants.{ConsoleIn, FileIn}
 use Rattle.pipe_model.specs.declared.net.Net.{Net}
 use Rattle.pipe_model.specs.declared.net.Strand.{Strand}
 use Rattle.pipe_model.specs.State.{nothing_yet, strand_at}
-use Rattle.pipe_model.specs.Members.{flag_at}
 use Rattle.pipe_model.specs.Table.{form, line_of}
 use Rattle.pipe_model.specs.Form.{Parting, parting_by}
 use Rattle.pipe_model.specs.Form.Parting.{Whole}
-use Rattle.pipe_model.specs.WellFormed.{IsJoined, IsOfStage, IsQueue, IsWellFormed, TellsPorts, places_of, strands_of}
+use Rattle.pipe_model.specs.WellFormed.{IsOfStage, IsWellFormed, places_of, strands_of}
 use Rattle.pipe_model.proofs.Numbers.{equal_or_not}
 use Rattle.pipe_model.proofs.Lists.{get_set_same, get_set_other}
 use Rattle.net_graph.specs.Nets.{inputs_of, outputs_of}
-use Rattle.net_graph.specs.Fed.{fed, reader_of, reads_input, with_kind}
-use Rattle.net_graph.proofs.FormedPositions.{position_finds}
+use Rattle.net_graph.specs.Fed.{fed, fed_kind, fed_strand, reads_input, with_kind}
+use Rattle.net_graph.proofs.Likes.{IsLike, itself, like_formed}
 
 -- a kind that a net's form can't tell from another, of which a stage has one strand
 record IsAlike (old new : Kind) : Type 0 where
@@ -31,17 +31,6 @@ other_bytes : (kind : Kind) → reads_input kind ≡ true → (bytes : List ℕ)
 other_bytes (ConsoleIn old) reads bytes = record { inputs = refl; outputs = refl; proper = refl; whole = refl; new_whole = refl }
 other_bytes _ reads bytes = cc
 
--- a strand of another kind that the net's form can't tell from it
-record IsLike (p q : Strand) : Type 0 where
-  part : q.part ≡ p.part
-  unit : q.unit ≡ p.unit
-  ports : q.ports ≡ p.ports
-  parting : (form q).parting ≡ (form p).parting
-  proper : (form q).proper ≡ (form p).proper
-
-itself : (p : Strand) → IsLike p p
-itself p = record { part = refl; unit = refl; ports = refl; parting = refl; proper = refl }
-
 module _ (net : Net) (s : ℕ) (p : Strand) (here : slice_get net.strands s ≡ Some p) (kind : Kind) (alike : IsAlike p.kind kind) where
   abbrev read : Strand
   read = record p { kind = kind }
@@ -50,7 +39,7 @@ module _ (net : Net) (s : ℕ) (p : Strand) (here : slice_get net.strands s ≡ 
   new = record net { strands = slice_set net.strands s read }
 
   like : IsLike p read
-  like = record { part = refl; unit = refl; ports = refl; parting = alike.new_whole ∙ sym alike.whole; proper = alike.proper }
+  like = record { part = refl; unit = refl; ports = refl; inputs = alike.inputs; outputs = alike.outputs; parting = alike.new_whole ∙ sym alike.whole; proper = alike.proper }
 
   at_read : strand_at new nothing_yet s ≡ Some read
   at_read = get_set_same net.strands s read p here
@@ -75,40 +64,6 @@ module _ (net : Net) (s : ℕ) (p : Strand) (here : slice_get net.strands s ≡ 
     by (inr apart) = (r, sym (at_other t apart) ∙ is, itself r)
 
   module _ (formed : IsWellFormed net) where
-    joined : (link : Link) → IsJoined net link → IsJoined new link
-    joined link is =
-        let a = forth link.from is.producer is.from_strand in
-        let b = forth link.to is.consumer is.to_strand in
-        record {
-          producer = a.0;
-          consumer = b.0;
-          from_strand = a.1;
-          to_strand = b.1;
-          output = subst (λ ports. link.output < ports.outputs) (sym a.2.ports) is.output;
-          input = subst (λ ports. link.input < ports.inputs) (sym b.2.ports) is.input;
-        }
-
-    told : (t : ℕ) (r : Strand) → strand_at new nothing_yet t ≡ Some r → TellsPorts new t r
-    told t r is =
-        let q = back t r is in
-        let tells = formed.told t q.0 q.1 in
-        record {
-          inputs = subst (λ ports. length ports.has_input ≡ ports.inputs) (sym q.2.ports) tells.inputs;
-          outputs = subst (λ ports. length ports.has_output ≡ ports.outputs) (sym q.2.ports) tells.outputs;
-          has_input = λ i. ap (λ ports. flag_at ports.has_input i) q.2.ports ∙ tells.has_input i;
-          has_output = λ o. ap (λ ports. flag_at ports.has_output o) q.2.ports ∙ tells.has_output o;
-        }
-
-    queue_forth : (link : Link) → IsQueue net link → IsQueue new link
-    queue_forth link is =
-        let a = forth link.from is.producer is.from_strand in
-        record { producer = a.0; from_strand = a.1; queued = a.2.parting ∙ is.queued; first = a.2.part ∙ is.first; second = is.second }
-
-    queue_back : (link : Link) → IsQueue new link → IsQueue net link
-    queue_back link is =
-        let a = back link.from is.producer is.from_strand in
-        record { producer = a.0; from_strand = a.1; queued = sym a.2.parting ∙ is.queued; first = sym a.2.part ∙ is.first; second = is.second }
-
     staged_read : (m : ℕ) → IsOfStage net s p m → IsOfStage new s read m
     staged_read m st =
         let one = ap (λ (x : Parting). strands_of x m) alike.whole in
@@ -162,18 +117,7 @@ module _ (net : Net) (s : ℕ) (p : Strand) (here : slice_get net.strands s ≡ 
       by (inr apart) = let st = formed.staged t r (sym (at_other t apart) ∙ is) in (st.0, staged_other t apart r st.0 st.1)
 
     still_formed : IsWellFormed new
-    still_formed = record {
-      few = omega (arith, length-set net.strands s read, formed.few);
-      joined = λ j link is. joined link (formed.joined j link is);
-      one_out = formed.one_out;
-      one_in = formed.one_in;
-      told = told;
-      staged = staged;
-      proper = λ t r is. (let q = back t r is in q.2.proper ∙ formed.proper t q.0 q.1);
-      main = λ t r is. (let q = back t r is in q.2.unit ∙ formed.main t q.0 q.1);
-      queues = λ j link is. (let q = formed.queues j link is in (λ queue. queue_forth link (q.0 queue), λ queue. q.1 (queue_back link queue)));
-      queued = λ t r is parting part. (let q = back t r is in formed.queued t q.0 q.1 (sym q.2.parting ∙ parting) (sym q.2.part ∙ part));
-    }
+    still_formed = like_formed net new.strands (length-set net.strands s read) forth back formed staged
 
 -- the net that is fed
 pub with_input : (net : Net) (strand : ℕ) (p : Strand) (bytes : List ℕ) → slice_get net.strands strand ≡ Some p → reads_input p.kind ≡ true → IsWellFormed net →
@@ -183,14 +127,6 @@ with_input net strand p bytes here reads formed =
       strands = option_map_or (λ (q : Strand). slice_set net.strands strand (record q { kind = ConsoleIn bytes })) found net.strands;
     }) here)) (still_formed net strand p here (ConsoleIn bytes) (other_bytes p.kind reads bytes) formed)
 
-pub still_whole : (bytes : List ℕ) (net : Net) → IsWellFormed net → IsWellFormed (fed bytes net)
-still_whole bytes net formed = by (reader_of net) refl where
-  by : (found : Option ℕ) → reader_of net ≡ found → IsWellFormed (option_map_or (λ (strand : ℕ). with_kind net strand (ConsoleIn bytes)) found net)
-  by None is = formed
-  by (Some strand) is =
-      let at = position_finds (λ (p : Strand). reads_input p.kind) net.strands strand is in
-      with_input net strand at.0 bytes at.1 at.2 formed
-
 pub with_strands : (net : Net) (strand : ℕ) (p q : Strand) (bytes : List ℕ) (strands : List Strand) → slice_get net.strands strand ≡ Some p → reads_input p.kind ≡ true →
     slice_get net.strands strand ≡ Some q → strands ≡ slice_set net.strands strand (record q { kind = ConsoleIn bytes }) → IsWellFormed net →
     IsWellFormed (record { strands = strands; links = net.links })
@@ -199,3 +135,63 @@ with_strands net strand p q bytes strands here reads found is formed =
     let same : p ≡ q = cc in
     let alike = other_bytes q.kind (ap (λ (x : Strand). reads_input x.kind) (sym same) ∙ reads) bytes in
     subst (λ (x : List Strand). IsWellFormed (record { strands = x; links = net.links })) (sym is) (still_formed net strand q found (ConsoleIn bytes) alike formed)
+
+-- All stages at once
+
+alike_fed : (input : List ℕ) (files : List ℕ → Option (List ℕ)) (kind : Kind) →
+    (inputs_of (fed_kind input files kind) ≡ inputs_of kind) × (outputs_of (fed_kind input files kind) ≡ outputs_of kind)
+    × (parting_by (line_of (fed_kind input files kind)).shape ≡ parting_by (line_of kind).shape) × ((line_of (fed_kind input files kind)).proper ≡ (line_of kind).proper)
+alike_fed input files (ConsoleIn bytes) = (refl, refl, refl, refl)
+alike_fed input files (FileIn name bytes) = file (files name) bytes
+  where
+    file : (new old : Option (List ℕ)) → (inputs_of (FileIn name new) ≡ inputs_of (FileIn name old)) × (outputs_of (FileIn name new) ≡ outputs_of (FileIn name old))
+        × (parting_by (line_of (FileIn name new)).shape ≡ parting_by (line_of (FileIn name old)).shape) × ((line_of (FileIn name new)).proper ≡ (line_of (FileIn name old)).proper)
+    file None None = (refl, refl, refl, refl)
+    file None (Some old) = (refl, refl, refl, refl)
+    file (Some new) None = (refl, refl, refl, refl)
+    file (Some new) (Some old) = (refl, refl, refl, refl)
+alike_fed input files _ = (refl, refl, refl, refl)
+
+module _ (input : List ℕ) (files : List ℕ → Option (List ℕ)) (net : Net) where
+  fed_like : (p : Strand) → IsLike p (fed_strand input files p)
+  fed_like p =
+      let a = alike_fed input files p.kind in
+      record { part = refl; unit = refl; ports = refl; inputs = a.0; outputs = a.1; parting = a.2; proper = a.3 }
+
+  fed_at : (t : ℕ) → strand_at (fed input files net) nothing_yet t ≡ option_map (fed_strand input files) (strand_at net nothing_yet t)
+  fed_at t = slice_get-map (fed_strand input files) net.strands t
+
+  fed_forth : (t : ℕ) (q : Strand) → strand_at net nothing_yet t ≡ Some q → (r : Strand) × (strand_at (fed input files net) nothing_yet t ≡ Some r) × IsLike q r
+  fed_forth t q is = (fed_strand input files q, fed_at t ∙ ap (option_map (fed_strand input files)) is, fed_like q)
+
+  fed_back : (t : ℕ) (r : Strand) → strand_at (fed input files net) nothing_yet t ≡ Some r → (q : Strand) × (strand_at net nothing_yet t ≡ Some q) × (fed_strand input files q ≡ r)
+  fed_back t r is = by (strand_at net nothing_yet t) refl (sym (fed_at t) ∙ is) where
+    by : (found : Option Strand) → strand_at net nothing_yet t ≡ found → option_map (fed_strand input files) found ≡ Some r → (q : Strand) × (strand_at net nothing_yet t ≡ Some q) × (fed_strand input files q ≡ r)
+    by None was is = cc
+    by (Some q) was is = (q, was, (let e : fed_strand input files q ≡ r = cc in e))
+
+  fed_staged : (t m : ℕ) (q : Strand) → IsOfStage net t q m → IsOfStage (fed input files net) t (fed_strand input files q) m
+  fed_staged t m q st =
+      let like = fed_like q in
+      let count = ap (λ (x : Parting). strands_of x m) like.parting in
+      record {
+        some = st.some;
+        few = st.few;
+        part = omega (arith, st.part, count);
+        first = st.first;
+        inputs = st.inputs ∙ ap₂ (λ (x : Parting) (n : ℕ). places_of x n m) (sym like.parting) (sym like.inputs);
+        outputs = st.outputs ∙ ap₂ (λ (x : Parting) (n : ℕ). places_of x n m) (sym like.parting) (sym like.outputs);
+        others = λ k below. (let o = st.others k (omega (arith, below, count)) in
+            (fed_strand input files o.0, fed_at (t - q.part + k) ∙ ap (option_map (fed_strand input files)) o.1, o.2, ap (fed_kind input files) o.3));
+        closed = λ r is. (
+            let ends : t - q.part + strands_of (form (fed_strand input files q)).parting m ≡ t - q.part + strands_of (form q).parting m = omega (arith, count) in
+            let b = fed_back (t - q.part + strands_of (form (fed_strand input files q)).parting m) r is in
+            ap (λ (x : Strand). x.part) (sym b.2) ∙ st.closed b.0 (ap (slice_get net.strands) (sym ends) ∙ b.1)
+            );
+      }
+
+  pub fed_formed : IsWellFormed net → IsWellFormed (fed input files net)
+  fed_formed formed = like_formed net (map (fed_strand input files) net.strands) (length-map net.strands (fed_strand input files)) fed_forth
+      (λ t r is. (let b = fed_back t r is in (b.0, b.1, subst (IsLike b.0) b.2 (fed_like b.0))))
+      formed
+      (λ t r is. (let b = fed_back t r is in let st = formed.staged t b.0 b.1 in (st.0, subst (λ x. IsOfStage (fed input files net) t x st.0) b.2 (fed_staged t st.0 b.0 st.1))))

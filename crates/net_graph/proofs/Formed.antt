@@ -15,7 +15,8 @@ use Rattle.pipe_model.proofs.Truths.{both}
 use Rattle.stage_syntax.proofs.TypedKinds.{IsTyped, typed_kind}
 use Rattle.spec_scanner.specs.declared.piece.Piece.{Piece}
 use Rattle.net_graph.specs.Stands.{Stand, stages_of, stands_of, streams_of}
-use Rattle.net_graph.specs.Nets.{AreOutcomes, inputs_of, is_linked_in, is_linked_out, links_of, net_of, outputs_of, strand_of}
+use Rattle.net_graph.specs.Nets.{AreOutcomes, inputs_of, is_linked_in, is_linked_out, joins_of, net_of, outputs_of}
+use Rattle.net_graph.proofs.WholeNets.{whole_net, whole_strand}
 use Rattle.net_graph.specs.Numbered.{AreScanned}
 use Rattle.net_graph.specs.Faults.{faults_of}
 use Rattle.net_graph.proofs.FormedFaults.{few_stages}
@@ -24,6 +25,7 @@ use Rattle.net_graph.proofs.FormedKinds.{kind_here}
 use Rattle.net_graph.proofs.FormedLinks.{IsLead, lead_at, leads_of}
 use Rattle.net_graph.proofs.FormedLists.{true_or_not}
 use Rattle.net_graph.proofs.FormedLone.{lone_in, lone_out}
+use Rattle.net_graph.proofs.WholeStages.{whole_same}
 use Rattle.net_graph.proofs.FormedStrands.{few_strands, flag_is, found_or_not, passes_at, strand_there, strand_was}
 
 below_both : (a b c : ℕ) → a < b → a < c → a < min b c
@@ -36,31 +38,31 @@ module _ (pipelines : List (List Piece)) (kinds : List Kind) (scanned : AreScann
   whole = stands_of pipelines
 
   abbrev links : List Link
-  links = links_of pipelines
+  links = joins_of pipelines
 
   abbrev net : Net
-  net = net_of pipelines kinds
+  net = whole_net pipelines kinds
 
   lead : (j : ℕ) (link : Link) → slice_get links j ≡ Some link → IsLead whole 0 link
   lead j link is = lead_at whole 0 links j link (leads_of pipelines) is
 
   -- the strand of a stage at its number
   at_number : (s : ℕ) (stage : Stand) (kind : Kind) → slice_get (stages_of whole) s ≡ Some stage → slice_get kinds s ≡ Some kind
-      → strand_at net nothing_yet s ≡ Some (strand_of whole links s stage kind)
+      → strand_at net nothing_yet s ≡ Some (whole_strand whole links s stage kind)
   at_number s stage kind here kind_is = strand_there whole links 0 (stages_of whole) kinds s s stage kind (omega arith) here kind_is
 
   -- a strand, with its stage and its kind
   record OfStage (s : ℕ) (p : Strand) : Type 0 where
     stage : Stand
     kind : Kind
-    strand : p ≡ strand_of whole links s stage kind
+    strand : p ≡ whole_strand whole links s stage kind
     typed : IsTyped stage.first kind
 
   of_stage : (s : ℕ) (p : Strand) → strand_at net nothing_yet s ≡ Some p → OfStage s p
   of_stage s p is =
       let r = strand_was whole links 0 (stages_of whole) kinds s p is in
       let there = at_number s r.0 r.1 r.2 r.3 in
-      let same : p ≡ strand_of whole links s r.0 r.1 = cc in
+      let same : p ≡ whole_strand whole links s r.0 r.1 = cc in
       let other = kind_here (stages_of whole) kinds s r.0 read r.2 in
       let one_kind : other.0 ≡ r.1 = cc in
       record { stage = r.0; kind = r.1; strand = same; typed = subst (IsTyped r.0.first) one_kind (typed_kind r.0.piece.name r.0.piece.arg r.0.first other.0 other.2) }
@@ -71,8 +73,8 @@ module _ (pipelines : List (List Piece)) (kinds : List Kind) (scanned : AreScann
       let source = fits pipelines kinds scanned read good it.at it.source (record { stage = link.from; stream = link.output }) it.source_for in
       let target = fits pipelines kinds scanned read good (suc it.at) it.target (record { stage = link.to; stream = link.input }) it.target_for in
       record {
-        producer = strand_of whole links link.from source.stage source.kind;
-        consumer = strand_of whole links link.to target.stage target.kind;
+        producer = whole_strand whole links link.from source.stage source.kind;
+        consumer = whole_strand whole links link.to target.stage target.kind;
         from_strand = at_number link.from source.stage source.kind source.stage_there source.kind_there;
         to_strand = at_number link.to target.stage target.kind target.stage_there target.kind_there;
         output = below_both link.output (streams_of whole source.stage.piece.label) (outputs_of source.kind) source.stream (source.output it.source_goes_on);
@@ -107,13 +109,13 @@ module _ (pipelines : List (List Piece)) (kinds : List Kind) (scanned : AreScann
           absurd (omega (arith, join.output, ap (λ (q : Strand). q.ports.outputs) same, eqb-true r.1.output o tests.1, past))
 
   -- the flags of a stage's strand tell of its links
-  told_at : (s : ℕ) (stage : Stand) (kind : Kind) → strand_at net nothing_yet s ≡ Some (strand_of whole links s stage kind) → TellsPorts net s (strand_of whole links s stage kind)
+  told_at : (s : ℕ) (stage : Stand) (kind : Kind) → strand_at net nothing_yet s ≡ Some (whole_strand whole links s stage kind) → TellsPorts net s (whole_strand whole links s stage kind)
   told_at s stage kind is = record {
     inputs = length-map-range_with_len (is_linked_in links s) 0 (min (streams_of whole stage.piece.label) (inputs_of kind));
     outputs = length-map-range_with_len (is_linked_out links s) 0 (min (streams_of whole stage.piece.label) (outputs_of kind));
-    has_input = λ i. flag_is (is_linked_in links s) (min (streams_of whole stage.piece.label) (inputs_of kind)) i (past_in s i (strand_of whole links s stage kind) is)
+    has_input = λ i. flag_is (is_linked_in links s) (min (streams_of whole stage.piece.label) (inputs_of kind)) i (past_in s i (whole_strand whole links s stage kind) is)
         ∙ found_or_not (λ (link : Link). (link.to == s) && (link.input == i)) links;
-    has_output = λ o. flag_is (is_linked_out links s) (min (streams_of whole stage.piece.label) (outputs_of kind)) o (past_out s o (strand_of whole links s stage kind) is)
+    has_output = λ o. flag_is (is_linked_out links s) (min (streams_of whole stage.piece.label) (outputs_of kind)) o (past_out s o (whole_strand whole links s stage kind) is)
         ∙ found_or_not (λ (link : Link). (link.from == s) && (link.output == o)) links;
   }
 
@@ -123,9 +125,9 @@ module _ (pipelines : List (List Piece)) (kinds : List Kind) (scanned : AreScann
       subst (TellsPorts net s) (sym it.strand) (told_at s it.stage it.kind (is ∙ ap Some it.strand))
 
   -- a strand is alone in its stage
-  module _ (s : ℕ) (stage : Stand) (kind : Kind) (typed : IsTyped stage.first kind) (is : strand_at net nothing_yet s ≡ Some (strand_of whole links s stage kind)) where
+  module _ (s : ℕ) (stage : Stand) (kind : Kind) (typed : IsTyped stage.first kind) (is : strand_at net nothing_yet s ≡ Some (whole_strand whole links s stage kind)) where
     abbrev own : Strand
-    own = strand_of whole links s stage kind
+    own = whole_strand whole links s stage kind
 
     one : (m : ℕ) → strands_of (form own).parting m ≡ 1
     one m = ap (λ parting. strands_of parting m) typed.plain.whole
@@ -183,4 +185,4 @@ module _ (pipelines : List (List Piece)) (kinds : List Kind) (scanned : AreScann
 -- the net of kinds that the stages are of, where the pieces are scanned and there is no fault
 pub formed : (pipelines : List (List Piece)) (kinds : List Kind) → AreScanned pipelines → AreOutcomes (stages_of (stands_of pipelines)) (map (λ (kind : Kind). Ok kind) kinds)
     → faults_of pipelines (map (λ (kind : Kind). Ok kind) kinds) ≡ [] → IsWellFormed (net_of pipelines kinds)
-formed pipelines kinds scanned read good = formed_net pipelines kinds scanned read good
+formed pipelines kinds scanned read good = subst IsWellFormed (sym (whole_same pipelines kinds read)) (formed_net pipelines kinds scanned read good)

@@ -4,7 +4,7 @@ use Rattle.std.specs.Prelude.{if◌then◌else◌, ⊤}
 use Rattle.pipe_model.specs.declared.net.Link.{Link}
 use Rattle.spec_scanner.specs.declared.piece.Piece.{Piece}
 use Rattle.net_graph.specs.Stands.{Spot, Stand, is_stage, spot_of, stages_of, stands_in, stands_of}
-use Rattle.net_graph.specs.Nets.{counted, counted_all, link_from, links_from, links_in, links_of}
+use Rattle.net_graph.specs.Nets.{counted, counted_all, join_from, joins_from, joins_in, joins_of}
 use Rattle.net_graph.proofs.FormedLabels.{stages_with, stages_without}
 use Rattle.net_graph.proofs.FormedSpots.{StandsFor}
 
@@ -87,7 +87,7 @@ module _ (whole done rest : List Stand) (source target : Stand) (cut : whole ≡
   next_cut = cut ∙ sym (append_assoc done (source ∷ []) (target ∷ rest))
 
   one_lead : (a b : Option Spot) → spot_of whole (length (stages_of done)) source.piece ≡ a → spot_of whole (length (stages_of (done ++ source ∷ []))) target.piece ≡ b
-      → (links : List Link) → AreLeads whole (suc (length done)) links → AreLeads whole (length done) (link_from a b ++ links)
+      → (links : List Link) → AreLeads whole (suc (length done)) links → AreLeads whole (length done) (join_from a b ++ links)
   one_lead (Some a) (Some b) source_is target_is links leads = (
     record {
       at = length done;
@@ -107,7 +107,7 @@ module _ (whole done rest : List Stand) (source target : Stand) (cut : whole ≡
 
 leads_in : (whole done rest : List Stand) (first : Bool) (pieces : List Piece) (end : ℕ) (links : List Link)
     → whole ≡ done ++ (stands_in first pieces ++ rest) → length done + length pieces ≡ end → AreLeads whole end links
-    → AreLeads whole (length done) (links_in whole (length (stages_of done)) pieces ++ links)
+    → AreLeads whole (length done) (joins_in whole (length (stages_of done)) pieces ++ links)
 leads_in whole done rest first [] end links cut end_is leads = leads_before whole end (length done) links (omega (arith, end_is)) leads
 leads_in whole done rest first (piece ∷ []) end links cut end_is leads = leads_before whole end (length done) links (omega (arith, end_is)) leads
 leads_in whole done rest first (piece ∷ (next ∷ pieces)) end links cut end_is leads =
@@ -117,22 +117,22 @@ leads_in whole done rest first (piece ∷ (next ∷ pieces)) end links cut end_i
     let before : counted (length (stages_of done)) piece ≡ length (stages_of (done ++ source ∷ [])) = counted_one done source in
     let rest_cut : whole ≡ (done ++ source ∷ []) ++ (stands_in false (next ∷ pieces) ++ rest) = cut ∙ sym (append_assoc done (source ∷ []) (stands_in false (next ∷ pieces) ++ rest)) in
     let more = leads_in whole (done ++ source ∷ []) rest false (next ∷ pieces) end links rest_cut (omega (arith, end_is, length-append done (source ∷ []))) leads in
-    let here : AreLeads whole (suc (length done)) (links_in whole (length (stages_of (done ++ source ∷ []))) (next ∷ pieces) ++ links) =
-    subst (λ n. AreLeads whole n (links_in whole (length (stages_of (done ++ source ∷ []))) (next ∷ pieces) ++ links)) (omega (arith, length-append done (source ∷ []))) more in
+    let here : AreLeads whole (suc (length done)) (joins_in whole (length (stages_of (done ++ source ∷ []))) (next ∷ pieces) ++ links) =
+    subst (λ n. AreLeads whole n (joins_in whole (length (stages_of (done ++ source ∷ []))) (next ∷ pieces) ++ links)) (omega (arith, length-append done (source ∷ []))) more in
     let both = one_lead whole done (stands_in false pieces ++ rest) source target (cut ∙ ap (λ stands. done ++ source ∷ (stands ++ rest)) front.1) refl refl
     (spot_of whole (length (stages_of done)) piece) (spot_of whole (length (stages_of (done ++ source ∷ []))) next) refl refl
-    (links_in whole (length (stages_of (done ++ source ∷ []))) (next ∷ pieces) ++ links) here in
-    subst (λ n. AreLeads whole (length done) ((link_from (spot_of whole (length (stages_of done)) piece) (spot_of whole n next) ++ links_in whole n (next ∷ pieces)) ++ links)) (sym before)
-    (subst (AreLeads whole (length done)) (sym (append_assoc (link_from (spot_of whole (length (stages_of done)) piece) (spot_of whole (length (stages_of (done ++ source ∷ []))) next))
-    (links_in whole (length (stages_of (done ++ source ∷ []))) (next ∷ pieces)) links)) both)
+    (joins_in whole (length (stages_of (done ++ source ∷ []))) (next ∷ pieces) ++ links) here in
+    subst (λ n. AreLeads whole (length done) ((join_from (spot_of whole (length (stages_of done)) piece) (spot_of whole n next) ++ joins_in whole n (next ∷ pieces)) ++ links)) (sym before)
+    (subst (AreLeads whole (length done)) (sym (append_assoc (join_from (spot_of whole (length (stages_of done)) piece) (spot_of whole (length (stages_of (done ++ source ∷ []))) next))
+    (joins_in whole (length (stages_of (done ++ source ∷ []))) (next ∷ pieces)) links)) both)
 
-leads_from : (whole done : List Stand) (pipelines : List (List Piece)) → whole ≡ done ++ stands_of pipelines → AreLeads whole (length done) (links_from whole (length (stages_of done)) pipelines)
+leads_from : (whole done : List Stand) (pipelines : List (List Piece)) → whole ≡ done ++ stands_of pipelines → AreLeads whole (length done) (joins_from whole (length (stages_of done)) pipelines)
 leads_from whole done [] cut = tt
 leads_from whole done (pipeline ∷ pipelines) cut =
     let more = leads_from whole (done ++ stands_in true pipeline) pipelines (cut ∙ sym (append_assoc done (stands_in true pipeline) (stands_of pipelines))) in
-    leads_in whole done (stands_of pipelines) true pipeline (length (done ++ stands_in true pipeline)) (links_from whole (counted_all (length (stages_of done)) pipeline) pipelines)
+    leads_in whole done (stands_of pipelines) true pipeline (length (done ++ stands_in true pipeline)) (joins_from whole (counted_all (length (stages_of done)) pipeline) pipelines)
     cut (omega (arith, length-append done (stands_in true pipeline), length-stands true pipeline))
-    (subst (λ n. AreLeads whole (length (done ++ stands_in true pipeline)) (links_from whole n pipelines)) (sym (counted_more done true pipeline)) more)
+    (subst (λ n. AreLeads whole (length (done ++ stands_in true pipeline)) (joins_from whole n pipelines)) (sym (counted_more done true pipeline)) more)
 
-pub leads_of : (pipelines : List (List Piece)) → AreLeads (stands_of pipelines) 0 (links_of pipelines)
+pub leads_of : (pipelines : List (List Piece)) → AreLeads (stands_of pipelines) 0 (joins_of pipelines)
 leads_of pipelines = leads_from (stands_of pipelines) [] pipelines refl

@@ -36,7 +36,7 @@ pub record Refers (whole done : List Stand) (stand : Stand) (spot : Spot) : Type
   pub uses : spot.stream ≡ stand.piece.uses
   pub stream : spot.stream ≡ suc (count_by (refers_to (Some label)) done)
 
-spot_at : (stands : List Stand) (before : ℕ) (piece : Piece) (kind : PieceKind) → piece.kind ≡ kind → spot_of stands before piece ≡ spot_of stands before (record piece { kind = kind })
+pub spot_at : (stands : List Stand) (before : ℕ) (piece : Piece) (kind : PieceKind) → piece.kind ≡ kind → spot_of stands before piece ≡ spot_of stands before (record piece { kind = kind })
 spot_at stands before piece kind is = ap (λ kind. spot_of stands before (record piece { kind = kind })) is
 
 module _ (pipelines : List (List Piece)) (scanned : AreScanned pipelines) where

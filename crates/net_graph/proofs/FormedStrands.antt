@@ -10,29 +10,29 @@ use Rattle.pipe_model.specs.declared.net.Link.{Link}
 use Rattle.pipe_model.specs.declared.net.Strand.{Strand}
 use Rattle.pipe_model.specs.Members.{flag_at}
 use Rattle.net_graph.specs.Stands.{Stand}
-use Rattle.net_graph.specs.Nets.{strand_of, strands_from}
+use Rattle.net_graph.proofs.WholeNets.{whole_strand, whole_strands}
 
 pub strand_there : (stands : List Stand) (links : List Link) (from : ℕ) (stages : List Stand) (kinds : List Kind) (k at : ℕ) (stand : Stand) (kind : Kind) → from + k ≡ at
-    → slice_get stages k ≡ Some stand → slice_get kinds k ≡ Some kind → slice_get (strands_from stands links from stages kinds) k ≡ Some (strand_of stands links at stand kind)
+    → slice_get stages k ≡ Some stand → slice_get kinds k ≡ Some kind → slice_get (whole_strands stands links from stages kinds) k ≡ Some (whole_strand stands links at stand kind)
 strand_there stands links from [] kinds k at stand kind at_is here kind_is = cc
 strand_there stands links from (s ∷ stages) [] k at stand kind at_is here kind_is = cc
 strand_there stands links from (s ∷ stages) (c ∷ kinds) zero at stand kind at_is here kind_is =
     let same : s ≡ stand = cc in
     let same_kind : c ≡ kind = cc in
     let number : from ≡ at = omega (arith, at_is) in
-    ap (λ x. Some (strand_of stands links x s c)) number ∙ ap (λ x. Some (strand_of stands links at x c)) same ∙ ap (λ x. Some (strand_of stands links at stand x)) same_kind
+    ap (λ x. Some (whole_strand stands links x s c)) number ∙ ap (λ x. Some (whole_strand stands links at x c)) same ∙ ap (λ x. Some (whole_strand stands links at stand x)) same_kind
 strand_there stands links from (s ∷ stages) (c ∷ kinds) (suc k) at stand kind at_is here kind_is =
     strand_there stands links (suc from) stages kinds k at stand kind (omega (arith, at_is)) here kind_is
 
 -- a strand is that of a stage, of its kind
 pub strand_was : (stands : List Stand) (links : List Link) (from : ℕ) (stages : List Stand) (kinds : List Kind) (k : ℕ) (p : Strand)
-    → slice_get (strands_from stands links from stages kinds) k ≡ Some p → (stand : Stand) × (kind : Kind) × (slice_get stages k ≡ Some stand) × (slice_get kinds k ≡ Some kind)
+    → slice_get (whole_strands stands links from stages kinds) k ≡ Some p → (stand : Stand) × (kind : Kind) × (slice_get stages k ≡ Some stand) × (slice_get kinds k ≡ Some kind)
 strand_was stands links from [] kinds k p is = cc
 strand_was stands links from (s ∷ stages) [] k p is = cc
 strand_was stands links from (s ∷ stages) (c ∷ kinds) zero p is = (s, c, refl, refl)
 strand_was stands links from (s ∷ stages) (c ∷ kinds) (suc k) p is = strand_was stands links (suc from) stages kinds k p is
 
-pub few_strands : (stands : List Stand) (links : List Link) (from : ℕ) (stages : List Stand) (kinds : List Kind) → length (strands_from stands links from stages kinds) ≤ length stages
+pub few_strands : (stands : List Stand) (links : List Link) (from : ℕ) (stages : List Stand) (kinds : List Kind) → length (whole_strands stands links from stages kinds) ≤ length stages
 few_strands stands links from [] kinds = omega arith
 few_strands stands links from (s ∷ stages) [] = omega arith
 few_strands stands links from (s ∷ stages) (c ∷ kinds) = omega (arith, few_strands stands links (suc from) stages kinds)

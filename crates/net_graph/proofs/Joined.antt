@@ -7,7 +7,7 @@ use Rattle.spec_scanner.specs.declared.piece.PieceKind.{PieceKind}
 use Rattle.spec_scanner.specs.declared.piece.PieceKind.TheVariants.{Stage, Reference, Connector}
 use Rattle.net_graph.specs.declared.joins.Spot.{Spot}
 use Rattle.net_graph.specs.Joins.{counted_past, link_by, links_by, links_by_all, spot_by}
-use Rattle.net_graph.specs.Nets.{counted, counted_all, link_from, links_from, links_in}
+use Rattle.net_graph.specs.Nets.{counted, counted_all, join_from, joins_from, joins_in}
 use Rattle.net_graph.specs.Stands.{Stand, is_of_stage, is_stage, spot_of, stage_of, stages_of, stands_in, stands_of}
 use Rattle.net_graph.specs.Stands.{Spot as At}
 use Rattle.net_graph.specs.Searches.{stand}
@@ -41,7 +41,7 @@ at_stage piece stage = record { stage = stage; stream = piece.uses }
 abbrev by_stage : Piece → ℕ → Spot
 by_stage piece stage = record { stage = stage; stream = piece.uses }
 
-link_same : (a b : Option Spot) → link_by a b ≡ link_from (option_map as_spot a) (option_map as_spot b)
+link_same : (a b : Option Spot) → link_by a b ≡ join_from (option_map as_spot a) (option_map as_spot b)
 link_same (Some a) (Some b) = refl
 link_same (Some a) None = refl
 link_same None b = refl
@@ -66,18 +66,18 @@ module _ (stands : List Stand) (table : List ℕ) (labelled : (label : ℕ) → 
   spot_same before piece = of_kind before piece piece.kind
 
   links_after : (before : ℕ) (piece : Piece) (pieces : List Piece) →
-      links_by table (spot_by table before piece piece.kind) (counted before piece) pieces ≡ links_in stands before (piece ∷ pieces)
+      links_by table (spot_by table before piece piece.kind) (counted before piece) pieces ≡ joins_in stands before (piece ∷ pieces)
   links_after before piece [] = refl
   links_after before piece (next ∷ pieces) =
       let here = link_same (spot_by table before piece piece.kind) (spot_by table (counted before piece) next next.kind) in
       let rest = links_after (counted before piece) next pieces in
       rw (here, ← spot_same before piece, ← spot_same (counted before piece) next, rest) refl
 
-  links_same : (before : ℕ) (pieces : List Piece) → links_by table None before pieces ≡ links_in stands before pieces
+  links_same : (before : ℕ) (pieces : List Piece) → links_by table None before pieces ≡ joins_in stands before pieces
   links_same before [] = refl
   links_same before (piece ∷ pieces) = links_after before piece pieces
 
-  pub all_links_same : (before : ℕ) (pipelines : List (List Piece)) → links_by_all table before pipelines ≡ links_from stands before pipelines
+  pub all_links_same : (before : ℕ) (pipelines : List (List Piece)) → links_by_all table before pipelines ≡ joins_from stands before pipelines
   all_links_same before [] = refl
   all_links_same before (pieces ∷ pipelines) = rw (links_same before pieces, all_links_same (counted_all before pieces) pipelines) refl
 

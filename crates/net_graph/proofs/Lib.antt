@@ -3,6 +3,7 @@ pub mod Assembled
 pub mod Cases
 pub mod FaultRanks
 pub mod Feeds
+pub mod Likes
 pub mod Formed
 pub mod FormedFaults
 pub mod FormedFits
@@ -32,3 +33,5 @@ pub mod StraightStrands
 pub mod Tables
 pub mod Usages
 pub mod Walks
+pub mod WholeNets
+pub mod WholeStages

@@ -4,7 +4,7 @@ use Rattle.std.proofs.lemmas.Bool.{cases_eq}
 use Rattle.pipe_model.specs.Straight.{chain}
 use Rattle.spec_scanner.proofs.StraightStages.{AreLater}
 use Rattle.spec_scanner.proofs.StraightWords.{Spelled}
-use Rattle.net_graph.specs.Nets.{is_linked_in, is_linked_out, links_in}
+use Rattle.net_graph.specs.Nets.{is_linked_in, is_linked_out, joins_in}
 use Rattle.net_graph.specs.Stands.{Stand}
 use Rattle.net_graph.proofs.StraightPieces.{pieces_of}
 
@@ -33,7 +33,7 @@ not_linked_out from (suc count) stage past =
 
 -- the links of stages without labels are a chain
 pub links_later : (stands : List Stand) (before : ℕ) (stages : List Spelled) (strings : List (List ℕ)) → AreLater stages strings
-    → links_in stands before (pieces_of stages) ≡ chain before (length strings)
+    → joins_in stands before (pieces_of stages) ≡ chain before (length strings)
 links_later stands before [] strings later = absurd later
 links_later stands before (stage ∷ []) [] later = refl
 links_later stands before (stage ∷ []) (string ∷ strings) later = absurd later

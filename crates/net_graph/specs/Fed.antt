@@ -1,10 +1,10 @@
--- A net whose reading CONSOLE is given the bytes of the input.
-use Rattle.std.specs.Prelude.{ℕ, Bool, List, slice_get, slice_set}
-use Rattle.std.specs.List.{position}
+-- A net whose stages are given what the table says that they are fed: the bytes of the input, or those of a file.
+use Rattle.std.specs.Prelude.{ℕ, Bool, List, map, slice_get, slice_set}
+use Rattle.std.specs.List.{list_any}
 use Rattle.std.specs.Option.{option_map_or}
 use Rattle.std.specs.declared.option.Option.{Option}
 use Rattle.pipe_model.specs.declared.kind.Kind.{Kind}
-use Rattle.pipe_model.specs.declared.kind.Kind.TheVariants.{ConsoleIn}
+use Rattle.pipe_model.specs.declared.kind.Kind.TheVariants.{ConsoleIn, FileIn}
 use Rattle.pipe_model.specs.declared.net.Net.{Net}
 use Rattle.pipe_model.specs.declared.net.Strand.{Strand}
 use Rattle.pipe_model.specs.Table.{is_input, line_of}
@@ -13,14 +13,23 @@ use Rattle.pipe_model.specs.Table.{is_input, line_of}
 abbrev pub reads_input : Kind → Bool
 reads_input kind = is_input (line_of kind).feed
 
--- the strand of the CONSOLE that reads; a net of a specification has one at most
-abbrev pub reader_of : Net → Option ℕ
-reader_of net = position (λ (p : Strand). reads_input p.kind) net.strands
+-- a stage of the net reads the input
+abbrev pub reads_any : Net → Bool
+reads_any net = list_any (λ (p : Strand). reads_input p.kind) net.strands
+
+-- the kind with what it is fed: these bytes of the input, or the file of its name, if there is one
+abbrev pub fed_kind : List ℕ → (List ℕ → Option (List ℕ)) → Kind → Kind
+fed_kind input files (ConsoleIn bytes) = ConsoleIn input
+fed_kind input files (FileIn name bytes) = FileIn name (files name)
+fed_kind input files kind = kind
+
+abbrev pub fed_strand : List ℕ → (List ℕ → Option (List ℕ)) → Strand → Strand
+fed_strand input files p = record p { kind = fed_kind input files p.kind }
+
+-- the net whose stages are fed
+abbrev pub fed : List ℕ → (List ℕ → Option (List ℕ)) → Net → Net
+fed input files net = record net { strands = map (fed_strand input files) net.strands }
 
 -- the net with another kind in place of a strand's
 abbrev pub with_kind : Net → ℕ → Kind → Net
 with_kind net strand kind = record net { strands = option_map_or (λ (p : Strand). slice_set net.strands strand (record p { kind = kind })) (slice_get net.strands strand) net.strands }
-
--- the net whose reading CONSOLE, if there is one, has these bytes
-abbrev pub fed : List ℕ → Net → Net
-fed bytes net = option_map_or (λ strand. with_kind net strand (ConsoleIn bytes)) (reader_of net) net

@@ -1,5 +1,6 @@
 pub mod Faults
 pub mod Files
+pub mod Device
 pub mod Source
 pub mod Sink
 pub mod Shelf

@@ -1,7 +1,8 @@
-ghost use Rattle.std.specs.Prelude.{◌≡◌, ◌↔◌, ℕ, None, IsTrue, IsErrAnd};
+ghost use Rattle.std.specs.Prelude.{◌≡◌, ◌↔◌, IsTrue, IsErrAnd};
 ghost use Rattle.std.specs.Io.{ReadsAtMost, WritesAtMost};
 ghost use Rattle.std.specs.Io.KnownBytes.{ReadConsumes, WriteAppends};
 ghost use Rattle.std.specs.IoError.{error_kind};
+ghost use Rattle.outside.specs.Device.{device};
 ghost use Rattle.outside.specs.Streams.{read_told, write_told};
 
 use crate::sink::{Sink, WriteAnswer};
@@ -9,36 +10,46 @@ use crate::source::{ReadAnswer, Source};
 use std::io::{self, ErrorKind, Read, Write};
 use std::marker::Model;
 
-// How often a call that a signal interrupted is made once more, before it counts as a fault.
-const TRIES: u32 = 1000;
+/// How often a call that a signal interrupted is made once more, before it counts as a fault.
+pub(crate) const TRIES: u32 = 1000;
 
-/// A source over a reader, seen as its count of faults: what the reader gives is told by no clause.
-/// A read of no byte is the end, and an error is a fault.
+/// A source over a reader, which has left what the reader has left, where that tells it.
+/// A read of no byte is the end, and an error is a fault. A read that a signal interrupted is made once more, a
+/// thousand times at most.
 #[derive(Debug, Drop)]
-pub struct StdSource<R> {
+pub struct StdSource<R: Read> {
     reader: R,
     faults: u64,
 }
 
-impl<R> Model for StdSource<R> {
-    ghost Value = { ℕ };
+impl<R: Read> Model for StdSource<R> {
+    ghost use Rattle.outside.specs.Device.{Device, device};
 
-    ghost view = { λ source. source.faults };
+    ghost Value = { Device };
+
+    ghost view = { λ source. device (R.remaining source.reader) source.faults };
 }
 
 impl<R: Read> StdSource<R> {
     /// A source over this reader, with no fault.
     pub fn new(reader: R) -> StdSource<R>
-        ensures { result ≡ 0 }
+        ensures { result ≡ device (R.remaining reader) 0 }
     {
         StdSource { reader, faults: 0 }
+    }
+
+    /// The reader, which has left what the source has left.
+    pub fn into_inner(self) -> R
+        ensures { R.remaining result ≡ self.bytes }
+    {
+        self.reader
     }
 }
 
 impl<R: Read> Source for StdSource<R> {
-    ghost left = { λ _. None };
+    ghost left = { λ source. source.bytes };
 
-    ghost faults = { λ source. source };
+    ghost faults = { λ source. source.faults };
 
     fn read(&mut self, room: &mut [u8]) -> ReadAnswer {
         let answer = read_answer(read_uninterrupted(&mut self.reader, room));
@@ -53,34 +64,43 @@ impl<R: Read> Source for StdSource<R> {
     }
 }
 
-/// A sink over a writer, seen as its count of faults: what the writer holds is told by no clause.
-/// A write that takes no byte is a fault, as an error is. Nothing flushes the writer, so it should keep no
-/// bytes back.
+/// A sink over a writer, to which was written what the writer holds, where that tells it.
+/// A write that takes no byte is a fault, as an error is. A write that a signal interrupted is made once more, a
+/// thousand times at most. Nothing flushes the writer, so it should keep no bytes back.
 #[derive(Debug, Drop)]
-pub struct StdSink<W> {
+pub struct StdSink<W: Write> {
     writer: W,
     faults: u64,
 }
 
-impl<W> Model for StdSink<W> {
-    ghost Value = { ℕ };
+impl<W: Write> Model for StdSink<W> {
+    ghost use Rattle.outside.specs.Device.{Device, device};
 
-    ghost view = { λ sink. sink.faults };
+    ghost Value = { Device };
+
+    ghost view = { λ sink. device (W.contents sink.writer) sink.faults };
 }
 
 impl<W: Write> StdSink<W> {
     /// A sink over this writer, with no fault.
     pub fn new(writer: W) -> StdSink<W>
-        ensures { result ≡ 0 }
+        ensures { result ≡ device (W.contents writer) 0 }
     {
         StdSink { writer, faults: 0 }
+    }
+
+    /// The writer, which holds what was written on the sink.
+    pub fn into_inner(self) -> W
+        ensures { W.contents result ≡ self.bytes }
+    {
+        self.writer
     }
 }
 
 impl<W: Write> Sink for StdSink<W> {
-    ghost written = { λ _. None };
+    ghost written = { λ sink. sink.bytes };
 
-    ghost faults = { λ sink. sink };
+    ghost faults = { λ sink. sink.faults };
 
     fn write(&mut self, piece: &[u8]) -> WriteAnswer {
         let answer = write_answer(write_uninterrupted(&mut self.writer, piece));

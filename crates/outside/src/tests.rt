@@ -1,5 +1,6 @@
-ghost use Rattle.std.specs.Prelude.{◌<◌, ◌≤◌, length, IfOk};
+ghost use Rattle.std.specs.Prelude.{◌≡◌, ◌<◌, ◌≤◌, length, IfOk};
 
+use crate::streams::TRIES;
 use crate::{
     Fetched, Gate, MemShelf, MemSink, MemSource, OpenGate, ReadAnswer, Replaced, Shelf, Sink,
     Source, StdSink, StdSource, WriteAnswer,
@@ -163,13 +164,44 @@ impl Write for Device {
     }
 }
 
-// A device each of whose calls is interrupted.
+// A device whose first calls, as many as are left, are interrupted.
 #[derive(Drop)]
-struct Interrupted;
+struct Interrupted<D> {
+    left: u32,
+    device: D,
+}
 
-impl Read for Interrupted {
-    fn read(&mut self, _buf: &mut [u8]) -> io::Result<usize> {
+impl<D> Interrupted<D> {
+    fn interrupt(&mut self) -> io::Result<()>
+        ensures { self.new.device ≡ self.old.device }
+    {
+        if self.left == 0 {
+            return Ok(());
+        }
+        self.left -= 1;
         Err(io::Error::from(ErrorKind::Interrupted))
+    }
+}
+
+impl<D: Read> Read for Interrupted<D> {
+    ghost remaining = { λ d. D.remaining d.device };
+
+    fn read(&mut self, buf: &mut [u8]) -> io::Result<usize> {
+        self.interrupt()?;
+        self.device.read(buf)
+    }
+}
+
+impl<D: Write> Write for Interrupted<D> {
+    ghost contents = { λ d. D.contents d.device };
+
+    fn write(&mut self, buf: &[u8]) -> io::Result<usize> {
+        self.interrupt()?;
+        self.device.write(buf)
+    }
+
+    fn flush(&mut self) -> io::Result<()> {
+        self.device.flush()
     }
 }
 
@@ -191,12 +223,6 @@ fn reads_a_file_and_tells_a_fault_from_the_end(rt: HostRuntime) -> Result<(), Fa
     ] {
         assert_eq!(rt; read_from(&mut device, &mut room), answer);
     }
-
-    let mut interrupted = StdSource::new(Interrupted);
-    assert_eq!(rt;
-        read_from(&mut interrupted, &mut room),
-        (ReadAnswer::Failed, 1)
-    );
     Ok(())
 }
 
@@ -217,4 +243,54 @@ fn writes_a_file_and_counts_what_is_not_taken(rt: HostRuntime) -> Result<(), Fai
         assert_eq!(rt; write_to(&mut device, b"abc"), answer);
     }
     Ok(())
+}
+
+// How many calls of a device are interrupted, and how often the source or the sink over it fails.
+const INTERRUPTED: [(u32, u64); 4] = [(0, 0), (1, 0), (TRIES, 0), (TRIES + 1, 1)];
+
+#[test]
+fn an_interrupted_read_is_made_once_more_and_loses_nothing(rt: HostRuntime) {
+    for (left, faults) in INTERRUPTED {
+        let mut source = StdSource::new(Interrupted {
+            left,
+            device: b"abc".as_slice(),
+        });
+        let mut room = [b'.'; 4];
+        if faults > 0 {
+            assert_eq!(rt;
+                read_from(&mut source, &mut room),
+                (ReadAnswer::Failed, faults)
+            );
+        }
+        assert_eq!(rt;
+            read_from(&mut source, &mut room),
+            (ReadAnswer::Bytes(3), faults),
+            "after {left}"
+        );
+        assert_eq!(rt; room.as_slice(), b"abc.".as_slice());
+        assert_eq!(rt;
+            read_from(&mut source, &mut room),
+            (ReadAnswer::End, faults)
+        );
+    }
+}
+
+#[test]
+fn an_interrupted_write_is_made_once_more_and_loses_nothing(rt: HostRuntime) {
+    for (left, faults) in INTERRUPTED {
+        let mut written = Vec::new(rt.alloc());
+        let mut sink = StdSink::new(Interrupted {
+            left,
+            device: &mut written,
+        });
+        if faults > 0 {
+            assert_eq!(rt; write_to(&mut sink, b"abc"), (WriteAnswer::Failed, faults));
+        }
+        assert_eq!(rt;
+            write_to(&mut sink, b"abc"),
+            (WriteAnswer::Took(3), faults),
+            "after {left}"
+        );
+        assert_eq!(rt; written.as_slice(), b"abc".as_slice());
+    }
 }

@@ -1,48 +1,39 @@
 -- From what a call decides and tells to what it answers.
-use Rattle.std.proofs.Common.{◌≡◌, ◌≢◌, ◌⊎◌, ⊎_elim, inl, inr, ℕ, ◌<◌, Bool, true, false, List, [], ◌++◌, length, refl, sym, ◌∙◌, ap, subst, arith, append-nil, length-append, Option, Some, None}
+use Rattle.std.proofs.Common.{◌≡◌, ◌≢◌, ◌⊎◌, ⊎_elim, inl, inr, ℕ, ◌+◌, ◌<◌, ◌≤◌, Bool, true, false, cond, List, [], length, refl, sym, ◌∙◌, ap, subst, arith, length-append, Option, Some, None}
 use Rattle.std.specs.Option.{IfSome}
-use Rattle.outside.specs.Source.{Gave}
+use Rattle.std.proofs.KnownBytes.{Consumes-whole}
+use Rattle.std.specs.Io.KnownBytes.{Consumes}
+use Rattle.outside.specs.Device.{Device}
 use Rattle.pipe_model.specs.declared.net.Net.{Net}
+use Rattle.net_graph.specs.Fed.{reads_any}
 use Rattle.pipe_cli.specs.declared.status.Status.{Status}
 use Rattle.pipe_cli.specs.declared.status.Status.TheVariants as Told
 use Rattle.pipe_cli.specs.declared.status.Outcome.{Outcome}
-use Rattle.pipe_cli.specs.declared.status.Outcome.TheVariants.{Done, Coded, SpecRefused, Stalled, Spent, ReadFault, WriteFault, NoMemory, Usage, InputTooLarge, NotYet}
+use Rattle.pipe_cli.specs.declared.status.Outcome.TheVariants.{ReadFault, WriteFault}
+use Rattle.pipe_cli.specs.Effects.{Before, Effect}
 use Rattle.pipe_cli.specs.Status.{status_of}
-use Rattle.pipe_cli.specs.Devices.{Device, Outside, Steady}
-use Rattle.pipe_cli.specs.Meaning.{RunMeans, input_limit, reads_any}
-use Rattle.pipe_cli.specs.Answer.{HasCause, IsRun, Decides, Reports, AllSteady, NoneFailed, IsMeant, Answers}
-use Rattle.pipe_cli.proofs.Unread.{means_on}
+use Rattle.pipe_cli.specs.Devices.{Outside, AllSteady, NoneFailed, Steady, Failed}
+use Rattle.pipe_cli.specs.Meaning.{HasRun, IsTooLarge, Means, RunMeans, fed_size, input_limit, net_on}
+use Rattle.pipe_cli.specs.Meaning.Means.{unrun as means_unrun, too_large as means_large, ran as means_run}
+use Rattle.pipe_cli.specs.Answer.{HasCause, IsUsed, Decides, Reports, IsMeant, Answers}
+use Rattle.pipe_cli.specs.Answer.HasCause.{unrun, too_large, ran, read_failed, write_failed, no_memory}
+use Rattle.pipe_cli.proofs.Feds.{fed_none}
+use Rattle.pipe_cli.proofs.GraphKinds.{graph_built}
 
-module _ (words : List (List ℕ)) (input input' output output' : Device) (given wrote : List ℕ) where
-  -- an outcome that is no fault was decided without one
-  unfailed : (decided : Outcome) → decided ≢ ReadFault → decided ≢ WriteFault → HasCause words input input' output output' given wrote decided → Steady input input' × Steady output output'
-  unfailed Done no_read no_write cause = (cause.used.steady, cause.steady)
-  unfailed (Coded code) no_read no_write cause = (cause.used.steady, cause.steady)
-  unfailed Stalled no_read no_write cause = (cause.used.steady, cause.steady)
-  unfailed (Spent steps) no_read no_write cause = (cause.used.steady, cause.steady)
-  unfailed (SpecRefused number argument place) no_read no_write cause = (cause.1.input_steady, cause.1.output_steady)
-  unfailed ReadFault no_read no_write cause = absurd (no_read refl)
-  unfailed WriteFault no_read no_write cause = absurd (no_write refl)
-  unfailed NoMemory no_read no_write cause = (cause.1, cause.2)
-  unfailed Usage no_read no_write cause = (cause.1.input_steady, cause.1.output_steady)
-  unfailed InputTooLarge no_read no_write cause = (cause.1, cause.2)
-  unfailed NotYet no_read no_write cause = (cause.1.input_steady, cause.1.output_steady)
-
--- a source that has nothing left gave all that it had
-all_given : (given : List ℕ) (old new : Option (List ℕ)) → Gave given old new → IfSome new (λ left. left ≡ []) → IfSome old (λ all. given ≡ all)
-all_given given None new gave ended = tt
-all_given given (Some all) None gave ended = absurd cc
-all_given given (Some all) (Some left) gave ended =
-    let here : all ≡ given ++ left = cc in
-    sym (append-nil given) ∙ ap (λ rest. given ++ rest) (sym ended) ∙ sym here
+-- an outcome that is no fault was decided without one
+unfailed : (words : List (List ℕ)) (old new : Outside) (given : Before) (effect : Effect) (decided : Outcome) → decided ≢ ReadFault → decided ≢ WriteFault → HasCause words old new given effect decided → AllSteady old new
+unfailed words old new given effect decided no_read no_write (unrun why unread done steady) = steady
+unfailed words old new given effect decided no_read no_write (too_large large is done steady) = steady
+unfailed words old new given effect decided no_read no_write (ran run used steady) = steady
+unfailed words old new given effect decided no_read no_write (read_failed reading is done failed output shelf) = absurd (no_read is)
+unfailed words old new given effect decided no_read no_write (write_failed half is input failed shelf) = absurd (no_write is)
+unfailed words old new given effect decided no_read no_write (no_memory is done steady) = steady
 
 -- what was given is no more than there was
-some_given : (n : ℕ) (given : List ℕ) (old new : Option (List ℕ)) → Gave given old new → n < length given → IfSome old (λ all. n < length all)
-some_given n given None new gave more = tt
-some_given n given (Some all) None gave more = absurd cc
-some_given n given (Some all) (Some left) gave more =
-    let here : all ≡ given ++ left = cc in
-    omega (arith, ap length here, length-append given left)
+some_given : (given : List ℕ) (old new : Option (List ℕ)) → Consumes old new given → IfSome old (λ all. length given ≤ length all)
+some_given given None new gave = tt
+some_given given (Some all) None gave = absurd gave
+some_given given (Some all) (Some left) gave = omega (arith, ap length gave, length-append given left)
 
 -- a fact that every value has
 at_some : {P : List ℕ → Type 0} (o : Option (List ℕ)) → ((x : List ℕ) → P x) → IfSome o P
@@ -54,61 +45,81 @@ weaker_some : {P Q : List ℕ → Type 0} (o : Option (List ℕ)) → ((x : List
 weaker_some None f h = tt
 weaker_some (Some x) f h = f x h
 
+-- more of the input is no less to feed
+more_fed : (reads : Bool) (a b rest : ℕ) → a ≤ b → input_limit < cond reads a 0 + rest → input_limit < cond reads b 0 + rest
+more_fed true a b rest more large = omega (arith, more, large)
+more_fed false a b rest more large = large
+
+abbrev on_all : Before → List ℕ → Before
+on_all given input = record given { input = input }
+
+-- a net that doesn't read the input comes to the same on any
+module _ (words : List (List ℕ)) (given : Before) (decided : Outcome) (effect : Effect) (run : HasRun words given decided effect) (leaves : reads_any run.net ≡ false) (input : List ℕ) where
+  same_net : net_on given run.net ≡ net_on (on_all given input) run.net
+  same_net =
+      let graph = run.runs.net_of in
+      let built = graph_built graph.pipelines run.net graph.graph in
+      sym (fed_none given.input given.files run.net built leaves) ∙ fed_none input given.files run.net built leaves
+
+  same_size : fed_size (on_all given input) run.net ≡ fed_size given run.net
+  same_size =
+      let mine = ap (λ b. cond b (length given.input) 0) leaves in
+      let other = ap (λ b. cond b (length input) 0) leaves in
+      omega (arith, mine, other)
+
+  run_unread : HasRun words (on_all given input) decided effect
+  run_unread = record {
+    net = run.net;
+    steps = run.steps;
+    runs = run.runs;
+    fits = subst (λ n. n ≤ input_limit) (sym same_size) run.fits;
+    means = subst (λ net. RunMeans net run.steps decided effect) same_net run.means;
+  }
+
 module _ (words : List (List ℕ)) (old new : Outside) where
-  -- a run means on all of the input what it means on what was given
-  run_meant : (decided : Outcome) (d : Decides words old.input new.input old.output new.output decided) → IsRun words old.input new.input old.output new.output d.given d.wrote decided →
-      IfSome old.input.bytes (λ input. (net : Net) × RunMeans words net input decided d.wrote)
-  run_meant decided d run = go (reads_any run.net) refl
+  module _ (decided : Outcome) (d : Decides words old new decided) where
+    abbrev Meant : List ℕ → Type 0
+    Meant input = Means words (on_all d.given input) decided d.effect
+
+    run_meant : (run : HasRun words d.given decided d.effect) → IsUsed run.net d.given new.input → IfSome old.input.bytes Meant
+    run_meant run used = go (reads_any run.net) refl
+      where
+        go : (b : Bool) → reads_any run.net ≡ b → IfSome old.input.bytes Meant
+        go true is =
+            Consumes-whole old.input.bytes new.input.bytes d.given.input Meant d.gave (used.reads is) (means_run run)
+        go false is = at_some old.input.bytes (λ all. means_run (run_unread words d.given decided d.effect run is all))
+
+    large_meant : IsTooLarge words d.given → (all : List ℕ) → length d.given.input ≤ length all → IsTooLarge words (on_all d.given all)
+    large_meant large all more = record { net = large.net; steps = large.steps; runs = large.runs; large = more_fed (reads_any large.net) _ _ _ more large.large }
+
+    meant : (status : Status) → status ≡ status_of decided → NoneFailed old new → HasCause words old new d.given d.effect decided → (status ≡ Told.NoMemory) ⊎ IsMeant words old d.given d.effect decided status
+    meant status told none (unrun why unread done steady) = inr (record { same = told; means = at_some old.input.bytes (λ all. means_unrun why done) })
+    meant status told none (too_large large is done steady) =
+        inr (record { same = told; means = weaker_some old.input.bytes (λ all more. means_large (large_meant large all more) is done) (some_given d.given.input old.input.bytes new.input.bytes d.gave) })
+    meant status told none (ran run used steady) = inr (record { same = told; means = run_meant run used })
+    meant status told none (read_failed reading is done failed output shelf) = absurd (none.input failed)
+    meant status told none (write_failed half is input failed shelf) = absurd (none.output failed)
+    meant status told none (no_memory is done steady) = inl (told ∙ ap status_of is)
+
+  pub answers : (diag diag' : Device) (decided : Outcome) (status : Status) → Decides words old new decided → Reports decided status diag diag' → Answers words old new diag diag' status
+  answers diag diag' decided status d reports = record {
+    decided = decided;
+    decides = d;
+    reports = reports;
+    steady = steady;
+    complete = complete;
+  }
     where
-      go : (b : Bool) → reads_any run.net ≡ b → IfSome old.input.bytes (λ input. (net : Net) × RunMeans words net input decided d.wrote)
-      go true is = weaker_some old.input.bytes (λ all same. (run.net, subst (λ bytes. RunMeans words run.net bytes decided d.wrote) same run.means)) (all_given d.given old.input.bytes new.input.bytes d.gave (run.used.reads is))
-      go false is = at_some old.input.bytes (λ all. (run.net, means_on words run.net is all decided d.wrote (subst (λ bytes. RunMeans words run.net bytes decided d.wrote) (run.used.leaves is) run.means)))
+      steady : status ≢ Told.ReadFault → status ≢ Told.WriteFault → AllSteady old new × Steady diag diag'
+      steady no_read no_write =
+          ⊎_elim
+          (λ told. (unfailed words old new d.given d.effect decided (λ is. no_read (told.same ∙ ap status_of is)) (λ is. no_write (told.same ∙ ap status_of is)) d.cause, told.steady))
+          (λ half. absurd (no_write half.turned))
+          reports
 
-  meant : (decided : Outcome) (status : Status) (d : Decides words old.input new.input old.output new.output decided) → status ≡ status_of decided → NoneFailed old new → (status ≡ Told.NoMemory) ⊎ IsMeant words old new decided status
-  meant Done status d told none = inr (record { same = told; wrote = d.wrote; gained = d.gained; means = run_meant Done d d.cause })
-  meant (Coded code) status d told none = inr (record { same = told; wrote = d.wrote; gained = d.gained; means = run_meant (Coded code) d d.cause })
-  meant Stalled status d told none = inr (record { same = told; wrote = d.wrote; gained = d.gained; means = run_meant Stalled d d.cause })
-  meant (Spent steps) status d told none = inr (record { same = told; wrote = d.wrote; gained = d.gained; means = run_meant (Spent steps) d d.cause })
-  meant (SpecRefused number argument place) status d told none = inr (record { same = told; wrote = d.wrote; gained = d.gained; means = at_some old.input.bytes (λ all. d.cause.0) })
-  meant ReadFault status d told none = absurd (none.input d.cause.3)
-  meant WriteFault status d told none = absurd (none.output d.cause.failed)
-  meant NoMemory status d told none = inl told
-  meant Usage status d told none = inr (record { same = told; wrote = d.wrote; gained = d.gained; means = at_some old.input.bytes (λ all. d.cause.0) })
-  meant InputTooLarge status d told none =
-      let overflow = d.cause.0 in
-      inr (record {
-        same = told;
-        wrote = d.wrote;
-        gained = d.gained;
-        means = weaker_some old.input.bytes (λ all past. (overflow.0, past, overflow.2)) (some_given input_limit d.given old.input.bytes new.input.bytes d.gave overflow.1);
-      })
-  meant NotYet status d told none = inr (record { same = told; wrote = d.wrote; gained = d.gained; means = at_some old.input.bytes (λ all. d.cause.0) })
-
-  module _ (decided : Outcome) (status : Status) (d : Decides words old.input new.input old.output new.output decided) (reports : Reports decided status old.diag new.diag)
-      (files : new.files ≡ old.files) (file_faults : new.file_faults ≡ old.file_faults) where
-    steady : status ≢ Told.ReadFault → status ≢ Told.WriteFault → AllSteady old new
-    steady no_read no_write =
-        ⊎_elim
-        (λ told.
-        let both = unfailed words old.input new.input old.output new.output d.given d.wrote decided (λ is. no_read (told.same ∙ ap status_of is)) (λ is. no_write (told.same ∙ ap status_of is)) d.cause in
-        record { input = both.0; output = both.1; diag = told.steady; files = file_faults })
-        (λ half. absurd (no_write half.turned))
-        reports
-
-    complete : NoneFailed old new → (status ≡ Told.NoMemory) ⊎ IsMeant words old new decided status
-    complete none =
-        ⊎_elim
-        (λ told. meant decided status d told.same none)
-        (λ half. absurd (none.diag half.failed))
-        reports
-
-    pub answers : Answers words old new status
-    answers = record {
-      decided = decided;
-      decides = d;
-      reports = reports;
-      files = files;
-      file_faults = file_faults;
-      steady = steady;
-      complete = complete;
-    }
+      complete : NoneFailed old new → ¬ Failed diag diag' → (status ≡ Told.NoMemory) ⊎ IsMeant words old d.given d.effect decided status
+      complete none told_all =
+          ⊎_elim
+          (λ told. meant decided d status told.same none d.cause)
+          (λ half. absurd (told_all half.failed))
+          reports

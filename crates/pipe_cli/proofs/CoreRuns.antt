@@ -10,7 +10,8 @@ use Rattle.core_machine.specs.Machine.{Machine, started, left_by, HasStopped, Is
 use Rattle.core_machine.specs.Answered.{HasRun, Ends}
 use Rattle.core_machine.specs.Start.{HasNoQueue}
 use Rattle.pipe_cli.specs.Built.{AreBuilt}
-use Rattle.pipe_cli.specs.Steps.{HasCompleted, HasSpent}
+use Rattle.pipe_cli.specs.Meaning.{Exhausts}
+use Rattle.pipe_cli.specs.Steps.{HasCompleted}
 
 -- What a core is started with
 
@@ -32,6 +33,10 @@ complete_if net es none e may = (let z : false ≡ true = sym (ap is_some (none 
 stopped_all : (m : Machine) → HasStopped m → (s k : ℕ) → licence m.net (play m.net m.journal) none_left s k ≡ None
 stopped_all m stopped = subst (λ out. (s k : ℕ) → licence m.net (play m.net m.journal) (left_by m.journal out) s k ≡ None) stopped.0 stopped.1
 
+-- its journal is complete
+pub stopped_complete : (m : Machine) → HasStopped m → IsComplete m.net m.journal
+stopped_complete m stopped = complete_if m.net m.journal (stopped_all m stopped)
+
 module _ (net : Net) (steps : ℕ) (old new : Machine) (first : old ≡ started net steps) (run : HasRun old new) (lawful : IsLawful new) where
   net_is : new.net ≡ net
   net_is = ap (λ (m : Machine). m.net) run.after ∙ ap (λ (m : Machine). m.net) first
@@ -49,14 +54,13 @@ module _ (net : Net) (steps : ℕ) (old new : Machine) (first : old ≡ started 
   pub run_completed : Ends End.Complete new → HasCompleted net steps new
   run_completed stopped = record {
     net_is = net_is;
-    home = out_is;
     legal = legal_is;
-    complete = subst (λ z. IsComplete z new.journal) net_is (complete_if new.net new.journal (stopped_all new stopped));
+    stopped = stopped;
     within = let w = lawful.within in omega (arith, w, budget_is);
   }
 
   -- its journal was full before
-  pub run_spent : Ends End.Spent new → HasSpent net steps
+  pub run_spent : Ends End.Spent new → Exhausts net steps
   run_spent ends =
       let may : is_some (licence new.net (play new.net new.journal) none_left ends.1.0.0 ends.1.0.1) ≡ true = subst (λ out. is_some (licence new.net (play new.net new.journal) (left_by new.journal out) ends.1.0.0 ends.1.0.1) ≡ true) out_is ends.1.1.0 in
       record {

@@ -1,24 +1,28 @@
 -- What a run of a net means, from what its core did.
-use Rattle.std.proofs.Common.{◌≡◌, ℕ, zero, suc, ◌≤◌, Bool, true, false, cond, List, [], ◌∷◌, ◌++◌, length, refl, sym, ◌∙◌, ap, subst, Some, slice_get, ℤ, pos, negsuc}
+use Rattle.std.proofs.Common.{◌≡◌, ℕ, suc, ◌≤◌, Bool, true, false, cond, List, [], ◌∷◌, ◌++◌, length, refl, sym, ◌∙◌, ap, subst, arith, Some, slice_get}
 use Rattle.pipe_model.specs.declared.net.Net.{Net}
 use Rattle.pipe_model.specs.declared.net.Strand.{Strand}
 use Rattle.pipe_model.specs.Event.{Event}
 use Rattle.pipe_model.specs.Form.{is_filed}
 use Rattle.pipe_model.specs.Play.{play, IsLegal, IsLicensed, IsComplete}
-use Rattle.pipe_model.specs.Reply.{Reply, WaitLine, reply, replied, console_from, files_from, code_from, waits_from, file_part}
+use Rattle.pipe_model.specs.Reply.{Reply, WaitLine, reply, replied, console_from, files_from, waits_from, file_part}
 use Rattle.pipe_model.specs.State.{State, Who, past}
 use Rattle.pipe_model.specs.Shape.{Keeping}
 use Rattle.pipe_model.specs.Shape.Keeping.{Nothing, Console, File}
 use Rattle.pipe_model.specs.WellFormed.{IsWellFormed}
-use Rattle.net_graph.specs.Fed.{fed}
+use Rattle.confluence_laws.proofs.Readings.{plain_reading}
+use Rattle.net_graph.specs.Fed.{fed, reads_any}
+use Rattle.net_graph.proofs.Feeds.{fed_formed}
 use Rattle.core_machine.specs.Machine.{Machine, state_of}
 use Rattle.pipe_cli.specs.declared.status.Outcome.{Outcome}
-use Rattle.pipe_cli.specs.declared.status.Outcome.TheVariants.{Done, Coded, SpecRefused, Stalled, Spent, ReadFault, WriteFault, NoMemory, Usage, InputTooLarge, NotYet}
+use Rattle.pipe_cli.specs.declared.status.Outcome.TheVariants.{Spent}
 use Rattle.pipe_cli.specs.Built.{AreBuilt, IsBuilt, keeping_of}
-use Rattle.pipe_cli.specs.Meaning.{RunsNet, RunMeans, Finishes, Exhausts, reads_any, taken, net_on, input_limit, ended, stalled}
-use Rattle.pipe_cli.specs.Runs.{IsOutcomeOf}
-use Rattle.pipe_cli.specs.Steps.{HasCompleted, HasSpent}
-use Rattle.pipe_cli.proofs.LineFed.{line_filters}
+use Rattle.pipe_cli.specs.Effects.{Before, Effect, no_effect, output_of, effect_of}
+use Rattle.pipe_cli.specs.Meaning.{RunMeans, Exhausts, Finishes, fed_size, net_on, input_limit, outcome_of}
+use Rattle.pipe_cli.specs.Meaning.RunMeans.{finishes, exhausts}
+use Rattle.pipe_cli.specs.Steps.{HasCompleted}
+use Rattle.pipe_cli.proofs.CoreRuns.{stopped_complete}
+use Rattle.pipe_cli.proofs.Feds.{fed_built, size_of}
 
 -- The reply
 
@@ -32,108 +36,54 @@ no_files : (st : State) (s : Who) (ps : List Strand) → ((k : ℕ) (p : Strand)
 no_files st s [] built = refl
 no_files st s (p ∷ ps) built = ap (λ z. z ++ files_from st (suc s) ps) (no_file (keeping_of p.kind) (past st s) (built 0 p refl).fileless) ∙ no_files st (suc s) ps (λ k q at. built (suc k) q at)
 
--- no strand waits: it writes and ends with the worst code
-unstalled : (st : State) (net : Net) → AreBuilt net → (ws : List WaitLine) → (replied st net.strands ws).waits ≡ [] →
-    replied st net.strands ws ≡ ended (console_from st 0 net.strands) (replied st net.strands ws).code
-unstalled st net built [] none = λ i. record { console = console_from st 0 net.strands; files = no_files st 0 net.strands built i; code = code_from st 0 net.strands; waits = [] }
-unstalled st net built (w ∷ ws) none = cc
-
--- some strand waits
-waiting : (st : State) (ps : List Strand) (ws : List WaitLine) (first : WaitLine) (rest : List WaitLine) → (replied st ps ws).waits ≡ first ∷ rest → replied st ps ws ≡ stalled (console_from st 0 ps) first rest
-waiting st ps [] first rest some = cc
-waiting st ps (w ∷ ws) first rest some = λ i. record { console = console_from st 0 ps; files = []; code = negsuc 4094; waits = some i }
-
--- every reply has an outcome
-pub some_outcome : (answer : Reply) → (outcome : Outcome) × IsOutcomeOf answer outcome
-some_outcome answer = by_waits answer.waits refl
-  where
-    by_code : (code : ℤ) → answer.code ≡ code → answer.waits ≡ [] → (outcome : Outcome) × IsOutcomeOf answer outcome
-    by_code (pos zero) is none = (Done, (none, is))
-    by_code (pos (suc n)) is none = (Coded (pos (suc n)), (none, is, λ e. cc))
-    by_code (negsuc n) is none = (Coded (negsuc n), (none, is, λ e. cc))
-
-    by_waits : (ws : List WaitLine) → answer.waits ≡ ws → (outcome : Outcome) × IsOutcomeOf answer outcome
-    by_waits [] is = by_code answer.code refl is
-    by_waits (w ∷ ws) is = (Stalled, (w, ws, is))
-
--- What is taken
-
--- what was read is what the net takes of it
-pub taken_is : (net : Net) (bytes : List ℕ) → (reads_any net ≡ false → bytes ≡ []) → taken net bytes ≡ bytes
-taken_is net bytes leaves = go (reads_any net) refl
-  where
-    go : (b : Bool) → reads_any net ≡ b → taken net bytes ≡ bytes
-    go true is = ap (λ b. cond b bytes []) is
-    go false is = ap (λ b. cond b bytes []) is ∙ sym (leaves is)
+-- so a run writes its console's text and no file
+only_output : (st : State) (net : Net) → AreBuilt net → (ws : List WaitLine) → output_of (console_from st 0 net.strands) ≡ effect_of (replied st net.strands ws)
+only_output st net built [] = ap (λ files. record no_effect { output = console_from st 0 net.strands; files = files }) (sym (no_files st 0 net.strands built))
+only_output st net built (w ∷ ws) = refl
 
 -- The run
 
-module _ (words : List (List ℕ)) (net : Net) (steps : ℕ) (runs : RunsNet words net steps) (bytes : List ℕ) (fits : length bytes ≤ input_limit) (leaves : reads_any net ≡ false → bytes ≡ [])
-    (formed : IsWellFormed net) where
-  fits_taken : length (taken net bytes) ≤ input_limit
-  fits_taken = subst (λ z. length z ≤ input_limit) (sym (taken_is net bytes leaves)) fits
+-- what was read fits
+size_fits : (reads : Bool) (n : ℕ) → n ≤ input_limit → cond reads n 0 ≤ input_limit
+size_fits true n fits = fits
+size_fits false n fits = omega arith
 
-  given_is : (after : Net) → after ≡ fed bytes net → after ≡ net_on bytes net
-  given_is after is = is ∙ ap (λ z. fed z net) (sym (taken_is net bytes leaves))
+module _ (net : Net) (steps : ℕ) (formed : IsWellFormed net) (built : AreBuilt net) (before : Before) (fits : length before.input ≤ input_limit) where
+  abbrev on : Net
+  on = net_on before net
+
+  pub fits_all : fed_size before net ≤ input_limit
+  fits_all = subst (λ n. n ≤ input_limit) (sym (size_of before net built)) (size_fits (reads_any net) (length before.input) fits)
 
   -- a full journal
-  pub exhausts : (after : Net) → after ≡ fed bytes net → HasSpent after steps → Exhausts words net bytes steps
-  exhausts after is spent =
-      let same = given_is after is in
-      record {
-        runs = runs;
-        fits = fits_taken;
-        journal = spent.journal;
-        legal = subst (λ z. IsLegal z spent.journal) same spent.legal;
-        full = spent.full;
-        more = (spent.more.0, subst (λ z. IsLicensed z (play z spent.journal) spent.more.0) same spent.more.1);
-      }
+  pub run_spent : (after : Net) → after ≡ on → Exhausts after steps → RunMeans on steps (Spent steps) no_effect
+  run_spent after is spent = exhausts (subst (λ z. Exhausts z steps) is spent) refl refl
 
-  module _ (after : Net) (is : after ≡ fed bytes net) (built : AreBuilt after) (core : Machine) (done : HasCompleted after steps core) where
-    abbrev on : Net
-    on = net_on bytes net
-
+  -- a complete one
+  module _ (after : Net) (is : after ≡ on) (core : Machine) (done : HasCompleted after steps core) where
     core_on : core.net ≡ on
-    core_on = done.net_is ∙ given_is after is
+    core_on = done.net_is ∙ is
 
-    core_built : AreBuilt core.net
-    core_built = subst AreBuilt (sym done.net_is) built
-
-    abbrev wrote : List ℕ
-    wrote = console_from (state_of core) 0 core.net.strands
-
-    abbrev told : Reply
-    told = reply core.net (state_of core)
-
-    told_is : reply on (play on core.journal) ≡ told
+    told_is : reply on (play on core.journal) ≡ reply core.net (state_of core)
     told_is = ap (λ z. reply z (play z core.journal)) (sym core_on)
 
-    finishes : (answer : Reply) → told ≡ answer → Finishes words net bytes answer
-    finishes answer same =
-        let legal = subst (λ z. IsLegal z core.journal) (given_is after is) done.legal in
-        let complete = subst (λ z. IsComplete z core.journal) (given_is after is) done.complete in
+    on_formed : IsWellFormed on
+    on_formed = fed_formed before.input before.files net formed
+
+    finished : Finishes on steps (reply on (play on core.journal))
+    finished =
+        let legal = subst (λ z. IsLegal z core.journal) is done.legal in
         record {
-          steps = steps;
-          runs = runs;
-          fits = fits_taken;
           journal = core.journal;
           legal = legal;
-          complete = complete;
+          complete = subst (λ z. IsComplete z core.journal) core_on (stopped_complete core done.stopped);
           within = done.within;
-          replies = told_is ∙ same;
-          filters = λ strings line. line_filters bytes strings net line formed core.journal legal complete answer (told_is ∙ same);
+          replies = refl;
+          plainly = λ plain ended. plain_reading on on_formed plain core.journal legal ended;
         }
 
-    -- a complete journal, by its outcome
-    pub run_means : (outcome : Outcome) → IsOutcomeOf told outcome → RunMeans words net bytes outcome wrote
-    run_means Done of = finishes (ended wrote (pos 0)) (unstalled (state_of core) core.net core_built (waits_from (state_of core) 0 core.net.strands) of.0 ∙ ap (ended wrote) of.1)
-    run_means (Coded code) of = (of.2, finishes (ended wrote code) (unstalled (state_of core) core.net core_built (waits_from (state_of core) 0 core.net.strands) of.0 ∙ ap (ended wrote) of.1))
-    run_means Stalled of = (of.0, of.1, finishes (stalled wrote of.0 of.1) (waiting (state_of core) core.net.strands (waits_from (state_of core) 0 core.net.strands) of.0 of.1 of.2))
-    run_means (SpecRefused number argument place) of = absurd of
-    run_means (Spent n) of = absurd of
-    run_means ReadFault of = absurd of
-    run_means WriteFault of = absurd of
-    run_means NoMemory of = absurd of
-    run_means Usage of = absurd of
-    run_means InputTooLarge of = absurd of
-    run_means NotYet of = absurd of
+    pub run_done : (outcome : Outcome) → outcome ≡ outcome_of core.net (reply core.net (state_of core)) → RunMeans on steps outcome (output_of (console_from (state_of core) 0 core.net.strands))
+    run_done outcome of = finishes (reply on (play on core.journal)) finished
+        (of ∙ ap (λ z. outcome_of z (reply z (play z core.journal))) core_on)
+        (ap (λ z. output_of (console_from (play z core.journal) 0 z.strands)) core_on
+        ∙ only_output (play on core.journal) on (fed_built before.input before.files net built) (waits_from (play on core.journal) 0 on.strands))

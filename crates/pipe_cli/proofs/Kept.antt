@@ -1,7 +1,8 @@
 -- The console's text, as far as a loop over the strands has written it.
 use Rattle.std.proofs.Common.{◌≡◌, ℕ, true, false, suc, ◌+◌, ◌<◌, List, ◌++◌, length, drop, sym, ◌∙◌, ap, subst, arith, Option, Some, slice_get, slice_index_or, add-one, append_assoc, length-append}
+use Rattle.std.proofs.KnownBytes.{Appends-trans}
 use Rattle.std.proofs.lemmas.Option.{slice_get-get_or}
-use Rattle.outside.specs.Sink.{Gained}
+use Rattle.std.specs.Io.KnownBytes.{Appends}
 use Rattle.outside.specs.Faults.{Rose}
 use Rattle.pipe_model.specs.declared.net.Strand.{Strand}
 use Rattle.pipe_model.specs.Reply.{console_from}
@@ -11,10 +12,10 @@ use Rattle.stage_steps.specs.Coroutine.{kept_by}
 use Rattle.pipe_cli.specs.declared.status.Outcome.{Outcome}
 use Rattle.pipe_model.specs.Form.{is_shown}
 use Rattle.pipe_cli.specs.Built.{keeping_of}
-use Rattle.pipe_cli.specs.Devices.{Device, Steady}
+use Rattle.outside.specs.Device.{Device}
+use Rattle.pipe_cli.specs.Devices.{Steady}
 use Rattle.pipe_cli.specs.Steps.{IsPartWritten}
 use Rattle.pipe_cli.proofs.Runs.{console_more, console_less, kept_part}
-use Rattle.pipe_cli.proofs.Streams.{gained-more}
 
 module _ (st : State) (k : Who) (ps : List Strand) (other : Strand) (lt : k < length ps) where
   here : slice_get ps k ≡ Some (slice_index_or ps k other)
@@ -34,14 +35,14 @@ module _ (st : State) (k : Who) (ps : List Strand) (other : Strand) (lt : k < le
 
 -- what was written and what is left
 abbrev pub HasWritten : State → Who → List Strand → Option (List ℕ) → Option (List ℕ) → Type 0
-HasWritten st k ps old new = (done : List ℕ) × Gained done old new × (done ++ console_from st k (drop k ps) ≡ console_from st 0 ps)
+HasWritten st k ps old new = (done : List ℕ) × Appends old new done × (done ++ console_from st k (drop k ps) ≡ console_from st 0 ps)
 
 module _ (st : State) (k : Who) (ps : List Strand) (kept : List ℕ) (more : console_from st k (drop k ps) ≡ kept ++ console_from st (k + 1) (drop (k + 1) ps)) where
   split : (done : List ℕ) → done ++ console_from st k (drop k ps) ≡ console_from st 0 ps → (done ++ kept) ++ console_from st (k + 1) (drop (k + 1) ps) ≡ console_from st 0 ps
   split done whole = append_assoc done kept (console_from st (k + 1) (drop (k + 1) ps)) ∙ ap (λ z. done ++ z) (sym more) ∙ whole
 
-  pub wrote_more : (old middle new : Option (List ℕ)) → HasWritten st k ps old middle → Gained kept middle new → HasWritten st (k + 1) ps old new
-  wrote_more old middle new wrote gained = (wrote.0 ++ kept, gained-more wrote.0 kept old middle new wrote.1 gained, split wrote.0 wrote.2)
+  pub wrote_more : (old middle new : Option (List ℕ)) → HasWritten st k ps old middle → Appends middle new kept → HasWritten st (k + 1) ps old new
+  wrote_more old middle new wrote gained = (wrote.0 ++ kept, Appends-trans old middle new wrote.0 kept wrote.1 gained, split wrote.0 wrote.2)
 
   pub wrote_part : (old middle new : Device) (outcome : Outcome) → HasWritten st k ps old.bytes middle.bytes → Steady old middle → IsPartWritten kept middle new outcome → IsPartWritten (console_from st 0 ps) old new outcome
   wrote_part old middle new outcome wrote steady part =
@@ -60,6 +61,6 @@ module _ (st : State) (k : Who) (ps : List Strand) (kept : List ℕ) (more : con
               ∙ append_assoc (wrote.0 ++ part.wrote) part.cut.rest rest;
           more = omega (arith, more', size);
         };
-        gained = gained-more wrote.0 part.wrote old.bytes middle.bytes new.bytes wrote.1 part.gained;
+        gained = Appends-trans old.bytes middle.bytes new.bytes wrote.0 part.wrote wrote.1 part.gained;
         failed = subst (λ (z : ℕ). Rose z new.faults) steady part.failed;
       }

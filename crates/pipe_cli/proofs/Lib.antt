@@ -14,9 +14,8 @@ pub mod LineStrands
 pub mod Meanings
 pub mod OneRuns
 pub mod OneTexts
-pub mod StraightMeanings
+pub mod LineMeanings
 pub mod Refusals
 pub mod Replies
 pub mod Runs
 pub mod Streams
-pub mod Unread

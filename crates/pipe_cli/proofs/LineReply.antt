@@ -11,8 +11,6 @@ use Rattle.pipe_model.specs.State.{State, Who, past, strand_at}
 use Rattle.pipe_model.specs.Straight.{selected_by}
 use Rattle.pipe_model.specs.Licence.{licence, none_left}
 use Rattle.pipe_model.specs.Play.{play, IsLegal, IsComplete, HasEnded}
-use Rattle.pipe_model.specs.Alone.{IsPlainReading}
-use Rattle.confluence_laws.proofs.Readings.{plain_reading}
 use Rattle.pipe_model.specs.Reply.{reply, replied, console_from, files_from, code_from, waits_from}
 use Rattle.pipe_model.specs.WellFormed.{IsWellFormed}
 use Rattle.pipe_model.proofs.Lists.{at_some}
@@ -21,7 +19,6 @@ use Rattle.confluence_laws.proofs.Flow.{IsFlowing, all_flows}
 use Rattle.confluence_laws.proofs.Progress.{has_ended_at, last_took}
 use Rattle.net_graph.specs.Line.{strands_from, line_net}
 use Rattle.pipe_cli.proofs.LineStrands.{line_straight}
-use Rattle.pipe_cli.proofs.LinePlain.{line_plain}
 
 -- Along the strands
 
@@ -67,10 +64,6 @@ module _ (bytes : List ℕ) (strings : List (List ℕ)) (formed : IsWellFormed (
     ended : (s : Who) → s < length net.strands → has_ended (past (play net es) s) ≡ true
     ended s lt = has_ended_at net formed bytes strings (line_straight bytes strings) (play net es) flowing nothing_left s lt
 
-    -- every strand has ended
-    pub line_ended : HasEnded net (play net es)
-    line_ended s there = let p = the_event (strand_at net (play net es) s) there in ended s (slice_get_within net.strands s _ p.1)
-
     -- the last strand kept the text of the lines that hold every string
     pub line_took : text (taken_from 0 (past (play net es) (suc (length strings)))) ≡ text (selected_by strings (lines bytes))
     line_took = ap text (last_took net formed bytes strings (line_straight bytes strings) (play net es) flowing nothing_left)
@@ -85,7 +78,3 @@ module _ (bytes : List ℕ) (strings : List (List ℕ)) (formed : IsWellFormed (
           code = zero_codes (play net es) 0 net.strands (λ j lt. code_zero (0 + j) (omega (arith, lt))) i;
           waits = [];
         })
-
-    -- the histories are those of the plain reading
-    pub line_reads : IsPlainReading net (play net es)
-    line_reads = plain_reading net formed (line_plain bytes strings) es legal line_ended

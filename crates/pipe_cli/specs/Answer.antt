@@ -1,16 +1,18 @@
--- What a call must answer, from its words, its input and its files to its status, its output, its files and the text of its status.
+-- What a call must answer, from its words and what there was before it to its status, its effect and the text of its status.
 use Rattle.std.specs.Prelude.{◌≡◌, ◌≢◌, ◌⊎◌, ℕ, ◌<◌, ◌≤◌, true, false, List, [], ◌++◌, length}
 use Rattle.std.specs.Option.{IfSome}
-use Rattle.outside.specs.Source.{Gave}
-use Rattle.outside.specs.Sink.{Gained}
+use Rattle.std.specs.Io.KnownBytes.{Consumes, Appends}
+use Rattle.outside.specs.Device.{Device}
 use Rattle.pipe_model.specs.declared.net.Net.{Net}
+use Rattle.net_graph.specs.Fed.{reads_any}
 use Rattle.pipe_cli.specs.declared.status.Status.{Status}
 use Rattle.pipe_cli.specs.declared.status.Status.TheVariants as Told
 use Rattle.pipe_cli.specs.declared.status.Outcome.{Outcome}
-use Rattle.pipe_cli.specs.declared.status.Outcome.TheVariants.{Done, Coded, SpecRefused, Stalled, Spent, ReadFault, WriteFault, NoMemory, Usage, InputTooLarge, NotYet}
+use Rattle.pipe_cli.specs.declared.status.Outcome.TheVariants.{ReadFault, WriteFault, NoMemory, InputTooLarge}
+use Rattle.pipe_cli.specs.Effects.{Before, Effect, no_effect, output_of}
 use Rattle.pipe_cli.specs.Status.{status_of, text_of}
-use Rattle.pipe_cli.specs.Devices.{Device, Outside, Steady, Failed, IsRead}
-use Rattle.pipe_cli.specs.Meaning.{Means, ReadsInput, RunMeans, input_limit, reads_any}
+use Rattle.pipe_cli.specs.Devices.{Outside, Steady, Failed, IsRead, AllSteady, NoneFailed, IsDone}
+use Rattle.pipe_cli.specs.Meaning.{HasRun, IsTooLarge, IsUnrun, Means, RunsNet, fed_size, input_limit}
 
 -- the bytes are the front of these and not all of them
 pub record IsCutShort (front whole : List ℕ) : Type 0 where
@@ -18,70 +20,61 @@ pub record IsCutShort (front whole : List ℕ) : Type 0 where
   pub whole_is : whole ≡ front ++ rest
   pub more : 0 < length rest
 
--- the input was read to its end, where the net reads it, and else not at all
-pub record IsUsed (net : Net) (given : List ℕ) (input input' : Device) : Type 0 where
-  pub reads : reads_any net ≡ true → IsRead input'
-  pub leaves : reads_any net ≡ false → given ≡ []
-  pub steady : Steady input input'
+-- where the net reads the input it was read to its end, and else not at all
+pub record IsUsed (net : Net) (given : Before) (input : Device) : Type 0 where
+  pub reads : reads_any net ≡ true → IsRead input
+  pub leaves : reads_any net ≡ false → given.input ≡ []
 
--- a run of the net has an outcome, of which the output gained all bytes
-pub record IsRun (words : List (List ℕ)) (input input' output output' : Device) (given wrote : List ℕ) (outcome : Outcome) : Type 0 where
+-- the words are a run that reads the input, of which no more was read than fits
+pub record IsReading (words : List (List ℕ)) (given : Before) : Type 0 where
   pub net : Net
-  pub means : RunMeans words net given outcome wrote
-  pub used : IsUsed net given input input'
-  pub steady : Steady output output'
+  pub steps : ℕ
+  pub runs : RunsNet words net steps
+  pub reads : reads_any net ≡ true
+  pub fits : fed_size given net ≤ input_limit
 
--- a run of the net has an outcome, of which not all bytes were written
-pub record IsHalfWritten (words : List (List ℕ)) (input input' output output' : Device) (given wrote : List ℕ) : Type 0 where
-  pub net : Net
+-- a run has an outcome and an effect, of whose output not all was written, and of which nothing else was done
+pub record IsHalfWritten (words : List (List ℕ)) (given : Before) (input : Device) (effect : Effect) : Type 0 where
   pub outcome : Outcome
-  pub whole : List ℕ
-  pub means : RunMeans words net given outcome whole
-  pub cut : IsCutShort wrote whole
-  pub used : IsUsed net given input input'
-  pub failed : Failed output output'
+  pub whole : Effect
+  pub run : HasRun words given outcome whole
+  pub used : IsUsed run.net given input
+  pub wrote : List ℕ
+  pub cut : IsCutShort wrote whole.output
+  pub effect_is : effect ≡ output_of wrote
 
--- nothing was read and nothing written, and no call failed
-pub record IsUntouched (input input' output output' : Device) (given wrote : List ℕ) : Type 0 where
-  pub unread : given ≡ []
-  pub unwritten : wrote ≡ []
-  pub input_steady : Steady input input'
-  pub output_steady : Steady output output'
-
--- why an outcome was decided, where the input gave some bytes and the output gained some
-abbrev pub HasCause : List (List ℕ) → Device → Device → Device → Device → List ℕ → List ℕ → Outcome → Type 0
-HasCause words input input' output output' given wrote Done = IsRun words input input' output output' given wrote Done
-HasCause words input input' output output' given wrote (Coded code) = IsRun words input input' output output' given wrote (Coded code)
-HasCause words input input' output output' given wrote Stalled = IsRun words input input' output output' given wrote Stalled
-HasCause words input input' output output' given wrote (Spent steps) = IsRun words input input' output output' given wrote (Spent steps)
-HasCause words input input' output output' given wrote (SpecRefused number argument place) =
-    Means words given (SpecRefused number argument place) wrote × IsUntouched input input' output output' given wrote
-HasCause words input input' output output' given wrote ReadFault =
-    ReadsInput words × (length given ≤ input_limit) × (wrote ≡ []) × Failed input input' × Steady output output'
-HasCause words input input' output output' given wrote WriteFault = IsHalfWritten words input input' output output' given wrote
-HasCause words input input' output output' given wrote NoMemory =
-    (wrote ≡ []) × Steady input input' × Steady output output'
-HasCause words input input' output output' given wrote Usage =
-    Means words given Usage wrote × IsUntouched input input' output output' given wrote
-HasCause words input input' output output' given wrote InputTooLarge =
-    Means words given InputTooLarge wrote × Steady input input' × Steady output output'
-HasCause words input input' output output' given wrote NotYet =
-    Means words given NotYet wrote × IsUntouched input input' output output' given wrote
+-- why an outcome was decided, where the call was given this and did this
+pub data HasCause (words : List (List ℕ)) (old new : Outside) (given : Before) (effect : Effect) (decided : Outcome) : Type 0 where
+  -- the words aren't run: nothing is read and nothing done
+  unrun : IsUnrun words decided → given.input ≡ [] → effect ≡ no_effect → AllSteady old new → HasCause words old new given effect decided
+  -- what was read is more than fits
+  too_large : IsTooLarge words given → decided ≡ InputTooLarge → effect ≡ no_effect → AllSteady old new → HasCause words old new given effect decided
+  -- the words run a net, which came to this
+  ran : (run : HasRun words given decided effect) → IsUsed run.net given new.input → AllSteady old new → HasCause words old new given effect decided
+  -- the input failed
+  read_failed : IsReading words given → decided ≡ ReadFault → effect ≡ no_effect → Failed old.input new.input → Steady old.output new.output → new.shelf.faults ≡ old.shelf.faults →
+      HasCause words old new given effect decided
+  -- the output failed
+  write_failed : IsHalfWritten words given new.input effect → decided ≡ WriteFault → Steady old.input new.input → Failed old.output new.output → new.shelf.faults ≡ old.shelf.faults →
+      HasCause words old new given effect decided
+  -- memory was wanted: nothing is done
+  no_memory : decided ≡ NoMemory → effect ≡ no_effect → AllSteady old new → HasCause words old new given effect decided
 
 -- an outcome was decided, and why
-pub record Decides (words : List (List ℕ)) (input input' output output' : Device) (decided : Outcome) : Type 0 where
-  -- the bytes that the input gave
-  pub given : List ℕ
-  -- the bytes that the output gained
-  pub wrote : List ℕ
-  pub gave : Gave given input.bytes input'.bytes
-  pub gained : Gained wrote output.bytes output'.bytes
-  pub cause : HasCause words input input' output output' given wrote decided
+pub record Decides (words : List (List ℕ)) (old new : Outside) (decided : Outcome) : Type 0 where
+  -- the bytes that the input gave, and the files that there were
+  pub given : Before
+  -- what was done
+  pub effect : Effect
+  pub gave : Consumes old.input.bytes new.input.bytes given.input
+  pub found : IfSome old.shelf.files (λ files. given.files ≡ files)
+  pub done : IsDone effect old new
+  pub cause : HasCause words old new given effect decided
 
 -- the text of the outcome was told, and its status answered
 pub record IsTold (decided : Outcome) (status : Status) (diag diag' : Device) : Type 0 where
   pub same : status ≡ status_of decided
-  pub gained : Gained (text_of decided) diag.bytes diag'.bytes
+  pub gained : Appends diag.bytes diag'.bytes (text_of decided)
   pub steady : Steady diag diag'
 
 -- the text of the outcome couldn't be told whole, which is a write fault
@@ -89,42 +82,24 @@ pub record IsHalfTold (decided : Outcome) (status : Status) (diag diag' : Device
   pub turned : status ≡ Told.WriteFault
   pub wrote : List ℕ
   pub cut : IsCutShort wrote (text_of decided)
-  pub gained : Gained wrote diag.bytes diag'.bytes
+  pub gained : Appends diag.bytes diag'.bytes wrote
   pub failed : Failed diag diag'
 
 abbrev pub Reports : Outcome → Status → Device → Device → Type 0
 Reports decided status diag diag' = IsTold decided status diag diag' ⊎ IsHalfTold decided status diag diag'
 
--- no count of faults changed
-pub record AllSteady (old new : Outside) : Type 0 where
-  pub input : Steady old.input new.input
-  pub output : Steady old.output new.output
-  pub diag : Steady old.diag new.diag
-  pub files : new.file_faults ≡ old.file_faults
-
--- no call failed
-pub record NoneFailed (old new : Outside) : Type 0 where
-  pub input : ¬ Failed old.input new.input
-  pub output : ¬ Failed old.output new.output
-  pub diag : ¬ Failed old.diag new.diag
-
--- the status and the bytes that the output gained are those that the words mean on all of the input, where it is told
-pub record IsMeant (words : List (List ℕ)) (old new : Outside) (decided : Outcome) (status : Status) : Type 0 where
+-- the status and the effect are those that the words mean on all of the input, where it is told
+pub record IsMeant (words : List (List ℕ)) (old : Outside) (given : Before) (effect : Effect) (decided : Outcome) (status : Status) : Type 0 where
   pub same : status ≡ status_of decided
-  pub wrote : List ℕ
-  pub gained : Gained wrote old.output.bytes new.output.bytes
-  pub means : IfSome old.input.bytes (λ input. Means words input decided wrote)
+  pub means : IfSome old.input.bytes (λ input. Means words (record given { input = input }) decided effect)
 
 -- a call with these words, before which and after which its objects show this, may answer this status
-pub record Answers (words : List (List ℕ)) (old new : Outside) (status : Status) : Type 0 where
+pub record Answers (words : List (List ℕ)) (old new : Outside) (diag diag' : Device) (status : Status) : Type 0 where
   -- the outcome that was decided, and then told
   pub decided : Outcome
-  pub decides : Decides words old.input new.input old.output new.output decided
-  pub reports : Reports decided status old.diag new.diag
-  -- the shelf isn't used: its files and its count of faults stay as they were
-  pub files : new.files ≡ old.files
-  pub file_faults : new.file_faults ≡ old.file_faults
+  pub decides : Decides words old new decided
+  pub reports : Reports decided status diag diag'
   -- a status that is no fault leaves the counts of faults as they were
-  pub steady : status ≢ Told.ReadFault → status ≢ Told.WriteFault → AllSteady old new
+  pub steady : status ≢ Told.ReadFault → status ≢ Told.WriteFault → AllSteady old new × Steady diag diag'
   -- where no call failed, it answers what the words mean, or want of memory
-  pub complete : NoneFailed old new → (status ≡ Told.NoMemory) ⊎ IsMeant words old new decided status
+  pub complete : NoneFailed old new → ¬ Failed diag diag' → (status ≡ Told.NoMemory) ⊎ IsMeant words old decides.given decides.effect decided status

@@ -1,17 +1,11 @@
 -- What the objects of a call show, before it and after it.
-use Rattle.std.specs.Prelude.{◌≡◌, ℕ, List, []}
-use Rattle.std.specs.Option.{IfSome}
+use Rattle.std.specs.Prelude.{◌≡◌, ℕ}
+use Rattle.std.specs.Io.KnownBytes.{Appends, IsAtEnd}
 use Rattle.std.specs.declared.option.Option.{Option}
 use Rattle.outside.specs.Faults.{Rose}
 use Rattle.outside.specs.Files.{Files}
-
--- a source or a sink: the bytes left or written, where they are told, and the count of its faults
-pub record Device : Type 0 where
-  pub bytes : Option (List ℕ)
-  pub faults : ℕ
-
-abbrev pub device : Option (List ℕ) → ℕ → Device
-device bytes faults = record { bytes = bytes; faults = faults }
+use Rattle.outside.specs.Device.{Device}
+use Rattle.pipe_cli.specs.Effects.{Effect, AreReplaced, replaced_by}
 
 -- no call failed
 abbrev pub Steady : Device → Device → Type 0
@@ -23,15 +17,38 @@ Failed old new = Rose old.faults new.faults
 
 -- a source that tells its bytes has none left
 abbrev pub IsRead : Device → Type 0
-IsRead source = IfSome source.bytes (λ left. left ≡ [])
+IsRead source = IsAtEnd source.bytes
 
--- all objects of a call
+-- a shelf: the files, where they are told, and the count of its faults
+pub record Store : Type 0 where
+  pub files : Option Files
+  pub faults : ℕ
+
+abbrev pub store : Option Files → ℕ → Store
+store files faults = record { files = files; faults = faults }
+
+-- what a run reads and writes: all objects of a call but standard error
 pub record Outside : Type 0 where
   pub input : Device
   pub output : Device
-  pub diag : Device
-  pub files : Option Files
-  pub file_faults : ℕ
+  pub shelf : Store
 
-abbrev pub outside : Device → Device → Device → Option Files → ℕ → Outside
-outside input output diag files file_faults = record { input = input; output = output; diag = diag; files = files; file_faults = file_faults }
+abbrev pub outside : Device → Device → Store → Outside
+outside input output shelf = record { input = input; output = output; shelf = shelf }
+
+-- no count of faults changed
+pub record AllSteady (old new : Outside) : Type 0 where
+  pub input : Steady old.input new.input
+  pub output : Steady old.output new.output
+  pub shelf : new.shelf.faults ≡ old.shelf.faults
+
+-- no call failed
+pub record NoneFailed (old new : Outside) : Type 0 where
+  pub input : ¬ Failed old.input new.input
+  pub output : ¬ Failed old.output new.output
+  pub shelf : ¬ Rose old.shelf.faults new.shelf.faults
+
+-- the effect was carried out, and nothing else was written
+pub record IsDone (effect : Effect) (old new : Outside) : Type 0 where
+  pub output : Appends old.output.bytes new.output.bytes effect.output
+  pub files : AreReplaced (replaced_by effect) old.shelf.files new.shelf.files

@@ -2,9 +2,9 @@ pub mod Answer
 pub mod Built
 pub mod Command
 pub mod Devices
+pub mod Effects
 pub mod Meaning
 pub mod Outcome
 pub mod Refusals
-pub mod Runs
 pub mod Status
 pub mod Steps

@@ -1,32 +1,38 @@
--- What words mean on an input, where nothing fails.
-use Rattle.std.specs.Prelude.{◌≡◌, ◌≢◌, ℕ, ◌<◌, ◌≤◌, Bool, true, if◌then◌else◌, List, [], ◌∷◌, length, filter, is_some, ℤ, pos, negsuc}
-use Rattle.std.specs.List.{list_all}
+-- What words mean, where nothing fails.
+use Rattle.std.specs.Prelude.{◌≡◌, ℕ, ◌+◌, ◌<◌, ◌≤◌, Bool, true, if◌then◌else◌, List, [], ◌∷◌, length, is_some, ℤ, pos, zero}
+use Rattle.std.specs.List.{sum_by}
+use Rattle.std.specs.Option.{option_map_or}
 use Rattle.std.specs.declared.option.Option.TheVariants.{Some, None}
+use Rattle.outside.specs.Files.{Files}
 use Rattle.pipe_model.specs.Records.{lines, text}
-use Rattle.pipe_model.specs.Search.{holds}
 use Rattle.pipe_model.specs.declared.net.Net.{Net}
+use Rattle.pipe_model.specs.declared.net.Strand.{Strand}
 use Rattle.pipe_model.specs.declared.step.Entry.{Entry}
-use Rattle.pipe_model.specs.Play.{play, IsLegal, IsLicensed, IsComplete}
+use Rattle.pipe_model.specs.Play.{play, HasEnded, IsLegal, IsLicensed, IsComplete}
 use Rattle.pipe_model.specs.Alone.{IsPlainReading}
+use Rattle.pipe_model.specs.Plain.{IsPlain}
 use Rattle.pipe_model.specs.Reply.{Reply, WaitLine, reply}
+use Rattle.pipe_model.specs.Straight.{selected_by}
+use Rattle.pipe_model.specs.Table.{Feed, line_of}
+use Rattle.pipe_model.specs.Table.Feed.{Unfed, Input, OfFile}
 use Rattle.spec_scanner.specs.declared.fault.Fault.{Fault}
 use Rattle.spec_scanner.specs.declared.piece.Piece.{Piece}
 use Rattle.spec_scanner.specs.Reads.{Reads}
 use Rattle.net_graph.specs.Faults.{IsGraph}
-use Rattle.net_graph.specs.Fed.{fed, reader_of}
+use Rattle.net_graph.specs.Fed.{fed, reads_any}
+use Rattle.stall_report.specs.Waits.{wait_lines}
+use Rattle.stall_report.specs.Words.{wait_text}
 use Rattle.pipe_cli.specs.declared.command.Command.{Command}
 use Rattle.pipe_cli.specs.declared.command.Command.TheVariants.{Run, Check, Sample}
 use Rattle.pipe_cli.specs.declared.status.Outcome.{Outcome}
-use Rattle.pipe_cli.specs.declared.status.Outcome.TheVariants.{Done, Coded, SpecRefused, Stalled, Spent, ReadFault, WriteFault, NoMemory, Usage, InputTooLarge, NotYet}
+use Rattle.pipe_cli.specs.declared.status.Outcome.TheVariants.{Done, Coded, SpecRefused, Stalled, Spent, Usage, InputTooLarge, NotYet}
 use Rattle.pipe_cli.specs.Command.{command_of}
-use Rattle.net_graph.specs.Line.{line_net}
+use Rattle.pipe_cli.specs.Effects.{Before, Effect, no_effect, output_of, effect_of}
 use Rattle.pipe_cli.specs.Refusals.{HasLeastFault}
 
--- the most bytes that a run reads: 64 MiB
-abbrev pub input_limit : ℕ
-input_limit = 67108864
+-- ---- the words
 
--- the text reads as pieces that make this net; its reading CONSOLE has no bytes yet
+-- the text reads as pieces that make this net, whose stages aren't fed yet
 pub record IsNetOf (spec : List ℕ) (net : Net) : Type 0 where
   pub pipelines : List (List Piece)
   pub reads : Reads spec pipelines
@@ -43,65 +49,6 @@ pub record RunsNet (words : List (List ℕ)) (net : Net) (steps : ℕ) : Type 0 
   pub run : IsRunOf words spec steps
   pub net_of : IsNetOf spec net
 
--- a reading CONSOLE stands in the net
-abbrev pub reads_any : Net → Bool
-reads_any net = is_some (reader_of net)
-
--- what a run of the net takes of an input
-abbrev pub taken : Net → List ℕ → List ℕ
-taken net input = if reads_any net then input else []
-
--- the net of a run on an input
-abbrev pub net_on : List ℕ → Net → Net
-net_on input net = fed (taken net input) net
-
--- the records that hold every string, in their order
-abbrev pub selected : List (List ℕ) → List (List ℕ) → List (List ℕ)
-selected strings records = filter (λ rec. list_all (λ string. holds string rec) strings) records
-
--- the reply of an unstalled run that writes this output, with a code
-abbrev pub ended : List ℕ → ℤ → Reply
-ended output code = record { console = output; files = []; code = code; waits = [] }
-
--- the reply of a run that writes this output, and in which strands wait
-abbrev pub stalled : List ℕ → WaitLine → List WaitLine → Reply
-stalled output first rest = record { console = output; files = []; code = negsuc 4094; waits = first ∷ rest }
-
--- a run of the straight line with LOCATEs of these strings ends unstalled with code 0, writes the lines of the input that hold every string, and its histories are
--- those of the plain reading
-pub record Filters (input : List ℕ) (strings : List (List ℕ)) (journal : List Entry) (answer : Reply) : Type 0 where
-  pub filtered : answer ≡ ended (text (selected strings (lines input))) (pos 0)
-  pub reading : IsPlainReading (line_net input strings) (play (line_net input strings) journal)
-
--- a legal journal of the net that the words run, within the steps, is complete and has this reply
-pub record Finishes (words : List (List ℕ)) (net : Net) (input : List ℕ) (answer : Reply) : Type 0 where
-  pub steps : ℕ
-  pub runs : RunsNet words net steps
-  pub fits : length (taken net input) ≤ input_limit
-  pub journal : List Entry
-  pub legal : IsLegal (net_on input net) journal
-  pub complete : IsComplete (net_on input net) journal
-  pub within : length journal ≤ steps
-  pub replies : reply (net_on input net) (play (net_on input net) journal) ≡ answer
-  -- what is claimed besides of a straight line
-  pub filters : (strings : List (List ℕ)) → net ≡ line_net [] strings → Filters input strings journal answer
-
--- a legal journal of the net that the words run has as many entries as the steps allow, and one more may be made
-pub record Exhausts (words : List (List ℕ)) (net : Net) (input : List ℕ) (steps : ℕ) : Type 0 where
-  pub runs : RunsNet words net steps
-  pub fits : length (taken net input) ≤ input_limit
-  pub journal : List Entry
-  pub legal : IsLegal (net_on input net) journal
-  pub full : length journal ≡ steps
-  pub more : (e : Entry) × IsLicensed (net_on input net) (play (net_on input net) journal) e
-
--- the words are a run that reads the input
-pub record ReadsInput (words : List (List ℕ)) : Type 0 where
-  pub net : Net
-  pub steps : ℕ
-  pub runs : RunsNet words net steps
-  pub reader : reads_any net ≡ true
-
 -- the words are a run of a specification with this least fault, of its text or of its net
 pub record IsSpecRefused (words : List (List ℕ)) (fault : Fault) : Type 0 where
   pub spec : List ℕ
@@ -115,38 +62,98 @@ is_later (Run spec workers steps trace) = is_some trace
 is_later (Check spec name) = true
 is_later (Sample count workers steps) = true
 
--- the outcome of a run of a net on an input, and the bytes for the output
-abbrev pub RunMeans : List (List ℕ) → Net → List ℕ → Outcome → List ℕ → Type 0
-RunMeans words net input Done output = Finishes words net input (ended output (pos 0))
-RunMeans words net input (Coded code) output = (code ≢ pos 0) × Finishes words net input (ended output code)
-RunMeans words net input Stalled output = (first : WaitLine) × (rest : List WaitLine) × Finishes words net input (stalled output first rest)
-RunMeans words net input (Spent steps) output = Exhausts words net input steps × (output ≡ [])
-RunMeans words net input (SpecRefused number argument place) output = ⊥
-RunMeans words net input Usage output = ⊥
-RunMeans words net input InputTooLarge output = ⊥
-RunMeans words net input NotYet output = ⊥
-RunMeans words net input ReadFault output = ⊥
-RunMeans words net input WriteFault output = ⊥
-RunMeans words net input NoMemory output = ⊥
+-- the words aren't run, and this is the outcome
+pub data IsUnrun (words : List (List ℕ)) (outcome : Outcome) : Type 0 where
+  -- they are no command
+  no_command : command_of words ≡ None → outcome ≡ Usage → IsUnrun words outcome
+  -- or one of a form that isn't built yet
+  later_form : (command : Command) → command_of words ≡ Some command → is_later command ≡ true → outcome ≡ NotYet → IsUnrun words outcome
+  -- or their specification is refused
+  refused : (fault : Fault) → IsSpecRefused words fault → outcome ≡ SpecRefused fault.number fault.argument fault.place → IsUnrun words outcome
 
--- the outcome that words have on an input, and the bytes for the output
-abbrev pub Means : List (List ℕ) → List ℕ → Outcome → List ℕ → Type 0
-Means words input Done output = (net : Net) × RunMeans words net input Done output
-Means words input (Coded code) output = (net : Net) × RunMeans words net input (Coded code) output
-Means words input Stalled output = (net : Net) × RunMeans words net input Stalled output
-Means words input (Spent steps) output = (net : Net) × RunMeans words net input (Spent steps) output
-Means words input (SpecRefused number argument place) output =
-    IsSpecRefused words (record { number = number; argument = argument; place = place }) × (output ≡ [])
-Means words input Usage output = (command_of words ≡ None) × (output ≡ [])
-Means words input InputTooLarge output = ReadsInput words × (input_limit < length input) × (output ≡ [])
-Means words input NotYet output = (command : Command) × (command_of words ≡ Some command) × (is_later command ≡ true) × (output ≡ [])
-Means words input ReadFault output = ⊥
-Means words input WriteFault output = ⊥
-Means words input NoMemory output = ⊥
+-- ---- what the stages of a net are fed
+
+-- the most bytes that a run reads: 64 MiB
+abbrev pub input_limit : ℕ
+input_limit = 67108864
+
+-- how many bytes a file gives to a stage that is fed this
+abbrev pub file_size : Files → Feed → ℕ
+file_size files Unfed = 0
+file_size files Input = 0
+file_size files (OfFile name) = option_map_or (λ (bytes : List ℕ). length bytes) (files name) 0
+
+-- how many bytes all stages are fed: those of the input, if a stage reads it, and those of the files
+abbrev pub fed_size : Before → Net → ℕ
+fed_size before net = (if reads_any net then length before.input else 0) + sum_by (λ (p : Strand). file_size before.files (line_of p.kind).feed) net.strands
+
+-- the net with what its stages are fed
+abbrev pub net_on : Before → Net → Net
+net_on before net = fed before.input before.files net
+
+-- ---- a run of a net whose stages are fed
+
+-- a legal journal within the steps is complete, and has this reply
+pub record Finishes (net : Net) (steps : ℕ) (answer : Reply) : Type 0 where
+  pub journal : List Entry
+  pub legal : IsLegal net journal
+  pub complete : IsComplete net journal
+  pub within : length journal ≤ steps
+  pub replies : reply net (play net journal) ≡ answer
+  -- where the net is plain and all its strands have ended, the histories are those of its stages read as functions on streams
+  pub plainly : IsPlain net → HasEnded net (play net journal) → IsPlainReading net (play net journal)
+
+-- a legal journal has as many entries as the steps allow, and one more may be made
+pub record Exhausts (net : Net) (steps : ℕ) : Type 0 where
+  pub journal : List Entry
+  pub legal : IsLegal net journal
+  pub full : length journal ≡ steps
+  pub more : (e : Entry) × IsLicensed net (play net journal) e
+
+-- the outcome that a reply tells: strands wait, or the worst code is 0, or another one
+abbrev pub outcome_by : Net → List WaitLine → ℤ → Outcome
+outcome_by net (w ∷ ws) code = Stalled (wait_text net (wait_lines (w ∷ ws)))
+outcome_by net [] (pos zero) = Done
+outcome_by net [] code = Coded code
+
+abbrev pub outcome_of : Net → Reply → Outcome
+outcome_of net answer = outcome_by net answer.waits answer.code
+
+-- what a run of so many steps at most comes to
+pub data RunMeans (net : Net) (steps : ℕ) (outcome : Outcome) (effect : Effect) : Type 0 where
+  -- it ends, and the outcome and the effect are those of its reply
+  finishes : (answer : Reply) → Finishes net steps answer → outcome ≡ outcome_of net answer → effect ≡ effect_of answer → RunMeans net steps outcome effect
+  -- or it has more to do
+  exhausts : Exhausts net steps → outcome ≡ Spent steps → effect ≡ no_effect → RunMeans net steps outcome effect
+
+-- ---- the call
+
+-- the words are a run that is fed too much
+pub record IsTooLarge (words : List (List ℕ)) (before : Before) : Type 0 where
+  pub net : Net
+  pub steps : ℕ
+  pub runs : RunsNet words net steps
+  pub large : input_limit < fed_size before net
+
+-- the words run a net, which comes to this
+pub record HasRun (words : List (List ℕ)) (before : Before) (outcome : Outcome) (effect : Effect) : Type 0 where
+  pub net : Net
+  pub steps : ℕ
+  pub runs : RunsNet words net steps
+  pub fits : fed_size before net ≤ input_limit
+  pub means : RunMeans (net_on before net) steps outcome effect
+
+-- the outcome and the effect that words have, by what there was before
+pub data Means (words : List (List ℕ)) (before : Before) (outcome : Outcome) (effect : Effect) : Type 0 where
+  unrun : IsUnrun words outcome → effect ≡ no_effect → Means words before outcome effect
+  too_large : IsTooLarge words before → outcome ≡ InputTooLarge → effect ≡ no_effect → Means words before outcome effect
+  ran : HasRun words before outcome effect → Means words before outcome effect
+
+-- ---- the straight line
 
 -- what words of a straight line with LOCATEs of these strings mean, in so many steps at most: the lines that hold every string, too few steps or too much input
-abbrev pub IsLineOutcome : List (List ℕ) → List ℕ → ℕ → Outcome → List ℕ → Type 0
-IsLineOutcome strings input steps Done output = output ≡ text (selected strings (lines input))
-IsLineOutcome strings input steps (Spent n) output = (n ≡ steps) × (output ≡ [])
-IsLineOutcome strings input steps InputTooLarge output = (input_limit < length input) × (output ≡ [])
-IsLineOutcome strings input steps _ output = ⊥
+abbrev pub IsLineOutcome : List (List ℕ) → List ℕ → ℕ → Outcome → Effect → Type 0
+IsLineOutcome strings input steps Done effect = effect ≡ output_of (text (selected_by strings (lines input)))
+IsLineOutcome strings input steps (Spent n) effect = (n ≡ steps) × (effect ≡ no_effect)
+IsLineOutcome strings input steps InputTooLarge effect = (input_limit < length input) × (effect ≡ no_effect)
+IsLineOutcome strings input steps _ effect = ⊥

@@ -22,19 +22,6 @@ number_of Usage = 9
 number_of InputTooLarge = 10
 number_of NotYet = 12
 
-abbrev pub status_of : Outcome → Status
-status_of Was.Done = Zero
-status_of (Was.Coded code) = Coded
-status_of (Was.SpecRefused number argument place) = SpecRefused
-status_of Was.Stalled = Stalled
-status_of (Was.Spent steps) = Spent
-status_of Was.ReadFault = ReadFault
-status_of Was.WriteFault = WriteFault
-status_of Was.NoMemory = NoMemory
-status_of Was.Usage = Usage
-status_of Was.InputTooLarge = InputTooLarge
-status_of Was.NotYet = NotYet
-
 -- a line with its line feed
 abbrev pub line : List ℕ → List ℕ
 line bytes = bytes ++ 10 ∷ []
@@ -47,16 +34,29 @@ fault_number number argument = decimal number ++ (if number == Faults.number_of 
 abbrev pub usage : List ℕ
 usage = codes "usage: pipe SPEC [--workers N] [--steps N] [--trace NAME] [--check NAME] | pipe --sample N"
 
--- what is told on standard error
+-- what an outcome tells: the status that is answered, and the text on standard error
+pub record Facts : Type 0 where
+  pub status : Status
+  pub text : List ℕ
+
+abbrev pub facts : Status → List ℕ → Facts
+facts status text = record { status = status; text = text }
+
+abbrev pub facts_of : Outcome → Facts
+facts_of Was.Done = facts Zero []
+facts_of (Was.Coded code) = facts Coded (line (codes "code " ++ signed_decimal code))
+facts_of (Was.SpecRefused number argument place) = facts SpecRefused (line (codes "spec " ++ (fault_number number argument ++ (codes " at " ++ decimal place))))
+facts_of (Was.Stalled lines) = facts Stalled (line (codes "stall") ++ (lines ++ line (codes "code -4095")))
+facts_of (Was.Spent steps) = facts Spent (line (codes "spent " ++ decimal steps))
+facts_of Was.ReadFault = facts ReadFault (line (codes "read fault"))
+facts_of Was.WriteFault = facts WriteFault (line (codes "write fault"))
+facts_of Was.NoMemory = facts NoMemory (line (codes "out of memory"))
+facts_of Was.Usage = facts Usage (line usage)
+facts_of Was.InputTooLarge = facts InputTooLarge (line (codes "input too large"))
+facts_of Was.NotYet = facts NotYet (line (codes "not yet"))
+
+abbrev pub status_of : Outcome → Status
+status_of outcome = (facts_of outcome).status
+
 abbrev pub text_of : Outcome → List ℕ
-text_of Was.Done = []
-text_of (Was.Coded code) = line (codes "code " ++ signed_decimal code)
-text_of (Was.SpecRefused number argument place) = line (codes "spec " ++ (fault_number number argument ++ (codes " at " ++ decimal place)))
-text_of Was.Stalled = line (codes "stall") ++ line (codes "code -4095")
-text_of (Was.Spent steps) = line (codes "spent " ++ decimal steps)
-text_of Was.ReadFault = line (codes "read fault")
-text_of Was.WriteFault = line (codes "write fault")
-text_of Was.NoMemory = line (codes "out of memory")
-text_of Was.Usage = line usage
-text_of Was.InputTooLarge = line (codes "input too large")
-text_of Was.NotYet = line (codes "not yet")
+text_of outcome = (facts_of outcome).text

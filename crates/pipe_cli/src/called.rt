@@ -1,10 +1,10 @@
-ghost use Rattle.std.specs.Prelude.{◌≡◌, ◌≤◌, ℕ, map, MatchResult, IfOk, IfErr, Some};
+ghost use Rattle.std.specs.Prelude.{◌≡◌, ◌≤◌, ℕ, map, MatchResult, IfOk, Some};
 ghost use Rattle.std.specs.String.{string_bytes};
 ghost use Rattle.pipe_model.specs.WellFormed.{IsWellFormed};
 ghost use Rattle.pipe_cli.specs.Built.{AreBuilt};
 ghost use Rattle.pipe_cli.specs.Meaning.{IsNetOf, IsRunOf, RunsNet};
 ghost use Rattle.pipe_cli.specs.Refusals.{IsTextOutcome};
-ghost use Rattle.pipe_cli.specs.Steps.{IsUnrun, StopsWords};
+ghost use Rattle.pipe_cli.specs.Steps.{StopsWords};
 
 use crate::command::{Command, WordsFault};
 use crate::status::Outcome;
@@ -24,7 +24,6 @@ pub(crate) struct Call {
 // The net that words run. An error is that they aren't run, or want of memory.
 pub(crate) fn called(alloc: Global, words: &[String]) -> Result<Call, Outcome>
     ensures called { MatchResult result (λ call. RunsNet (map (λ word. string_bytes word) words.now) call.net call.steps) (λ outcome. StopsWords (map (λ word. string_bytes word) words.now) outcome) }
-    ensures unrun { IfErr result IsUnrun }
     ensures whole { IfOk result (λ call. IsWellFormed call.net) }
     ensures built { IfOk result (λ call. AreBuilt call.net) }
     ensures few { IfOk result (λ call. call.steps ≤ 50000000) }
@@ -37,7 +36,6 @@ pub(crate) fn called(alloc: Global, words: &[String]) -> Result<Call, Outcome>
 // The specification that words run, and the most steps.
 fn spec_of(alloc: Global, words: &[String]) -> Result<(Rec, u64), Outcome>
     ensures run { MatchResult result (λ run. IsRunOf (map (λ word. string_bytes word) words.now) run.0 run.1) (λ outcome. StopsWords (map (λ word. string_bytes word) words.now) outcome) }
-    ensures unrun { IfErr result IsUnrun }
     ensures few { IfOk result (λ run. run.1 ≤ 50000000) }
 {
     match read_words(alloc, words) {
@@ -49,7 +47,9 @@ fn spec_of(alloc: Global, words: &[String]) -> Result<(Rec, u64), Outcome>
                 trace: None,
             },
         ) => Ok((spec, steps)),
-        Ok(_) => Err(Outcome::NotYet),
+        Ok(Command::Run { trace: Some(_), .. }) => Err(Outcome::NotYet),
+        Ok(Command::Check { .. }) => Err(Outcome::NotYet),
+        Ok(Command::Sample { .. }) => Err(Outcome::NotYet),
         Err(WordsFault::Usage) => Err(Outcome::Usage),
         Err(WordsFault::NoMemory) => Err(Outcome::NoMemory),
     }

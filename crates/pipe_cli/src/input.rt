@@ -1,15 +1,16 @@
-ghost use Rattle.std.specs.Prelude.{◌≡◌, ℕ, List, Some, MatchResult, IfOk};
+ghost use Rattle.std.specs.Prelude.{◌≡◌, ℕ, List, MatchResult, IfOk, OnOk};
+ghost use Rattle.outside.specs.Files.{Files};
 ghost use Rattle.pipe_model.specs.WellFormed.{IsWellFormed};
-ghost use Rattle.net_graph.specs.Fed.{fed, reader_of, reads_input};
+ghost use Rattle.net_graph.specs.Fed.{fed, reads_any, reads_input};
 ghost use Rattle.pipe_cli.specs.Built.{AreBuilt};
-ghost use Rattle.pipe_cli.specs.Devices.{device};
+ghost use Rattle.outside.specs.Device.{device};
 ghost use Rattle.pipe_cli.specs.Steps.{IsTaken, IsTakenPart};
 
 use crate::read::read_all;
 use crate::status::Outcome;
 use net_graph::feed;
 use outside::Source;
-use pipe_model::{Net, Rec, Strand, reads_input};
+use pipe_model::{Net, NoMemory, Rec, Strand, reads_input};
 use std::alloc::Global;
 
 // Reads the input to its end, where a CONSOLE of the net reads it, and gives it to that, which will hold it together with
@@ -18,29 +19,34 @@ pub(crate) fn take_input<I: Source>(alloc: Global, net: Net, input: &mut I) -> R
     requires whole { IsWellFormed net }
     requires built { AreBuilt net }
     ensures taken { let old = device (I.left input.old) (I.faults input.old) in let new = device (I.left input.new) (I.faults input.new) in
-        MatchResult result (λ after. (bytes : List ℕ) × IsTaken net old new bytes × (after ≡ fed bytes net)) (λ outcome. IsTakenPart net old new outcome) }
+        MatchResult result (λ after. (bytes : List ℕ) × IsTaken net old new bytes × ((files : Files) → after ≡ fed bytes files net)) (λ outcome. IsTakenPart net old new outcome) }
     ensures whole { IfOk result IsWellFormed }
     ensures built { IfOk result AreBuilt }
 {
-    let Some(strand) = reader(&net) else {
+    if !net.strands.as_slice().iter().any(reads) {
         return Ok(net);
-    };
+    }
     let bytes = read_all(alloc, input)?;
-    let Ok(rec) = Rec::shared(alloc, bytes) else {
-        return Err(Outcome::NoMemory);
-    };
     let mut net = net;
-    feed(&mut net, strand, rec);
-    Ok(net)
+    match feed_input(alloc, &mut net, bytes) {
+        Ok(()) => Ok(net),
+        Err(NoMemory) => Err(Outcome::NoMemory),
+    }
 }
 
-// The strand of the CONSOLE that reads.
-fn reader(net: &Net) -> Option<u32>
-    requires { IsWellFormed net.now }
-    ensures { result ≡ reader_of net.now }
+// Gives the bytes of the input to all that read it, which hold them once among them.
+fn feed_input(alloc: Global, net: &mut Net, bytes: Vec<u8>) -> Result<(), NoMemory>
+    requires whole { IsWellFormed net.old }
+    requires built { AreBuilt net.old }
+    ensures { OnOk result ((files : Files) → net.new ≡ fed bytes.items files net.old) }
 {
-    let strand = net.strands.as_slice().iter().position(reads)?;
-    Some(strand as u32)
+    let input = Rec::shared(alloc, bytes)?;
+    for strand in 0..net.strands.as_slice().len() {
+        if reads(&net.strands.as_slice()[strand]) {
+            feed(net, strand as u32, input.copy(alloc)?);
+        }
+    }
+    Ok(())
 }
 
 // The strand is a CONSOLE that reads.

@@ -11,13 +11,14 @@ mod meaning;
 mod net_run;
 mod read;
 mod status;
+mod text;
 mod values;
 mod words;
 mod write;
 
 pub use command::{Command, WordsFault};
 pub use main_call::pipe_main;
-pub use meaning::{one_meaning, straight_line_means};
+pub use meaning::{one_meaning, straight_line_is_plain, straight_line_means};
 pub use status::{Outcome, Status};
 pub use words::read_words;
 

@@ -1,21 +1,26 @@
 ghost use Rattle.std.specs.Prelude.{map};
 ghost use Rattle.std.specs.String.{string_bytes};
-ghost use Rattle.pipe_cli.specs.Devices.{device, outside};
+ghost use Rattle.outside.specs.Device.{device};
+ghost use Rattle.pipe_cli.specs.Devices.{outside, store};
 ghost use Rattle.pipe_cli.specs.Answer.{Answers, Decides, Reports};
+ghost use Rattle.pipe_cli.specs.Steps.{IsTelling};
 
 use crate::called::called;
 use crate::input::take_input;
 use crate::net_run::{outcome_of, run_net, write_kept};
-use crate::status::{Outcome, Status};
+use crate::status::Status;
+use crate::text::{Told, no_memory, tell, with_text, write_fault};
 use crate::write::write_all;
 use outside::{Gate, Shelf, Sink, Source};
+use pipe_model::NoMemory;
 use std::alloc::Global;
 use std::sync::Wait;
 use std::thread::Threads;
 
 /// Does what the words after the program's name say: reads `input`, writes `output`, and tells a status other than
-/// `Zero` as a text on `diag`. It reads its words first, then the specification, then the input, where a CONSOLE reads it, runs, then writes, and
-/// tells the status last. The gate is entered before the work on each record that a stage saw. The shelf isn't used yet.
+/// `Zero` as a text on `diag`. It reads its words first, then the specification, then the input, where a CONSOLE reads it, runs, makes
+/// the text of the status, then writes, and tells the status last. The gate is entered before the work on each record that a stage saw.
+/// The shelf isn't used yet.
 pub fn pipe_main<Rt: Threads + Wait + Sync, I: Source, O: Sink, E: Sink, F: Shelf, G: Gate + Sync>(
     _rt: &Rt,
     alloc: Global,
@@ -27,51 +32,63 @@ pub fn pipe_main<Rt: Threads + Wait + Sync, I: Source, O: Sink, E: Sink, F: Shel
     gate: &G,
 ) -> Status
     ensures { Answers (map (λ word. string_bytes word) words.now)
-        (outside (device (I.left input.old) (I.faults input.old)) (device (O.written output.old) (O.faults output.old)) (device (E.written diag.old) (E.faults diag.old)) (F.files shelf.old) (F.faults shelf.old))
-        (outside (device (I.left input.new) (I.faults input.new)) (device (O.written output.new) (O.faults output.new)) (device (E.written diag.new) (E.faults diag.new)) (F.files shelf.new) (F.faults shelf.new))
+        (outside (device (I.left input.old) (I.faults input.old)) (device (O.written output.old) (O.faults output.old)) (store (F.files shelf.old) (F.faults shelf.old)))
+        (outside (device (I.left input.new) (I.faults input.new)) (device (O.written output.new) (O.faults output.new)) (store (F.files shelf.new) (F.faults shelf.new)))
+        (device (E.written diag.old) (E.faults diag.old)) (device (E.written diag.new) (E.faults diag.new))
         result }
 {
-    let decided = run(alloc, words, input, output, gate);
-    report(decided, diag)
+    let told = run(alloc, words, input, output, shelf, gate);
+    report(told, diag)
 }
 
 // Does what the words say, apart from telling the outcome.
-fn run<I: Source, O: Sink, G: Gate>(
+fn run<I: Source, O: Sink, F: Shelf, G: Gate>(
     alloc: Global,
     words: &[String],
     input: &mut I,
     output: &mut O,
+    _shelf: &mut F,
     gate: &G,
-) -> Outcome
-    ensures { Decides (map (λ word. string_bytes word) words.now)
-        (device (I.left input.old) (I.faults input.old)) (device (I.left input.new) (I.faults input.new))
-        (device (O.written output.old) (O.faults output.old)) (device (O.written output.new) (O.faults output.new))
-        result }
+) -> Told
+    ensures decides { Decides (map (λ word. string_bytes word) words.now)
+        (outside (device (I.left input.old) (I.faults input.old)) (device (O.written output.old) (O.faults output.old)) (store (F.files _shelf.old) (F.faults _shelf.old)))
+        (outside (device (I.left input.new) (I.faults input.new)) (device (O.written output.new) (O.faults output.new)) (store (F.files _shelf.new) (F.faults _shelf.new)))
+        result.outcome }
+    ensures text { IsTelling result }
 {
     let call = match called(alloc, words) {
         Ok(call) => call,
-        Err(outcome) => return outcome,
+        Err(outcome) => return tell(alloc, outcome),
     };
     let net = match take_input(alloc, call.net, input) {
         Ok(net) => net,
-        Err(outcome) => return outcome,
+        Err(outcome) => return tell(alloc, outcome),
     };
     let core = match run_net(alloc, net, call.steps, gate) {
         Ok(core) => core,
-        Err(outcome) => return outcome,
+        Err(outcome) => return tell(alloc, outcome),
+    };
+    let outcome = match outcome_of(alloc, &core) {
+        Ok(outcome) => outcome,
+        Err(NoMemory) => return no_memory(),
+    };
+    let told = match with_text(alloc, outcome) {
+        Ok(told) => told,
+        Err(NoMemory) => return no_memory(),
     };
     match write_kept(output, &core) {
-        Ok(()) => outcome_of(&core),
-        Err(outcome) => outcome,
+        Ok(()) => told,
+        Err(_) => write_fault(),
     }
 }
 
 // Tells an outcome that has a text. Where that fails, the status is a write fault.
-fn report<E: Sink>(decided: Outcome, diag: &mut E) -> Status
-    ensures { Reports decided result (device (E.written diag.old) (E.faults diag.old)) (device (E.written diag.new) (E.faults diag.new)) }
+fn report<E: Sink>(told: Told, diag: &mut E) -> Status
+    requires { IsTelling told }
+    ensures { Reports told.outcome result (device (E.written diag.old) (E.faults diag.old)) (device (E.written diag.new) (E.faults diag.new)) }
 {
-    match write_all(diag, decided.text().as_bytes()) {
-        Ok(()) => decided.status(),
+    match write_all(diag, told.text.bytes()) {
+        Ok(()) => told.outcome.status(),
         Err(_) => Status::WriteFault,
     }
 }

@@ -1,15 +1,27 @@
 ghost use Rattle.std.specs.Prelude.{◌≡◌, ℕ, List};
+ghost use Rattle.pipe_model.specs.declared.net.Net.{Net};
+ghost use Rattle.pipe_model.specs.Plain.{IsPlain};
+ghost use Rattle.pipe_model.specs.Settled.{IsSettled};
+ghost use Rattle.net_graph.specs.Line.{line_net};
 ghost use Rattle.spec_scanner.specs.Straight.{IsStraight};
 ghost use Rattle.pipe_cli.specs.declared.status.Outcome.{Outcome as OutcomeIs};
-ghost use Rattle.pipe_cli.specs.Meaning.{IsLineOutcome, IsRunOf, Means};
+ghost use Rattle.pipe_cli.specs.Effects.{Before, Effect};
+ghost use Rattle.pipe_cli.specs.Meaning.{IsLineOutcome, IsRunOf, Means, RunsNet, net_on};
 
-/// Words mean one outcome and one output at most on an input.
+/// Words mean one outcome and one effect at most on what there was before, where the net that they run, if they run one,
+/// is settled.
 pub fn one_meaning()
-    ensures { (words : List (List ℕ)) (input : List ℕ) (a b : OutcomeIs) (x y : List ℕ) → Means words input a x → Means words input b y → (a ≡ b) × (x ≡ y) }
+    ensures { (words : List (List ℕ)) (before : Before) → ((net : Net) (steps : ℕ) → RunsNet words net steps → IsSettled (net_on before net)) →
+        (a b : OutcomeIs) (x y : Effect) → Means words before a x → Means words before b y → (a ≡ b) × (x ≡ y) }
 {}
 
 /// The words of a straight line mean the text of the lines that hold every string, or too few steps or too much input, and nothing else.
 pub fn straight_line_means()
-    ensures { (words : List (List ℕ)) (spec : List ℕ) (steps : ℕ) (strings : List (List ℕ)) (input output : List ℕ) (outcome : OutcomeIs) → IsRunOf words spec steps → IsStraight spec strings → Means words input outcome output
-        → IsLineOutcome strings input steps outcome output }
+    ensures { (words : List (List ℕ)) (spec : List ℕ) (steps : ℕ) (strings : List (List ℕ)) (before : Before) (outcome : OutcomeIs) (effect : Effect) → IsRunOf words spec steps → IsStraight spec strings →
+        Means words before outcome effect → IsLineOutcome strings before.input steps outcome effect }
+{}
+
+/// The net of a straight line is plain, so its histories are those of its stages read as functions on streams.
+pub fn straight_line_is_plain()
+    ensures { (bytes : List ℕ) (strings : List (List ℕ)) → IsPlain (line_net bytes strings) }
 {}

@@ -1,11 +1,11 @@
-ghost use Rattle.std.specs.Prelude.{◌≡◌, ◌≤◌, ◌<◌, ℕ, List, Bool, [], length, IfOk, MatchResult};
-ghost use Rattle.pipe_model.specs.Reply.{reply, console_from};
+ghost use Rattle.std.specs.Prelude.{◌≡◌, ◌≤◌, ◌<◌, ℕ, List, Bool, [], ◌∷◌, length, IfOk, MatchOption, MatchResult};
+ghost use Rattle.pipe_model.specs.Reply.{WaitLine, reply, console_from};
 ghost use Rattle.pipe_model.specs.WellFormed.{IsWellFormed};
-ghost use Rattle.core_machine.specs.Machine.{started, state_of};
+ghost use Rattle.core_machine.specs.Machine.{HasStopped, started, state_of};
 ghost use Rattle.pipe_model.specs.Form.{is_shown};
 ghost use Rattle.pipe_cli.specs.Built.{AreBuilt, keeping_of};
-ghost use Rattle.pipe_cli.specs.Devices.{device};
-ghost use Rattle.pipe_cli.specs.Runs.{IsOutcomeOf};
+ghost use Rattle.outside.specs.Device.{device};
+ghost use Rattle.pipe_cli.specs.Meaning.{outcome_of};
 ghost use Rattle.pipe_cli.specs.Steps.{HasCompleted, StopsRunning, IsWritten, IsPartWritten};
 
 use crate::status::Outcome;
@@ -14,6 +14,7 @@ use core_machine::{Core, RunEnd};
 use outside::{Gate, Sink};
 use pipe_model::{Net, NoMemory, is_shown, worst};
 use stage_table::{BuiltIn, make_all};
+use stall_report::{report, text};
 use std::alloc::Global;
 
 // The core of a net, after it ran to its end. An error is that its journal was full before, or want of memory.
@@ -50,24 +51,35 @@ fn start_net(alloc: Global, net: Net, steps: u64) -> Result<Core<BuiltIn>, NoMem
 }
 
 // How a run that is complete ended.
-pub(crate) fn outcome_of(core: &Core<BuiltIn>) -> Outcome
+pub(crate) fn outcome_of(alloc: Global, core: &Core<BuiltIn>) -> Result<Outcome, NoMemory>
     requires few { length core.now.net.strands ≤ 65536 }
-    ensures { IsOutcomeOf (reply core.now.net (state_of core.now)) result }
+    requires stopped { HasStopped core.now }
+    ensures { IfOk result (λ outcome. outcome ≡ outcome_of core.now.net (reply core.now.net (state_of core.now))) }
+{
+    match worst_code(core) {
+        Some(0) => Ok(Outcome::Done),
+        Some(code) => Ok(Outcome::Coded(code)),
+        None => {
+            let waits = report(alloc, core)?;
+            Ok(Outcome::Stalled(text(alloc, core.net(), &waits)?))
+        }
+    }
+}
+
+// The worst code of the strands, once all have ended.
+fn worst_code(core: &Core<BuiltIn>) -> Option<i32>
+    requires few { length core.now.net.strands ≤ 65536 }
+    ensures { MatchOption result
+        ((first : WaitLine) × (rest : List WaitLine) × ((reply core.now.net (state_of core.now)).waits ≡ first ∷ rest))
+        (λ code. ((reply core.now.net (state_of core.now)).waits ≡ []) × ((reply core.now.net (state_of core.now)).code ≡ code)) }
 {
     let mut code = 0;
     let mut strand = core.net().strands.as_slice().len() as u32;
     while strand > 0 {
         strand -= 1;
-        let Some(end) = core.end_of(strand) else {
-            return Outcome::Stalled;
-        };
-        code = worst(end, code);
+        code = worst(core.end_of(strand)?, code);
     }
-    if code == 0 {
-        Outcome::Done
-    } else {
-        Outcome::Coded(code)
-    }
+    Some(code)
 }
 
 // Writes what the writing CONSOLE kept. The only error is a write fault.

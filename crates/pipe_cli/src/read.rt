@@ -1,5 +1,5 @@
 ghost use Rattle.std.specs.Prelude.{◌≡◌, IfOk, MatchResult, vec_len};
-ghost use Rattle.pipe_cli.specs.Devices.{device};
+ghost use Rattle.outside.specs.Device.{device};
 ghost use Rattle.pipe_cli.specs.Steps.{IsWhole, IsPart};
 
 use crate::status::Outcome;

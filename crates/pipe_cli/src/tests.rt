@@ -1,11 +1,12 @@
 ghost use Rattle.std.specs.Prelude.{◌≤◌};
 
-use crate::pipe_main;
-use outside::{MemShelf, MemSink, MemSource, OpenGate};
+use crate::{Command, Outcome, Status, WordsFault, pipe_main};
+use outside::{Gate, MemShelf, MemSink, MemSource, OpenGate};
 use pipe_model::Rec;
 use std::alloc::Global;
 use std::process::Abort;
 use std::sync::Wait;
+use std::sync::atomic::{AtomicU64, Ordering};
 use std::test::Fail;
 use std::thread::Threads;
 
@@ -49,11 +50,12 @@ fn strings(alloc: Global, words: &[&str]) -> Result<Vec<String>, Fail> {
 }
 
 // The call's status, as a number.
-fn call<R: Threads + Wait + Sync>(
+fn call<R: Threads + Wait + Sync, G: Gate + Sync>(
     rt: &R,
     alloc: Global,
     words: &[String],
     streams: &mut Streams,
+    gate: &G,
 ) -> u8 {
     let mut shelf = MemShelf::new(alloc, Vec::new(alloc));
     pipe_main(
@@ -64,7 +66,7 @@ fn call<R: Threads + Wait + Sync>(
         &mut streams.output,
         &mut streams.diag,
         &mut shelf,
-        &OpenGate,
+        gate,
     )
     .number()
 }
@@ -80,7 +82,7 @@ fn expect<R: Threads + Wait + Sync + Abort>(
     diag: &[u8],
 ) -> Result<(), Fail> {
     let words = strings(alloc, words)?;
-    assert_eq!(rt; call(rt, alloc, &words, &mut streams), status);
+    assert_eq!(rt; call(rt, alloc, &words, &mut streams, &OpenGate), status);
     assert_eq!(rt; streams.output.written(), output);
     assert_eq!(rt; streams.diag.written(), diag);
     Ok(())
@@ -166,4 +168,57 @@ fn too_much_input_is_refused(rt: HostRuntime) -> Result<(), Fail> {
     let bytes: Vec<u8> = vec![in alloc; b'x'; 67_108_865]?;
     let streams = in_memory(alloc, &bytes, 1_000_000, &[], &[], 64)?;
     expect(&rt, alloc, &[LINE], streams, 10, b"", b"input too large\n")
+}
+
+// Calls for this type show that its values can be moved to another thread.
+fn is_send<T: Send>() {}
+
+#[test]
+fn a_value_can_go_to_another_thread() {
+    is_send::<Command>();
+    is_send::<WordsFault>();
+    is_send::<Outcome>();
+    is_send::<Status>();
+}
+
+// A gate that counts how often each of the first three strands entered it, and how often any other did.
+#[derive(Drop)]
+struct Entries {
+    counts: [AtomicU64; 4],
+}
+
+impl Gate for Entries {
+    fn enter(&self, strand: u32) {
+        let place = strand.min(3) as usize;
+        self.counts[place].fetch_add(1, Ordering::SeqCst);
+    }
+}
+
+fn none_entered() -> Entries {
+    Entries {
+        counts: [
+            AtomicU64::new(0),
+            AtomicU64::new(0),
+            AtomicU64::new(0),
+            AtomicU64::new(0),
+        ],
+    }
+}
+
+// LOCATE sees three records, the CONSOLE behind it two, and the reading CONSOLE none.
+#[test]
+fn the_gate_is_entered_once_for_each_record_seen(rt: HostRuntime) -> Result<(), Fail> {
+    let alloc = rt.alloc();
+    let entries = none_entered();
+    let words = strings(alloc, &[LINE])?;
+    let mut streams = in_memory(alloc, TEXT, 2, &[], &[], 64)?;
+    assert_eq!(rt; call(&rt, alloc, &words, &mut streams, &entries), 0);
+    for (strand, count) in [(0, 0), (1, 3), (2, 2), (3, 0)] {
+        assert_eq!(rt;
+            entries.counts[strand].load(Ordering::SeqCst),
+            count,
+            "at {strand}"
+        );
+    }
+    Ok(())
 }

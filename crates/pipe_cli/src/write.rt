@@ -1,5 +1,5 @@
 ghost use Rattle.std.specs.Prelude.{MatchResult};
-ghost use Rattle.pipe_cli.specs.Devices.{device};
+ghost use Rattle.outside.specs.Device.{device};
 ghost use Rattle.pipe_cli.specs.Steps.{IsWritten, IsPartWritten};
 
 use crate::status::Outcome;

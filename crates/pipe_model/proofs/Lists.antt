@@ -1,7 +1,10 @@
 -- Plain facts of lists: what stands at a place, what passes a test, and what is written.
-use Rattle.std.proofs.Common.{◌≡◌, ◌≢◌, ℕ, zero, suc, ◌<◌, Bool, true, false, cond, ◌&&◌, List, [], ◌∷◌, ◌++◌, length, get_or, replicate, refl, sym, ◌∙◌, ap, subst, arith, Some, slice_get, slice_set, inl, inr}
+use Rattle.std.proofs.Common.{◌≡◌, ◌≢◌, ℕ, zero, suc, ◌<◌, ◌≤◌, eqb, Bool, true, false, cond, ◌&&◌, ◌||◌, List, [], ◌∷◌, ◌++◌, length, map, get_or, replicate, refl, sym, ◌∙◌, ap, subst, arith, Some, slice_get, slice_set, inl, inr}
 use Rattle.std.specs.Prelude.{find}
-use Rattle.std.specs.List.{list_all}
+use Rattle.std.specs.List.{list_all, list_any, AllByRecursion, IsDistinct}
+use Rattle.std.proofs.lemmas.Bool.{eqb-true, ne_eqb}
+use Rattle.std.proofs.lemmas.List.{length-map}
+use Rattle.std.proofs.lemmas.Map.Steps.{length-le_from_distinct_below}
 use Rattle.pipe_model.specs.Members.{flag_at}
 use Rattle.pipe_model.specs.State.{below}
 use Rattle.pipe_model.proofs.Truths.{both}
@@ -116,3 +119,30 @@ in_below p zero u all lt = absurd (omega arith)
 in_below p (suc n) u all lt =
     let r = both (p n) (list_all p (below n)) all in
     elim (equal_or_not u n) [ inl it ↦ ap p it ∙ r.0 | inr other ↦ in_below p n u r.1 (omega arith) ]
+
+-- How many there are
+
+module _ {A : Type 0} (key : A → ℕ) where
+  none_alike : (x : ℕ) (xs : List A) → ((j : ℕ) (y : A) → slice_get xs j ≡ Some y → x ≢ key y) → AllByRecursion (λ y. eqb x y ≡ false) (map key xs)
+  none_alike x [] apart = tt
+  none_alike x (y ∷ ys) apart = (ne_eqb x (key y) (apart 0 y refl), none_alike x ys (λ j z at. apart (suc j) z at))
+
+  keys_distinct : (xs : List A) → ((j k : ℕ) (x y : A) → slice_get xs j ≡ Some x → slice_get xs k ≡ Some y → key x ≡ key y → j ≡ k) → IsDistinct eqb (map key xs)
+  unfolding IsDistinct
+  keys_distinct [] one = tt
+  keys_distinct (x ∷ xs) one = (
+    none_alike (key x) xs (λ j y at same. (let e : 0 ≡ suc j = one 0 (suc j) x y refl at same in absurd (omega (arith, e)))),
+    keys_distinct xs (λ j k y z at_y at_z same. (let e : suc j ≡ suc k = one (suc j) (suc k) y z at_y at_z same in omega (arith, e))),
+  )
+
+  keys_below : (n : ℕ) (xs : List A) → ((j : ℕ) (x : A) → slice_get xs j ≡ Some x → key x < n) → (q : ℕ) → list_any (eqb q) (map key xs) ≡ true → q < n
+  keys_below n [] below q there = cc
+  keys_below n (x ∷ xs) below q there = by (eqb q (key x)) refl there (keys_below n xs (λ j y at. below (suc j) y at) q)
+    where
+      by : (b : Bool) → eqb q (key x) ≡ b → (b || list_any (eqb q) (map key xs)) ≡ true → (list_any (eqb q) (map key xs) ≡ true → q < n) → q < n
+      by true is there others = let same = eqb-true q (key x) is in omega (arith, same, below 0 x refl)
+      by false is there others = others there
+
+  -- a list is no longer than a number below which its things have keys, no two of them alike
+  pub few_by_keys : (n : ℕ) (xs : List A) → ((j k : ℕ) (x y : A) → slice_get xs j ≡ Some x → slice_get xs k ≡ Some y → key x ≡ key y → j ≡ k) → ((j : ℕ) (x : A) → slice_get xs j ≡ Some x → key x < n) → length xs ≤ n
+  few_by_keys n xs one below = omega (arith, length-map xs key, length-le_from_distinct_below (map key xs) n (keys_distinct xs one) (keys_below n xs below))

@@ -4,6 +4,61 @@ ghost use Rattle.pipe_model.specs.Table.{is_input, line_of, outputs_by};
 
 use crate::kind::Kind;
 
+/// The name of a stage of this kind, in lower case.
+pub fn name_of(kind: &Kind) -> &'static str
+    ensures { result.now ≡ (line_of kind.now).name }
+{
+    match kind {
+        Kind::ConsoleIn { .. } | Kind::ConsoleOut => "console",
+        Kind::FileIn { .. } => "<",
+        Kind::FileOut { .. } => ">",
+        Kind::Literal { .. } => "literal",
+        Kind::Hole => "hole",
+        Kind::Locate { .. } => "locate",
+        Kind::Nlocate { .. } => "nlocate",
+        Kind::Find { .. } => "find",
+        Kind::Nfind { .. } => "nfind",
+        Kind::TakeFirst(_) | Kind::TakeLast(_) => "take",
+        Kind::DropFirst(_) | Kind::DropLast(_) => "drop",
+        Kind::Between { .. } => "between",
+        Kind::Inside { .. } => "inside",
+        Kind::ToLabel { .. } => "tolabel",
+        Kind::FrLabel { .. } => "frlabel",
+        Kind::Change { .. } => "change",
+        Kind::Strip { .. } => "strip",
+        Kind::Chop(_) => "chop",
+        Kind::Pad { .. } => "pad",
+        Kind::Split { .. } => "split",
+        Kind::Join { .. } => "join",
+        Kind::Xlate(_) => "xlate",
+        Kind::Reverse => "reverse",
+        Kind::Duplicate(_) => "duplicate",
+        Kind::Unique { .. } => "unique",
+        Kind::Sort(_) => "sort",
+        Kind::Count(_) => "count",
+        Kind::Lookup { .. } => "lookup",
+        Kind::Collate { .. } => "collate",
+        Kind::Merge(_) => "merge",
+        Kind::FanOut => "fanout",
+        Kind::FanIn => "fanin",
+        Kind::FanInAny => "faninany",
+        Kind::Deal => "deal",
+        Kind::Gather => "gather",
+        Kind::Overlay(_) => "overlay",
+        Kind::Synchronise => "synchronise",
+        Kind::Juxtapose => "juxtapose",
+        Kind::Gate => "gate",
+        Kind::Dam => "dam",
+        Kind::Elastic => "elastic",
+        Kind::Buffer => "buffer",
+        Kind::Copy => "copy",
+        Kind::Fblock { .. } => "fblock",
+        Kind::Block { .. } => "block",
+        Kind::Deblock(_) => "deblock",
+        Kind::Specs { .. } => "specs",
+    }
+}
+
 /// The greatest number of inputs of a stage of this kind.
 pub fn most_inputs(kind: &Kind) -> u16
     ensures { result ≡ inputs_by (line_of kind.now).shape }

@@ -1,7 +1,7 @@
 -- How much of a pool is in use.
 use Rattle.std.specs.Prelude.{ℕ, ◌+◌, ◌/◌, List, Option, Some, None, length, max}
 use Rattle.std.specs.List.{sum_by}
-use Rattle.record_pool.specs.declared.pool.Held.{Held}
+use Rattle.record_pool.specs.PoolState.{Held, PoolState}
 
 -- the blocks of 256 bytes of a record of so many bytes, at least one
 abbrev pub blocks_of : ℕ → ℕ
@@ -12,6 +12,10 @@ abbrev pub blocks_at : Option Held → ℕ
 blocks_at None = 0
 blocks_at (Some held) = blocks_of (length held.bytes)
 
--- the blocks of all records
-abbrev pub blocks_in : List (Option Held) → ℕ
-blocks_in places = sum_by blocks_at places
+-- the blocks of all places
+abbrev pub blocks_of_all : List (Option Held) → ℕ
+blocks_of_all places = sum_by blocks_at places
+
+-- the blocks of all records of the pool
+abbrev pub blocks_in : PoolState → ℕ
+blocks_in pool = blocks_of_all pool.records

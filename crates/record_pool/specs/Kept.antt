@@ -1,6 +1,6 @@
 -- How a pool knows its empty places.
 use Rattle.std.specs.Prelude.{◌≡◌, ℕ, ◌+◌, ◌≤◌, ◌==◌, zero, suc, List, [], ◌∷◌, Option, Some, None, is_some, length, count_by}
-use Rattle.record_pool.specs.declared.pool.Held.{Held}
+use Rattle.record_pool.specs.PoolState.{Held}
 
 -- 1 for an empty place
 abbrev pub vacancy : Option Held → ℕ

@@ -1,3 +1,4 @@
+pub mod PoolState
 pub mod Places
 pub mod Blocks
 pub mod Kept

@@ -1,5 +1,6 @@
 ghost use Rattle.std.specs.Prelude.{◌≡◌, ◌+◌, ◌<◌, ◌≤◌, [], Some, None, IsSome, IfOk, OnErr, length, vec_capacity};
-ghost use Rattle.record_pool.specs.Places.{record_at, IsHeld, holders_of, holders_at, bytes_at, with_record, shared, given, one_more, one_less, fresh, OthersStay};
+ghost use Rattle.record_pool.specs.PoolState.{empty_pool};
+ghost use Rattle.record_pool.specs.Places.{place_at, record_at, IsHeld, holders_of, holders_at, bytes_at, with_place, with_record, shared, given, one_more, one_less, fresh, OthersStay};
 ghost use Rattle.record_pool.specs.Blocks.{blocks_of, blocks_at, blocks_in};
 ghost use Rattle.record_pool.specs.Kept.{IsKept};
 
@@ -22,12 +23,11 @@ impl Model for Grip {
     ghost view = { λ grip. grip.place };
 }
 
-/// Records with their holders, seen as a list of places, each empty or a record. A place that was left empty is used
-/// again.
-#[derive(Drop)]
+/// Records with their holders. A place that was left empty is used again. A pool isn't let go but closed, when no
+/// record is left.
 pub struct Pool {
     alloc: Global,
-    places: Vec<Option<Held>>,
+    places: Vec<Option<Stored>>,
     // The empty places, with room for all of them, so that `give` takes no memory.
     free: Vec<usize>,
     blocks: u64,
@@ -35,29 +35,36 @@ pub struct Pool {
 
 // A record and the number of grips on it.
 #[derive(Drop)]
-struct Held {
+struct Stored {
     bytes: Rec,
     holders: u32,
 }
 
+impl Model for Stored {
+    ghost use Rattle.record_pool.specs.PoolState.{Held};
+
+    ghost Value = { Held };
+
+    ghost view = { λ stored. record { bytes = stored.bytes; holders = stored.holders } };
+}
+
 impl Model for Pool {
-    ghost use Rattle.std.specs.Prelude.{◌≡◌, List, Option, vec_capacity};
-    ghost use Rattle.record_pool.specs.declared.pool.Held.{Held};
-
-    ghost Value = { List (Option Held) };
-
-    ghost use Rattle.record_pool.specs.Blocks.{blocks_in};
+    ghost use Rattle.std.specs.Prelude.{◌≡◌, vec_capacity};
+    ghost use Rattle.record_pool.specs.PoolState.{PoolState};
+    ghost use Rattle.record_pool.specs.Blocks.{blocks_of_all};
     ghost use Rattle.record_pool.specs.Kept.{IsKept};
 
-    ghost view = { λ pool. pool.places.items };
+    ghost Value = { PoolState };
 
-    ghost invariant = { λ pool. IsKept pool.places.items pool.free.items (vec_capacity pool.free) × (pool.blocks ≡ blocks_in pool.places.items) };
+    ghost view = { λ pool. record { records = pool.places.items } };
+
+    ghost invariant = { λ pool. IsKept pool.places.items pool.free.items (vec_capacity pool.free) × (pool.blocks ≡ blocks_of_all pool.places.items) };
 }
 
 impl Pool {
     /// A pool with no record.
     pub fn new(alloc: Global) -> Pool
-        ensures { result ≡ [] }
+        ensures { result ≡ empty_pool }
     {
         Pool {
             alloc,
@@ -94,7 +101,11 @@ impl Pool {
         let Some(blocks) = self.blocks.checked_add(count_blocks(bytes.bytes().len())) else {
             return Err(NoMemory);
         };
-        let place = fill(&mut self.places, &mut self.free, Held { bytes, holders: 1 })?;
+        let place = fill(
+            &mut self.places,
+            &mut self.free,
+            Stored { bytes, holders: 1 },
+        )?;
         self.blocks = blocks;
         Ok(Grip { place })
     }
@@ -164,6 +175,18 @@ impl Pool {
     {
         self.blocks
     }
+
+    /// Ends a pool in which no record is left.
+    pub fn close(self)
+        requires { blocks_in self ≡ 0 }
+    {
+        let Pool {
+            alloc: _,
+            places: _,
+            free: _,
+            blocks: _,
+        } = self;
+    }
 }
 
 // The blocks that a record of this length holds.
@@ -175,14 +198,14 @@ fn count_blocks(len: usize) -> u64
 
 // Puts the record at an empty place, or at a new one where none is empty.
 fn fill(
-    places: &mut Vec<Option<Held>>,
+    places: &mut Vec<Option<Stored>>,
     free: &mut Vec<usize>,
-    held: Held,
+    held: Stored,
 ) -> Result<usize, NoMemory>
     requires { IsKept places.old.items free.old.items (vec_capacity free.old) }
     ensures kept { IsKept places.new.items free.new.items (vec_capacity free.new) }
-    ensures vacant { IfOk result (λ place. record_at places.old.items place ≡ None) }
-    ensures put { IfOk result (λ place. places.new.items ≡ with_record places.old.items place (Some held)) }
+    ensures vacant { IfOk result (λ place. place_at places.old.items place ≡ None) }
+    ensures put { IfOk result (λ place. places.new.items ≡ with_place places.old.items place (Some held)) }
     ensures err { OnErr result (places.new.items ≡ places.old.items) }
 {
     if let Some(place) = free.pop() {
@@ -196,7 +219,7 @@ fn fill(
 }
 
 // Counts one holder more.
-fn add_holder(place: &mut Option<Held>)
+fn add_holder(place: &mut Option<Stored>)
     requires held { IsSome place.old }
     requires holders { holders_of place.old < 4294967295 }
     ensures { place.new ≡ one_more place.old }
@@ -207,7 +230,7 @@ fn add_holder(place: &mut Option<Held>)
 }
 
 // Counts one holder less, and empties the place where it was the last. Answers how many blocks that freed.
-fn let_go(place: &mut Option<Held>) -> u64
+fn let_go(place: &mut Option<Stored>) -> u64
     ensures after { place.new ≡ one_less place.old }
     ensures freed { result + blocks_at place.new ≡ blocks_at place.old }
 {

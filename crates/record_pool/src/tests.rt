@@ -1,8 +1,20 @@
-use crate::Pool;
-use pipe_model::Rec;
+use crate::{Grip, Pool};
+use pipe_model::{NoMemory, Rec};
+use std::alloc::Global;
 use std::test::Fail;
 
 // The blocks in use after a record was put, shared, given once and given again.
+fn blocks_used(pool: &mut Pool, bytes: &[u8]) -> Result<[u64; 4], NoMemory> {
+    let grip = pool.put(bytes)?;
+    let put = pool.in_use();
+    let second = pool.share(&grip);
+    let shared = pool.in_use();
+    pool.give(grip);
+    let given = pool.in_use();
+    pool.give(second);
+    Ok([put, shared, given, pool.in_use()])
+}
+
 #[test]
 fn counts_holders_and_blocks(rt: HostRuntime) -> Result<(), Fail> {
     for (len, blocks) in [
@@ -16,38 +28,67 @@ fn counts_holders_and_blocks(rt: HostRuntime) -> Result<(), Fail> {
     ] {
         let bytes = vec![in rt.alloc(); 7; len]?;
         let mut pool = Pool::new(rt.alloc());
-        let grip = pool.put(&bytes)?;
-        let put = pool.in_use();
-        let second = pool.share(&grip);
-        let shared = pool.in_use();
-        pool.give(grip);
-        let given = pool.in_use();
-        pool.give(second);
-        assert_eq!(rt; [put, shared, given, pool.in_use()], blocks, "at {len}");
+        let used = blocks_used(&mut pool, &bytes);
+        assert_eq!(rt; pool.in_use(), 0);
+        pool.close();
+        assert_eq!(rt; used?, blocks, "at {len}");
     }
     Ok(())
+}
+
+// Whether a record that is copied and one that is moved are read as they were put, and whether the latter was left
+// empty.
+fn are_apart(
+    alloc: Global,
+    pool: &mut Pool,
+    first: &[u8],
+    second: &[u8],
+) -> Result<[bool; 5], NoMemory> {
+    let mut room = Vec::with_capacity(alloc, second.len())?;
+    let mut moved = Rec::from_slice(alloc, second)?;
+    let grip = pool.put(first)?;
+    let Ok(other) = pool.take_in(&mut moved) else {
+        pool.give(grip);
+        return Err(NoMemory);
+    };
+    let is_put = pool.bytes_of(&grip) == first;
+    let is_long = pool.len_of(&other) == second.len();
+    pool.copy_out(&other, &mut room);
+    let is_copied = room.as_slice() == second;
+    pool.give(grip);
+    let is_moved = pool.bytes_of(&other) == second;
+    pool.give(other);
+    Ok([
+        is_put,
+        is_long,
+        is_copied,
+        is_moved,
+        moved.bytes().is_empty(),
+    ])
 }
 
 // A record that is copied and one that is moved lie apart, and a place that was left is used again.
 #[test]
 fn keeps_the_bytes_of_each(rt: HostRuntime) -> Result<(), Fail> {
     let mut pool = Pool::new(rt.alloc());
-    for (first, second) in [("one", "two"), ("", "other"), ("again", "")] {
-        let mut room = Vec::with_capacity(rt.alloc(), second.len())?;
-        let mut moved = Rec::from_slice(rt.alloc(), second.as_bytes())?;
-        let grip = pool.put(first.as_bytes())?;
-        let Ok(other) = pool.take_in(&mut moved) else {
-            pool.give(grip);
-            return Err("no memory")?;
-        };
-        assert_eq!(rt; pool.bytes_of(&grip), first.as_bytes());
-        assert_eq!(rt; pool.len_of(&other), second.len());
-        pool.copy_out(&other, &mut room);
-        assert_eq!(rt; room.as_slice(), second.as_bytes());
-        pool.give(grip);
-        assert_eq!(rt; pool.bytes_of(&other), second.as_bytes());
-        pool.give(other);
-        assert!(rt; moved.bytes().is_empty());
+    let told = [
+        are_apart(rt.alloc(), &mut pool, b"one", b"two"),
+        are_apart(rt.alloc(), &mut pool, b"", b"other"),
+        are_apart(rt.alloc(), &mut pool, b"again", b""),
+    ];
+    assert_eq!(rt; pool.in_use(), 0);
+    pool.close();
+    for each in told {
+        assert_eq!(rt; each?, [true; 5]);
     }
+    Ok(())
+}
+
+fn is_send<T: Send>() {}
+
+#[test]
+fn types_are_sent_between_threads(_rt: HostRuntime) -> Result<(), Fail> {
+    is_send::<Grip>();
+    is_send::<Pool>();
     Ok(())
 }

@@ -1,5 +1,5 @@
 -- What a run keeps suffices for a strand to come home with what it wants.
-use Rattle.std.proofs.Common.{◌≡◌, inl, inr, ℕ, ◌<◌, true, false, cond, not, List, length, refl, sym, ◌∙◌, ap, arith, Option, Some, None, is_some, slice_get, ℤ}
+use Rattle.std.proofs.Common.{◌≡◌, inl, inr, ℕ, ◌<◌, true, false, cond, not, List, length, refl, sym, ◌∙◌, ap, subst, arith, Option, Some, None, is_some, slice_get, ℤ}
 use Rattle.std.specs.Prelude.{IsSome}
 use Rattle.std.specs.Option.{option_map}
 use Rattle.std.proofs.lemmas.Option.{slice_get_within}
@@ -23,21 +23,23 @@ use Rattle.pipe_model.specs.Licence.{Left, want_after, want_at, offered}
 use Rattle.pipe_model.specs.WellFormed.{IsWellFormed}
 use Rattle.pipe_model.proofs.Truths.{both}
 use Rattle.pipe_model.proofs.Lists.{at_some}
-use Rattle.stage_steps.specs.Coroutine.{last_seen, written, meaning}
-use Rattle.record_pool.specs.declared.pool.Held.{Held}
+use Rattle.stage_steps.specs.Coroutine.{last_seen, written, meaning, IsSeenBefore}
+use Rattle.record_pool.specs.PoolState.{PoolState}
 use Rattle.record_pool.specs.Places.{bytes_at}
+use Rattle.connectors.specs.WireState.{IsHeldIn}
 use Rattle.confluence_laws.proofs.Basics.{from_out}
 use Rattle.confluence_laws.proofs.Facts.{asking}
 use Rattle.confluence_laws.proofs.Fitting.{past_of, wants_write, stands_for}
 use Rattle.run_desk.specs.declared.seat.Ask.TheVariants as Now
 use Rattle.run_desk.specs.Desk.{DeskState}
-use Rattle.run_desk.specs.Pure.{in_door, out_door, through, wire_out}
+use Rattle.run_desk.specs.Pure.{out_door, sight_door, through, wire_out}
 use Rattle.run_desk.specs.Kept.{link_through}
 use Rattle.run_desk.specs.Order.{IsRun}
 use Rattle.run_desk.specs.Moves.{Behind, CanAsk, CanHold, CanCome}
 use Rattle.run_desk.proofs.Begins.{not_reached}
 use Rattle.run_desk.proofs.Conditions.{sight_held, few_held, within, live, not_asked_at, out_linked}
 use Rattle.run_desk.proofs.Early.{early_level}
+use Rattle.run_desk.proofs.Offers.{sight_there}
 
 -- nothing is offered where no text is
 no_offer : (texts : ℕ → List ℕ) (x : Option ℕ) → option_map texts x ≡ None → x ≡ None
@@ -57,11 +59,11 @@ asks_no_write s Gates k o rec asked = let z = asked.want_is in cc
 asks_no_write s Dams k o rec asked = elim asked.want_is [ inl is ↦ cc | inr is ↦ (let z = is.0 in cc) ]
 asks_no_write s Queues k o rec asked = let z = asked.want_is in cc
 
-module _ (net : Net) (st : State) (left : Left) (d : DeskState) (places : List (Option Held)) (formed : IsWellFormed net) (run : IsRun net st left d places) (s : Who) (strand : Strand) (there : strand_at net st s ≡ Some strand) (own : IsOwn strand (past st s)) (out : left s ≡ true) (going : has_ended (past st s) ≡ false) where
+module _ (net : Net) (st : State) (left : Left) (d : DeskState) (pool : PoolState) (formed : IsWellFormed net) (run : IsRun net st left d pool) (s : Who) (strand : Strand) (there : strand_at net st s ≡ Some strand) (own : IsOwn strand (past st s)) (out : left s ≡ true) (going : has_ended (past st s) ≡ false) where
   come_to : (level : ℤ) → next strand (past st s) ≡ Some (Commit level) → CanAsk d s (Now.Commit level)
   come_to level wants =
       let is = early_level level (stands_for strand (past st s) own (Commit level) wants).2 in
-      (within net st left d places formed run s strand there, live net st left d places formed run s going, is, not_asked_at net st left d places formed run s level is out (not_reached strand (past st s) own level wants))
+      (within net st left d pool formed run s strand there, live net st left d pool formed run s going, is, not_asked_at net st left d pool formed run s level is out (not_reached strand (past st s) own level wants))
 
   -- whoever writes has a link there
   writes_link : (o : ℕ) (rec : List ℕ) → next strand (past st s) ≡ Some (Write o rec) → is_some (link_out net st s o) ≡ true
@@ -88,30 +90,32 @@ module _ (net : Net) (st : State) (left : Left) (d : DeskState) (places : List (
     where
       free : Behind (λ wire. wire.offer ≡ None) d.wires (out_door d s o)
       free wire at =
-          let l = out_linked net st left d places formed run s o wire at in
+          let l = out_linked net st left d pool formed run s o wire at in
           let is = from_out net formed st s o l.link l.found in
-          no_offer (bytes_at places) wire.offer
+          no_offer (bytes_at pool) wire.offer
           (l.is.offer ∙ ap (λ z. offered l.link.output (want_at net st left z)) is.0 ∙ ap (λ b. offered l.link.output (cond b None (want_after (strand_at net st s) (past st s)))) out)
 
       goes_on : Behind (λ wire. wire.out_closed ≡ false) d.wires (out_door d s o)
       goes_on wire at =
-          let l = out_linked net st left d places formed run s o wire at in
+          let l = out_linked net st left d pool formed run s o wire at in
           let is = from_out net formed st s o l.link l.found in
           l.is.out_closed ∙ ap (λ z. has_ended (past st z)) is.0 ∙ going
 
   -- and what it writes can be held
-  can_hold : length net.links < 2147483648 → (o : Out) → CanHold d places s o
-  can_hold few (Same i) = (sight_held net st left d places formed run (in_door d s i), λ grip seen. few_held net st left d places formed run few grip)
-  can_hold few (Fresh bytes) = tt
+  can_hold : length net.links < 2147483648 → (o : ℕ) (rec : Out) → IsSeenBefore (want.Write o rec) (past st s) → CanHold d pool s rec
+  can_hold few o (Same i) seen =
+      let there = sight_there net (bytes_at pool) st left d run.kept s going i seen in
+      (there.0, there.1, subst (IsHeldIn pool) there.1 (sight_held net st left d pool formed run (sight_door d s i)), few_held net st left d pool formed run few there.0)
+  can_hold few o (Fresh bytes) seen = tt
 
 -- whoever was out can come home with what it wants
-pub can_come : (net : Net) (st : State) (left : Left) (d : DeskState) (places : List (Option Held)) (s : Who) (strand : Strand) (w : Asking) → IsWellFormed net →
-    ((t : Who) (q : Strand) → strand_at net st t ≡ Some q → IsOwn q (past st t)) → length net.links < 2147483648 → IsRun net st left d places → left s ≡ true → strand_at net st s ≡ Some strand →
-    has_ended (past st s) ≡ false → Some (meaning w (last_seen (past st s))) ≡ next strand (past st s) → CanCome d places s w
-can_come net st left d places s strand (want.Commit level) formed own few run out there going wants =
-    come_to net st left d places formed run s strand there (own s strand there) out going level (sym wants)
-can_come net st left d places s strand (want.Write o rec) formed own few run out there going wants = (
-  come_writing net st left d places formed run s strand there (own s strand there) out going o (written rec (last_seen (past st s))) (sym wants),
-  can_hold net st left d places formed run s strand there (own s strand there) out going few rec,
+pub can_come : (net : Net) (st : State) (left : Left) (d : DeskState) (pool : PoolState) (s : Who) (strand : Strand) (w : Asking) → IsWellFormed net →
+    ((t : Who) (q : Strand) → strand_at net st t ≡ Some q → IsOwn q (past st t)) → length net.links < 2147483648 → IsRun net st left d pool → left s ≡ true → strand_at net st s ≡ Some strand →
+    has_ended (past st s) ≡ false → Some (meaning w (last_seen (past st s))) ≡ next strand (past st s) → IsSeenBefore w (past st s) → CanCome d pool s w
+can_come net st left d pool s strand (want.Commit level) formed own few run out there going wants seen =
+    come_to net st left d pool formed run s strand there (own s strand there) out going level (sym wants)
+can_come net st left d pool s strand (want.Write o rec) formed own few run out there going wants seen = (
+  come_writing net st left d pool formed run s strand there (own s strand there) out going o (written rec (last_seen (past st s))) (sym wants),
+  can_hold net st left d pool formed run s strand there (own s strand there) out going few o rec seen,
 )
-can_come net st left d places s strand _ formed own few run out there going wants = tt
+can_come net st left d pool s strand _ formed own few run out there going wants seen = tt

@@ -18,7 +18,7 @@ use Rattle.pipe_model.proofs.Truths.{cond_some}
 use Rattle.pipe_model.proofs.Numbers.{test_same}
 use Rattle.pipe_model.proofs.Lists.{beside}
 use Rattle.stage_steps.specs.Coroutine.{told}
-use Rattle.record_pool.specs.declared.pool.Held.{Held}
+use Rattle.record_pool.specs.PoolState.{PoolState}
 use Rattle.record_pool.specs.Places.{IsHeld, holders_at, bytes_at}
 use Rattle.connectors.specs.WireState.{WireState, IsPaced, at_hand, IsHeldIn}
 use Rattle.commit_levels.specs.UnitState.{IsLevel, IsLive, IsAt}
@@ -27,58 +27,59 @@ use Rattle.confluence_laws.proofs.Basics.{from_out, took_asked, refused_asked, d
 use Rattle.confluence_laws.proofs.Owns.{commit_asked}
 use Rattle.confluence_laws.proofs.Fitting.{wants_take}
 use Rattle.run_desk.specs.Desk.{DeskState}
-use Rattle.run_desk.specs.Pure.{inputs_of, in_door, out_door, through, wire_in, wire_out}
+use Rattle.run_desk.specs.Pure.{in_door, out_door, sights_of, sight_door, sight_through, through, wire_in, wire_out}
 use Rattle.run_desk.specs.Kept.{IsWire, link_through}
 use Rattle.run_desk.specs.Order.{IsRun}
-use Rattle.run_desk.specs.Moves.{hand_on, sight_through, Behind, CanMove}
+use Rattle.run_desk.specs.Moves.{hand_on, Behind, CanMove}
 use Rattle.run_desk.proofs.Begins.{not_reached}
 use Rattle.run_desk.proofs.Limits.{few_holders, offers_held, sights_held, can_forget}
+use Rattle.run_desk.proofs.Shown.{sight_of_hand}
 use Rattle.run_desk.proofs.Wants.{few_tooks, IsWanting, wanting, fits, put_may, refusal_may, put_ahead, refusal_level}
 
 -- a wire that stands for a link
-pub record IsLinked (net : Net) (st : State) (left : Left) (d : DeskState) (places : List (Option Held)) (there : Option Link) (wire : WireState) : Type 0 where
+pub record IsLinked (net : Net) (st : State) (left : Left) (d : DeskState) (pool : PoolState) (there : Option Link) (wire : WireState) : Type 0 where
   pub place : ℕ
   pub link : Link
   pub at_wire : slice_get d.wires place ≡ Some wire
   pub found : there ≡ Some link
-  pub is : IsWire net (bytes_at places) st left link wire
+  pub is : IsWire net (bytes_at pool) st left link wire
   pub rendezvous : link.queue ≡ false
 
-module _ (net : Net) (st : State) (left : Left) (d : DeskState) (places : List (Option Held)) (formed : IsWellFormed net) (run : IsRun net st left d places) where
-  linked : (door : Option ℕ) (there : Option Link) (wire : WireState) → there ≡ link_through net.links door → through d.wires door ≡ Some wire → IsLinked net st left d places there wire
+module _ (net : Net) (st : State) (left : Left) (d : DeskState) (pool : PoolState) (formed : IsWellFormed net) (run : IsRun net st left d pool) where
+  linked : (door : Option ℕ) (there : Option Link) (wire : WireState) → there ≡ link_through net.links door → through d.wires door ≡ Some wire → IsLinked net st left d pool there wire
   linked None there wire leads at = cc
   linked (Some k) there wire leads at =
       let l = beside d.wires net.links k wire run.kept.laid.wire_count at in
       record { place = k; link = l.0; at_wire = at; found = leads ∙ l.1; is = run.kept.wires k l.0 wire l.1 at; rendezvous = run.kept.laid.rendezvous k l.0 l.1 }
 
   -- the wire behind an output stands for its link
-  pub out_linked : (s : Who) (o : ℕ) (wire : WireState) → wire_out d s o ≡ Some wire → IsLinked net st left d places (link_out net st s o) wire
+  pub out_linked : (s : Who) (o : ℕ) (wire : WireState) → wire_out d s o ≡ Some wire → IsLinked net st left d pool (link_out net st s o) wire
   out_linked s o wire at = linked (out_door d s o) (link_out net st s o) wire (run.kept.laid.out_doors s o) at
 
-  in_linked : (s : Who) (i : ℕ) (wire : WireState) → wire_in d s i ≡ Some wire → IsLinked net st left d places (link_in net st s i) wire
+  in_linked : (s : Who) (i : ℕ) (wire : WireState) → wire_in d s i ≡ Some wire → IsLinked net st left d pool (link_in net st s i) wire
   in_linked s i wire at = linked (in_door d s i) (link_in net st s i) wire (run.kept.laid.in_doors s i) at
 
   -- the record at hand is held
-  offer_held : (door : Option ℕ) → Behind (λ wire. IsHeldIn places wire.offer) d.wires door
+  offer_held : (door : Option ℕ) → Behind (λ wire. IsHeldIn pool wire.offer) d.wires door
   offer_held None wire at = cc
-  offer_held (Some k) wire at = offers_held d.wires d.sights places run.pooled k wire at
+  offer_held (Some k) wire at = offers_held d.wires d.sights pool run.pooled k wire at
 
   -- the record at hand behind a door is held
-  pub hand_held : (door : Option ℕ) (grip : ℕ) → hand_on (through d.wires door) ≡ Some grip → IsHeld places grip
+  pub hand_held : (door : Option ℕ) (grip : ℕ) → hand_on (through d.wires door) ≡ Some grip → IsHeld pool grip
   hand_held door grip hand = by_wire (through d.wires door) refl hand
     where
-      by_wire : (x : Option WireState) → through d.wires door ≡ x → hand_on x ≡ Some grip → IsHeld places grip
+      by_wire : (x : Option WireState) → through d.wires door ≡ x → hand_on x ≡ Some grip → IsHeld pool grip
       by_wire None at e = cc
-      by_wire (Some wire) at e = subst (IsHeldIn places) (cond_some (wire.puts == wire.tooks) wire.offer e).1 (offer_held door wire at)
+      by_wire (Some wire) at e = subst (IsHeldIn pool) (cond_some (wire.puts == wire.tooks) wire.offer e).1 (offer_held door wire at)
 
   -- and so is what was seen
-  pub sight_held : (door : Option ℕ) → IsHeldIn places (sight_through d.sights door)
-  sight_held door = sights_held d.wires d.sights places run.pooled door
+  pub sight_held : (door : Option ℕ) → IsHeldIn pool (sight_through d.sights door)
+  sight_held door = sights_held d.wires d.sights pool run.pooled door
 
   module _ (few : length net.links < 2147483648) where
     -- every record can have a holder more
-    pub few_held : (grip : ℕ) → holders_at places grip < 4294967295
-    few_held grip = omega (arith, few, few_holders d.wires d.sights places run.pooled grip, run.kept.laid.wire_count, run.kept.laid.sight_count)
+    pub few_held : (grip : ℕ) → holders_at pool grip < 4294967295
+    few_held grip = omega (arith, few, formed.few, few_holders d.wires d.sights pool run.pooled grip, run.kept.laid.wire_count, run.kept.laid.sight_count)
 
   -- Commit levels
 
@@ -107,14 +108,14 @@ module _ (net : Net) (st : State) (left : Left) (d : DeskState) (places : List (
   -- A turn
 
   module _ (own : (t : Who) (q : Strand) → strand_at net st t ≡ Some q → IsOwn q (past st t)) (s : Who) (k : ℕ) where
-    can_rise : (level code : ℤ) → licence net st left s k ≡ Some (Up level code) → CanMove d places s (told (Up level code))
+    can_rise : (level code : ℤ) → licence net st left s k ≡ Some (Up level code) → CanMove d pool s (told (Up level code))
     can_rise level code may =
         let wants = commit_asked (want_at net st left s) level code (fits net st left s k (Up level code) may) in
         let w = wanting net st left s (Commit level) wants in
         let is = run.kept.early s level wants in
         (within s w.strand w.there, live s w.going, is, asked_at s level is wants (not_reached w.strand (past st s) (own s w.strand w.there) level w.wants))
 
-    can_take : ((t : Who) → length (past st t) < 18446744073709551615) → (i : ℕ) → licence net st left s k ≡ Some (Took i) → CanMove d places s (told (Took i))
+    can_take : ((t : Who) → length (past st t) < 18446744073709551615) → (i : ℕ) → licence net st left s k ≡ Some (Took i) → CanMove d pool s (told (Took i))
     can_take short i may = (shown, offer_held (in_door d s i), few_taken)
       where
         w : IsWanting net st left s (Take i)
@@ -129,7 +130,7 @@ module _ (net : Net) (st : State) (left : Left) (d : DeskState) (places : List (
             let most : 2 ^ 64 - 1 ≡ 18446744073709551615 = refl in
             omega (arith, most, l.is.tooks, few_tooks l.link.input (past st l.link.to), short l.link.to)
 
-    can_put : (o : ℕ) (rec : List ℕ) → licence net st left s k ≡ Some (Put o rec) → CanMove d places s (told (Put o rec))
+    can_put : (o : ℕ) (rec : List ℕ) → licence net st left s k ≡ Some (Put o rec) → CanMove d pool s (told (Put o rec))
     can_put o rec may = (ahead, offer_held (out_door d s o))
       where
         ahead : Behind (λ wire. wire.tooks ≡ wire.puts + 1) d.wires (out_door d s o)
@@ -142,10 +143,10 @@ module _ (net : Net) (st : State) (left : Left) (d : DeskState) (places : List (
             by_pace p t less (inl even) = absurd (omega (arith, p, t, less, even))
             by_pace p t less (inr more) = more.0
 
-    can_refuse : (o : ℕ) → licence net st left s k ≡ Some (Refused o) → CanMove d places s (told (Refused o))
+    can_refuse : (o : ℕ) → licence net st left s k ≡ Some (Refused o) → CanMove d pool s (told (Refused o))
     can_refuse o may = (offers, even, offer_held (out_door d s o))
       where
-        there : (x : Option ℕ) (rec : List ℕ) → option_map (bytes_at places) x ≡ Some rec → IsSome x
+        there : (x : Option ℕ) (rec : List ℕ) → option_map (bytes_at pool) x ≡ Some rec → IsSome x
         there None rec e = cc
         there (Some g) rec e = refl
 
@@ -164,27 +165,27 @@ module _ (net : Net) (st : State) (left : Left) (d : DeskState) (places : List (
             let same = refusal_level st l.link (ap (may_refuse st) (sym l.found) ∙ refusal_may net st left s k o may) in
             omega (arith, l.is.puts, l.is.tooks, same)
 
-    can_end : (code : ℤ) → licence net st left s k ≡ Some (Ended code) → CanMove d places s (told (Ended code))
+    can_end : (code : ℤ) → licence net st left s k ≡ Some (Ended code) → CanMove d pool s (told (Ended code))
     can_end code may =
         let w = wanting net st left s (Done code) (done_asked (want_at net st left s) code (fits net st left s k (Ended code) may)) in
-        (within s w.strand w.there, live s w.going, can_forget d.wires (inputs_of (slice_get d.doors s)) d.sights places run.pooled)
+        (within s w.strand w.there, live s w.going, can_forget d.wires (sights_of (slice_get d.doors s)) d.sights pool run.pooled)
 
-    can_look : length net.links < 2147483648 → (i : ℕ) (rec : List ℕ) → CanMove d places s (told (Saw i rec))
+    can_look : length net.links < 2147483648 → (i : ℕ) (rec : List ℕ) → CanMove d pool s (told (Saw i rec))
     can_look few i rec = (
-      run.kept.laid.sight_count ∙ sym run.kept.laid.wire_count,
+      λ grip hand. sight_of_hand net st d run.kept.laid s i grip hand,
       λ grip hand. hand_held (in_door d s i) grip hand,
       λ grip hand. few_held few grip,
-      sight_held (in_door d s i),
+      sight_held (sight_door d s i),
     )
 
 -- whoever has a licence can move
-pub can_move : (net : Net) (st : State) (left : Left) (d : DeskState) (places : List (Option Held)) (s : Who) (k : ℕ) (e : Event) → IsWellFormed net →
+pub can_move : (net : Net) (st : State) (left : Left) (d : DeskState) (pool : PoolState) (s : Who) (k : ℕ) (e : Event) → IsWellFormed net →
     ((t : Who) (q : Strand) → strand_at net st t ≡ Some q → IsOwn q (past st t)) → length net.links < 2147483648 → ((t : Who) → length (past st t) < 18446744073709551615) →
-    IsRun net st left d places → licence net st left s k ≡ Some e → CanMove d places s (told e)
-can_move net st left d places s k (Up level code) formed own few short run may = can_rise net st left d places formed run own s k level code may
-can_move net st left d places s k (Saw i rec) formed own few short run may = can_look net st left d places formed run own s k few i rec
-can_move net st left d places s k (Took i) formed own few short run may = can_take net st left d places formed run own s k short i may
-can_move net st left d places s k (Put o rec) formed own few short run may = can_put net st left d places formed run own s k o rec may
-can_move net st left d places s k (Refused o) formed own few short run may = can_refuse net st left d places formed run own s k o may
-can_move net st left d places s k (Ended code) formed own few short run may = can_end net st left d places formed run own s k code may
-can_move net st left d places s k _ formed own few short run may = tt
+    IsRun net st left d pool → licence net st left s k ≡ Some e → CanMove d pool s (told e)
+can_move net st left d pool s k (Up level code) formed own few short run may = can_rise net st left d pool formed run own s k level code may
+can_move net st left d pool s k (Saw i rec) formed own few short run may = can_look net st left d pool formed run own s k few i rec
+can_move net st left d pool s k (Took i) formed own few short run may = can_take net st left d pool formed run own s k short i may
+can_move net st left d pool s k (Put o rec) formed own few short run may = can_put net st left d pool formed run own s k o rec may
+can_move net st left d pool s k (Refused o) formed own few short run may = can_refuse net st left d pool formed run own s k o may
+can_move net st left d pool s k (Ended code) formed own few short run may = can_end net st left d pool formed run own s k code may
+can_move net st left d pool s k _ formed own few short run may = tt

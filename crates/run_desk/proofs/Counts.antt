@@ -3,9 +3,9 @@ use Rattle.std.proofs.Common.{◌≡◌, ℕ, zero, suc, ◌+◌, Bool, false, c
 use Rattle.std.specs.Prelude.{count_by}
 use Rattle.std.proofs.lemmas.List.Sums.{sum_by-cons, sum_by_push}
 use Rattle.connectors.specs.WireState.{WireState}
-use Rattle.run_desk.specs.Pure.{joined, through}
+use Rattle.run_desk.specs.Pure.{joined, through, sight_through}
 use Rattle.run_desk.specs.Order.{holds, offer_holds}
-use Rattle.run_desk.specs.Moves.{placed, changed, offer_on, sight_through, out_shut, in_shut, all_changed, unseen}
+use Rattle.run_desk.specs.Moves.{placed, changed, offer_on, out_shut, in_shut, all_changed, unseen}
 
 -- one for what passes a test
 abbrev pub one : Bool → ℕ

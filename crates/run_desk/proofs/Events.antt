@@ -2,12 +2,12 @@
 use Rattle.std.proofs.Common.{◌≡◌, ℕ, Bool, true, false, cond, ◌||◌, ◌==◌, List, ◌∷◌, refl, sym, ◌∙◌, ap, Option, Some, None}
 use Rattle.std.proofs.lemmas.Bool.{eqb-true}
 use Rattle.std.proofs.Math.Bool.{or-false, or-true}
-use Rattle.pipe_model.specs.Event.{Event, Want, answers, is_put, last_seen_on, has_ended, has_seen}
+use Rattle.pipe_model.specs.Event.{Event, Want, answers, is_put, has_ended, has_seen}
 use Rattle.pipe_model.specs.Event.Event.{Up, Saw, SawEnd, SawAllEnd, Took, Put, Refused, Primed, Opened, Joined, Severed, Ended}
 use Rattle.pipe_model.specs.Event.Want.{Commit, Write}
 use Rattle.pipe_model.specs.Licence.{offered}
 use Rattle.commit_levels.specs.Licensed.{WantsNoLevel}
-use Rattle.stage_steps.specs.Coroutine.{told}
+use Rattle.stage_steps.specs.Coroutine.{told, record_seen_on}
 use Rattle.run_desk.specs.Moves.{ends, sees}
 
 -- the event settles or withdraws an offer on the output
@@ -32,8 +32,8 @@ no_put o (Put o' rec) off = off
 no_put o _ off = refl
 
 -- one that doesn't look at an input leaves what was seen there last
-pub last_stays : (i : ℕ) (e : Event) (h : List Event) → looks_at i e ≡ false → last_seen_on i (e ∷ h) ≡ last_seen_on i h
-last_stays i (Saw i' rec) h off = ap (λ b. cond b rec (last_seen_on i h)) off
+pub last_stays : (i : ℕ) (e : Event) (h : List Event) → looks_at i e ≡ false → record_seen_on i (e ∷ h) ≡ record_seen_on i h
+last_stays i (Saw i' rec) h off = ap (λ b. cond b (Some rec) (record_seen_on i h)) off
 last_stays i _ h off = refl
 
 -- a strand has ended where it had, or is told so now

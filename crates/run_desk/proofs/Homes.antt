@@ -22,7 +22,7 @@ use Rattle.commit_levels.specs.declared.member.Progress.TheVariants.{NotAsked, A
 use Rattle.commit_levels.specs.Licensed.{IsStrand, WantsNoLevel}
 use Rattle.commit_levels.proofs.Agreement.{asks_as}
 use Rattle.connectors.specs.WireState.{WireState}
-use Rattle.record_pool.specs.declared.pool.Held.{Held}
+use Rattle.record_pool.specs.PoolState.{PoolState}
 use Rattle.record_pool.specs.Places.{bytes_at}
 use Rattle.stage_steps.specs.Coroutine.{written, meaning, last_seen}
 use Rattle.run_desk.specs.declared.seat.Ask.{Ask}
@@ -185,6 +185,8 @@ module _ (net : Net) (texts : ℕ → List ℕ) (st : State) (left : Left) (d : 
       seat_count = as_long d.seats (asking ask) (Some s) ∙ kept.laid.seat_count;
       wire_count = long ∙ kept.laid.wire_count;
       sight_count = kept.laid.sight_count;
+      sights_there = kept.laid.sights_there;
+      sights_apart = kept.laid.sights_apart;
       in_doors = kept.laid.in_doors;
       out_doors = kept.laid.out_doors;
       firsts = kept.laid.firsts;
@@ -194,7 +196,6 @@ module _ (net : Net) (texts : ℕ → List ℕ) (st : State) (left : Left) (d : 
     nobody = λ t none. kept.nobody t (none_before d.seats (asking ask) (Some s) t none);
     wires = wires_are;
     sights = kept.sights;
-    unseen = kept.unseen;
     member_count = count ∙ kept.member_count;
     members = members_are;
     early = early;
@@ -216,9 +217,9 @@ asked_is (come.Join unit) sight = refl
 asked_is (come.Cut i) sight = refl
 asked_is (come.Done code) sight = refl
 
-module _ (net : Net) (st : State) (left : Left) (d new : DeskState) (places after : List (Option Held)) (s : Who) (strand : Strand)
+module _ (net : Net) (st : State) (left : Left) (d new : DeskState) (pool after : PoolState) (s : Who) (strand : Strand)
     (formed : IsWellFormed net) (own : (t : Who) (q : Strand) → strand_at net st t ≡ Some q → IsOwn q (past st t))
-    (kept : IsKept net (bytes_at places) st left d) (pooled : IsPooled d.wires d.sights places)
+    (kept : IsKept net (bytes_at pool) st left d) (pooled : IsPooled d.wires d.sights pool)
     (away : left s ≡ true) (at : strand_at net st s ≡ Some strand) (going : has_ended (past st s) ≡ false) where
   early_home : (t : Who) (level : ℤ) → want_at net st (left_in left s) t ≡ Some (Commit level) → IsLevel level
   early_home t level want = early_level level (wants_early net st (left_in left s) own t level want)
@@ -226,56 +227,56 @@ module _ (net : Net) (st : State) (left : Left) (d new : DeskState) (places afte
   -- it writes nothing and asks for no level
   home_plain : (w : Coming) → Some (meaning w (last_seen (past st s))) ≡ next strand (past st s) →
       ((o : ℕ) → offered o (Some (meaning w (last_seen (past st s)))) ≡ None) → WantsNoLevel (Some (meaning w (last_seen (past st s)))) →
-      unit_home d.unit s (ask_for w) ≡ d.unit → (new ≡ coming d s (ask_for w)) × (after ≡ places) → IsKept net (bytes_at after) st (left_in left s) new
+      unit_home d.unit s (ask_for w) ≡ d.unit → (new ≡ coming d s (ask_for w)) × (after ≡ pool) → IsKept net (bytes_at after) st (left_in left s) new
   home_plain w wants off none same came =
       let wanted = meaning w (last_seen (past st s)) in
-      let now = comes_home net (bytes_at places) st left d kept s strand away at wanted wants (ask_for w) (asked_is w (last_seen (past st s))) d.wires d.unit refl
-      (wires_plain net (bytes_at places) st left d kept s strand away at wanted wants off) refl
-      (members_plain net (bytes_at places) st left d kept s strand away at wanted wants none) early_home in
-      let P : List Member → Type 0 = λ members. IsKept net (bytes_at places) st (left_in left s) (record { seats = changed d.seats (asking (ask_for w)) (Some s); wires = d.wires; sights = d.sights; doors = d.doors; unit = members }) in
-      let here : IsKept net (bytes_at places) st (left_in left s) (coming d s (ask_for w)) = subst P (sym same) now in
-      subst (λ ps. IsKept net (bytes_at ps) st (left_in left s) new) (sym came.1) (subst (IsKept net (bytes_at places) st (left_in left s)) (sym came.0) here)
+      let now = comes_home net (bytes_at pool) st left d kept s strand away at wanted wants (ask_for w) (asked_is w (last_seen (past st s))) d.wires d.unit refl
+      (wires_plain net (bytes_at pool) st left d kept s strand away at wanted wants off) refl
+      (members_plain net (bytes_at pool) st left d kept s strand away at wanted wants none) early_home in
+      let P : List Member → Type 0 = λ members. IsKept net (bytes_at pool) st (left_in left s) (record { seats = changed d.seats (asking (ask_for w)) (Some s); wires = d.wires; sights = d.sights; doors = d.doors; unit = members }) in
+      let here : IsKept net (bytes_at pool) st (left_in left s) (coming d s (ask_for w)) = subst P (sym same) now in
+      subst (λ ps. IsKept net (bytes_at ps) st (left_in left s) new) (sym came.1) (subst (IsKept net (bytes_at pool) st (left_in left s)) (sym came.0) here)
 
   -- it asks for a level
   home_asking : (level : ℤ) → Some (Commit level) ≡ next strand (past st s) → CanAsk d s (Now.Commit level) →
-      (new ≡ coming d s (Now.Commit level)) × (after ≡ places) → IsKept net (bytes_at after) st (left_in left s) new
+      (new ≡ coming d s (Now.Commit level)) × (after ≡ pool) → IsKept net (bytes_at after) st (left_in left s) new
   home_asking level wants can came =
-      let here : IsKept net (bytes_at places) st (left_in left s) (coming d s (Now.Commit level)) =
-      comes_home net (bytes_at places) st left d kept s strand away at (Commit level) wants (Now.Commit level) refl d.wires (asked_by d.unit s level) refl
-      (wires_plain net (bytes_at places) st left d kept s strand away at (Commit level) wants (λ o. refl))
-      (as_many net (bytes_at places) st left d kept s strand away at (Commit level) wants level)
-      (members_asking net (bytes_at places) st left d kept s strand away at (Commit level) wants level can.2 refl can.3) early_home in
-      subst (λ ps. IsKept net (bytes_at ps) st (left_in left s) new) (sym came.1) (subst (IsKept net (bytes_at places) st (left_in left s)) (sym came.0) here)
+      let here : IsKept net (bytes_at pool) st (left_in left s) (coming d s (Now.Commit level)) =
+      comes_home net (bytes_at pool) st left d kept s strand away at (Commit level) wants (Now.Commit level) refl d.wires (asked_by d.unit s level) refl
+      (wires_plain net (bytes_at pool) st left d kept s strand away at (Commit level) wants (λ o. refl))
+      (as_many net (bytes_at pool) st left d kept s strand away at (Commit level) wants level)
+      (members_asking net (bytes_at pool) st left d kept s strand away at (Commit level) wants level can.2 refl can.3) early_home in
+      subst (λ ps. IsKept net (bytes_at ps) st (left_in left s) new) (sym came.1) (subst (IsKept net (bytes_at pool) st (left_in left s)) (sym came.0) here)
 
   -- it writes
   home_offering : (o : ℕ) (out : Out) → Some (Write o (written out (last_seen (past st s)))) ≡ next strand (past st s) →
-      (grip : ℕ) → IsHold d places s out grip after → new ≡ home_writing d s o grip → IsKept net (bytes_at after) st (left_in left s) new
+      (grip : ℕ) → IsHold d pool s out grip after → new ≡ home_writing d s o grip → IsKept net (bytes_at after) st (left_in left s) new
   home_offering o out wants grip hold came =
       let rec = written out (last_seen (past st s)) in
-      let held = retext net (bytes_at places) (bytes_at after) st left d kept (hold_stay places after d pooled s out grip hold) in
+      let held = retext net (bytes_at pool) (bytes_at after) st left d kept (hold_stay pool after d pooled s out grip hold) in
       let here : IsKept net (bytes_at after) st (left_in left s) (home_writing d s o grip) =
       comes_home net (bytes_at after) st left d held s strand away at (Write o rec) wants (Now.Write o) refl (changed d.wires (offers grip) (Pure.out_door d s o)) d.unit
       (as_long d.wires (offers grip) (Pure.out_door d s o))
-      (wires_writing net (bytes_at after) st left d held s strand away at (Write o rec) wants formed o rec grip refl (hold_text places after net st left d s kept going out grip hold))
+      (wires_writing net (bytes_at after) st left d held s strand away at (Write o rec) wants formed o rec grip refl (hold_text pool after net st left d s kept going out grip hold))
       refl (members_plain net (bytes_at after) st left d held s strand away at (Write o rec) wants (λ level. refl)) early_home in
       subst (IsKept net (bytes_at after) st (left_in left s)) (sym came) here
 
 -- where a strand comes home, the desk stands for the same state with its want
-pub kept_home : (net : Net) (st : State) (left : Left) (d new : DeskState) (places after : List (Option Held)) (s : Who) (strand : Strand) (w : Coming) → IsWellFormed net →
-    ((t : Who) (q : Strand) → strand_at net st t ≡ Some q → IsOwn q (past st t)) → IsKept net (bytes_at places) st left d → IsPooled d.wires d.sights places → left s ≡ true →
+pub kept_home : (net : Net) (st : State) (left : Left) (d new : DeskState) (pool after : PoolState) (s : Who) (strand : Strand) (w : Coming) → IsWellFormed net →
+    ((t : Who) (q : Strand) → strand_at net st t ≡ Some q → IsOwn q (past st t)) → IsKept net (bytes_at pool) st left d → IsPooled d.wires d.sights pool → left s ≡ true →
     strand_at net st s ≡ Some strand → has_ended (past st s) ≡ false → Some (meaning w (last_seen (past st s))) ≡ next strand (past st s) →
-    CanCome d places s w → HasCome d places s w new after → IsKept net (bytes_at after) st (left_in left s) new
-kept_home net st left d new places after s strand (come.Commit level) formed own kept pooled away at going wants can came = home_asking net st left d new places after s strand formed own kept pooled away at going level wants can came
-kept_home net st left d new places after s strand (come.Write o out) formed own kept pooled away at going wants can came = home_offering net st left d new places after s strand formed own kept pooled away at going o out wants came.0 came.1 came.2
-kept_home net st left d new places after s strand (come.Read i) formed own kept pooled away at going wants can came = home_plain net st left d new places after s strand formed own kept pooled away at going (come.Read i) wants (λ o. refl) (λ l. refl) refl came
-kept_home net st left d new places after s strand come.Any formed own kept pooled away at going wants can came = home_plain net st left d new places after s strand formed own kept pooled away at going come.Any wants (λ o. refl) (λ l. refl) refl came
-kept_home net st left d new places after s strand come.Gate formed own kept pooled away at going wants can came = home_plain net st left d new places after s strand formed own kept pooled away at going come.Gate wants (λ o. refl) (λ l. refl) refl came
-kept_home net st left d new places after s strand (come.Take i) formed own kept pooled away at going wants can came = home_plain net st left d new places after s strand formed own kept pooled away at going (come.Take i) wants (λ o. refl) (λ l. refl) refl came
-kept_home net st left d new places after s strand come.Primed formed own kept pooled away at going wants can came = home_plain net st left d new places after s strand formed own kept pooled away at going come.Primed wants (λ o. refl) (λ l. refl) refl came
-kept_home net st left d new places after s strand (come.Issue text) formed own kept pooled away at going wants can came = home_plain net st left d new places after s strand formed own kept pooled away at going (come.Issue text) wants (λ o. refl) (λ l. refl) refl came
-kept_home net st left d new places after s strand (come.Join u) formed own kept pooled away at going wants can came = home_plain net st left d new places after s strand formed own kept pooled away at going (come.Join u) wants (λ o. refl) (λ l. refl) refl came
-kept_home net st left d new places after s strand (come.Cut i) formed own kept pooled away at going wants can came = home_plain net st left d new places after s strand formed own kept pooled away at going (come.Cut i) wants (λ o. refl) (λ l. refl) refl came
-kept_home net st left d new places after s strand (come.Done code) formed own kept pooled away at going wants can came = home_plain net st left d new places after s strand formed own kept pooled away at going (come.Done code) wants (λ o. refl) (λ l. refl) refl came
+    CanCome d pool s w → HasCome d pool s w new after → IsKept net (bytes_at after) st (left_in left s) new
+kept_home net st left d new pool after s strand (come.Commit level) formed own kept pooled away at going wants can came = home_asking net st left d new pool after s strand formed own kept pooled away at going level wants can came
+kept_home net st left d new pool after s strand (come.Write o out) formed own kept pooled away at going wants can came = home_offering net st left d new pool after s strand formed own kept pooled away at going o out wants came.0 came.1 came.2
+kept_home net st left d new pool after s strand (come.Read i) formed own kept pooled away at going wants can came = home_plain net st left d new pool after s strand formed own kept pooled away at going (come.Read i) wants (λ o. refl) (λ l. refl) refl came
+kept_home net st left d new pool after s strand come.Any formed own kept pooled away at going wants can came = home_plain net st left d new pool after s strand formed own kept pooled away at going come.Any wants (λ o. refl) (λ l. refl) refl came
+kept_home net st left d new pool after s strand come.Gate formed own kept pooled away at going wants can came = home_plain net st left d new pool after s strand formed own kept pooled away at going come.Gate wants (λ o. refl) (λ l. refl) refl came
+kept_home net st left d new pool after s strand (come.Take i) formed own kept pooled away at going wants can came = home_plain net st left d new pool after s strand formed own kept pooled away at going (come.Take i) wants (λ o. refl) (λ l. refl) refl came
+kept_home net st left d new pool after s strand come.Primed formed own kept pooled away at going wants can came = home_plain net st left d new pool after s strand formed own kept pooled away at going come.Primed wants (λ o. refl) (λ l. refl) refl came
+kept_home net st left d new pool after s strand (come.Issue text) formed own kept pooled away at going wants can came = home_plain net st left d new pool after s strand formed own kept pooled away at going (come.Issue text) wants (λ o. refl) (λ l. refl) refl came
+kept_home net st left d new pool after s strand (come.Join u) formed own kept pooled away at going wants can came = home_plain net st left d new pool after s strand formed own kept pooled away at going (come.Join u) wants (λ o. refl) (λ l. refl) refl came
+kept_home net st left d new pool after s strand (come.Cut i) formed own kept pooled away at going wants can came = home_plain net st left d new pool after s strand formed own kept pooled away at going (come.Cut i) wants (λ o. refl) (λ l. refl) refl came
+kept_home net st left d new pool after s strand (come.Done code) formed own kept pooled away at going wants can came = home_plain net st left d new pool after s strand formed own kept pooled away at going (come.Done code) wants (λ o. refl) (λ l. refl) refl came
 
 -- Whoever has ended wants nothing, out or not
 
@@ -306,7 +307,6 @@ module _ (net : Net) (texts : ℕ → List ℕ) (st : State) (left : Left) (d : 
         let is = kept.wires j link wire at got in
         record { puts = is.puts; tooks = is.tooks; offer = is.offer ∙ ap (offered link.output) (sym (same_want link.from)); out_closed = is.out_closed; in_closed = is.in_closed };
     sights = kept.sights;
-    unseen = kept.unseen;
     member_count = kept.member_count;
     members = λ t m got. subst (λ w. IsStrand (past st t) w m) (sym (same_want t)) (kept.members t m got);
     early = λ t level want. kept.early t level (sym (same_want t) ∙ want);

@@ -23,7 +23,7 @@ use Rattle.run_desk.proofs.Lists.{changed_here, changed_there, changed_length}
 -- Lists
 
 -- what a change doesn't show stays
-stays : {A B : Type 0} (g : Option A → B) (f : A → A) → ((x : Option A) → g (option_map f x) ≡ g x) → (xs : List A) (k s : ℕ) → g (slice_get (changed xs f (Some k)) s) ≡ g (slice_get xs s)
+pub stays : {A B : Type 0} (g : Option A → B) (f : A → A) → ((x : Option A) → g (option_map f x) ≡ g x) → (xs : List A) (k s : ℕ) → g (slice_get (changed xs f (Some k)) s) ≡ g (slice_get xs s)
 stays {A} {B} g f hidden xs k s = go (equal_or_not s k)
   where
     go : (s ≡ k) ⊎ (s ≢ k) → g (slice_get (changed xs f (Some k)) s) ≡ g (slice_get xs s)
@@ -155,49 +155,56 @@ module _ (lists : List DoorsState → ℕ → List (Option ℕ)) (end place : Li
 -- Strands
 
 -- each strand has its doors
-at_from : (strands : List Strand) (s k : ℕ) → slice_get (doors_from s strands) k ≡ option_map (closed_doors (s + k)) (slice_get strands k)
-at_from [] s k = refl
-at_from (strand ∷ strands) s zero = ap (λ z. Some (closed_doors z strand)) (let e : s ≡ s + 0 = omega arith in e)
-at_from (strand ∷ strands) s (suc k) = at_from strands (suc s) k ∙ ap (λ z. option_map (closed_doors z) (slice_get strands k)) (let e : suc s + k ≡ s + suc k = omega arith in e)
+at_from : (strands : List Strand) (s n k : ℕ) → (m : ℕ) × (slice_get (doors_from s n strands) k ≡ option_map (closed_doors (s + k) m) (slice_get strands k))
+at_from [] s n k = (0, refl)
+at_from (strand ∷ strands) s n zero = (n, ap (λ z. Some (closed_doors z n strand)) (let e : s ≡ s + 0 = omega arith in e))
+at_from (strand ∷ strands) s n (suc k) =
+    let rest = at_from strands (suc s) (n + strand.ports.inputs) k in
+    (rest.0, rest.1 ∙ ap (λ z. option_map (closed_doors z rest.0) (slice_get strands k)) (let e : suc s + k ≡ s + suc k = omega arith in e))
 
-leads_nowhere : (n i : ℕ) → joined (slice_get (replicate n None) i) ≡ None
+-- doors that lead nowhere, and sights that hold nothing
+pub leads_nowhere : (n i : ℕ) → joined (slice_get (replicate n None) i) ≡ None
 leads_nowhere zero i = refl
 leads_nowhere (suc n) zero = refl
 leads_nowhere (suc n) (suc i) = leads_nowhere n i
 
-in_closed : (m i : ℕ) (x : Option Strand) → joined (slice_get (inputs_of (option_map (closed_doors m) x)) i) ≡ None
-in_closed m i None = refl
-in_closed m i (Some strand) = leads_nowhere strand.ports.inputs i
+in_closed : (m n i : ℕ) (x : Option Strand) → joined (slice_get (inputs_of (option_map (closed_doors m n) x)) i) ≡ None
+in_closed m n i None = refl
+in_closed m n i (Some strand) = leads_nowhere strand.ports.inputs i
 
-out_closed : (m o : ℕ) (x : Option Strand) → joined (slice_get (outputs_of (option_map (closed_doors m) x)) o) ≡ None
-out_closed m o None = refl
-out_closed m o (Some strand) = leads_nowhere strand.ports.outputs o
+out_closed : (m n o : ℕ) (x : Option Strand) → joined (slice_get (outputs_of (option_map (closed_doors m n) x)) o) ≡ None
+out_closed m n o None = refl
+out_closed m n o (Some strand) = leads_nowhere strand.ports.outputs o
 
-first_closed : (s m : ℕ) (x : Option Strand) → m ≡ s → first_of s (option_map (closed_doors m) x) ≡ part_down s x
-first_closed s m None is = refl
-first_closed s m (Some strand) is = ap (λ z. part_down z (Some strand)) is
+first_closed : (s m n : ℕ) (x : Option Strand) → m ≡ s → first_of s (option_map (closed_doors m n) x) ≡ part_down s x
+first_closed s m n None is = refl
+first_closed s m n (Some strand) is = ap (λ z. part_down z (Some strand)) is
 
 module _ (net : Net) (formed : IsWellFormed net) where
   abbrev first_doors : List DoorsState
-  first_doors = doors_from 0 net.strands
+  first_doors = doors_from 0 0 net.strands
 
   -- an input leads to its link
-  pub leads_in : (s i : ℕ) → link_in net nothing_yet s i ≡ link_through net.links (joined (slice_get (inputs_of (slice_get (with_links (doors_from 0 net.strands) 0 net.links) s)) i))
+  pub leads_in : (s i : ℕ) → link_in net nothing_yet s i ≡ link_through net.links (joined (slice_get (inputs_of (slice_get (with_links (doors_from 0 0 net.strands) 0 net.links) s)) i))
   leads_in s i =
+      let own = at_from net.strands 0 0 s in
       leads ins (λ link. link.to) (λ link. link.input) in_here in_there net.links first_doors s i
-      (ap (λ x. joined (slice_get (inputs_of x) i)) (at_from net.strands 0 s) ∙ in_closed (0 + s) i (slice_get net.strands s)) net.links 0
+      (ap (λ x. joined (slice_get (inputs_of x) i)) own.1 ∙ in_closed (0 + s) own.0 i (slice_get net.strands s)) net.links 0
       (λ k link at. let is = formed.joined k link at in
-      let e : inputs_of (slice_get first_doors link.to) ≡ replicate is.consumer.ports.inputs None = ap inputs_of (at_from net.strands 0 link.to ∙ ap (option_map (closed_doors (0 + link.to))) is.to_strand) in
+      let there = at_from net.strands 0 0 link.to in
+      let e : inputs_of (slice_get first_doors link.to) ≡ replicate is.consumer.ports.inputs None = ap inputs_of (there.1 ∙ ap (option_map (closed_doors (0 + link.to) there.0)) is.to_strand) in
       omega (arith, is.input, ap length e, length-replicate {A = Option ℕ} is.consumer.ports.inputs None))
       (λ k. ap (slice_get net.links) (let e : 0 + k ≡ k = omega arith in e))
 
   -- an output leads to its link
-  pub leads_out : (s o : ℕ) → link_out net nothing_yet s o ≡ link_through net.links (joined (slice_get (outputs_of (slice_get (with_links (doors_from 0 net.strands) 0 net.links) s)) o))
+  pub leads_out : (s o : ℕ) → link_out net nothing_yet s o ≡ link_through net.links (joined (slice_get (outputs_of (slice_get (with_links (doors_from 0 0 net.strands) 0 net.links) s)) o))
   leads_out s o =
+      let own = at_from net.strands 0 0 s in
       leads outs (λ link. link.from) (λ link. link.output) out_here out_there net.links first_doors s o
-      (ap (λ x. joined (slice_get (outputs_of x) o)) (at_from net.strands 0 s) ∙ out_closed (0 + s) o (slice_get net.strands s)) net.links 0
+      (ap (λ x. joined (slice_get (outputs_of x) o)) own.1 ∙ out_closed (0 + s) own.0 o (slice_get net.strands s)) net.links 0
       (λ k link at. let is = formed.joined k link at in
-      let e : outputs_of (slice_get first_doors link.from) ≡ replicate is.producer.ports.outputs None = ap outputs_of (at_from net.strands 0 link.from ∙ ap (option_map (closed_doors (0 + link.from))) is.from_strand) in
+      let there = at_from net.strands 0 0 link.from in
+      let e : outputs_of (slice_get first_doors link.from) ≡ replicate is.producer.ports.outputs None = ap outputs_of (there.1 ∙ ap (option_map (closed_doors (0 + link.from) there.0)) is.from_strand) in
       omega (arith, is.output, ap length e, length-replicate {A = Option ℕ} is.producer.ports.outputs None))
       (λ k. ap (slice_get net.links) (let e : 0 + k ≡ k = omega arith in e))
 
@@ -206,5 +213,5 @@ module _ (net : Net) (formed : IsWellFormed net) where
   first_still (link ∷ links) j s = first_there (with_links first_doors (suc j) links) j link s ∙ first_still links (suc j) s
 
   -- and the first strand of each stage is known
-  pub knows_first : (s : ℕ) → first_of s (slice_get (with_links (doors_from 0 net.strands) 0 net.links) s) ≡ first_part net nothing_yet s
-  knows_first s = first_still net.links 0 s ∙ ap (first_of s) (at_from net.strands 0 s) ∙ first_closed s (0 + s) (slice_get net.strands s) (omega arith)
+  pub knows_first : (s : ℕ) → first_of s (slice_get (with_links (doors_from 0 0 net.strands) 0 net.links) s) ≡ first_part net nothing_yet s
+  knows_first s = (let own = at_from net.strands 0 0 s in first_still net.links 0 s ∙ ap (first_of s) own.1 ∙ first_closed s (0 + s) own.0 (slice_get net.strands s) (omega arith))

@@ -23,6 +23,8 @@ pub mod Pooled
 pub mod Runs
 pub mod Sees
 pub mod Shown
+pub mod SightDoors
+pub mod Spots
 pub mod Streams
 pub mod Tells
 pub mod Texts

@@ -1,11 +1,11 @@
 -- A desk after a turn stands for the state after the event, with the strand out.
-use Rattle.std.proofs.Common.{◌≡◌, ◌≢◌, inl, inr, ℕ, ℤ, ◌<◌, Bool, true, false, ◌||◌, ◌==◌, List, [], length, refl, sym, ◌∙◌, ap, subst, Option, Some, None, slice_get}
+use Rattle.std.proofs.Common.{◌≡◌, ◌≢◌, inl, inr, ℕ, ℤ, ◌<◌, ◌≤◌, ◌*◌, Bool, true, false, ◌||◌, ◌==◌, List, [], length, refl, sym, ◌∙◌, ap, subst, Option, Some, None, slice_get}
 use Rattle.std.proofs.lemmas.Bool.{eqb-true}
 use Rattle.std.specs.Option.{option_map}
 use Rattle.pipe_model.specs.declared.net.Net.{Net}
 use Rattle.pipe_model.specs.declared.step.Seen.{Seen}
 use Rattle.pipe_model.specs.declared.step.Seen.TheVariants as Told
-use Rattle.pipe_model.specs.Event.{Event, last_seen_on, has_ended, has_seen}
+use Rattle.pipe_model.specs.Event.{Event, has_ended, has_seen}
 use Rattle.pipe_model.specs.Event.Event.{Saw}
 use Rattle.pipe_model.specs.Event.Want.{Commit}
 use Rattle.pipe_model.specs.State.{Who, State, past, with_event, link_in}
@@ -22,11 +22,11 @@ use Rattle.stage_steps.specs.Coroutine.{told}
 use Rattle.connectors.specs.WireState.{taken, settled, cleared}
 use Rattle.run_desk.specs.declared.seat.Seat.{Seat}
 use Rattle.run_desk.specs.Desk.{DeskState}
-use Rattle.run_desk.specs.Pure.{joined, inputs_of, outputs_of, first_of, in_door, out_door, wire_in}
-use Rattle.run_desk.specs.Kept.{asked, left_out, IsSeat, link_through, IsLaid, IsKept}
+use Rattle.run_desk.specs.Pure.{joined, inputs_of, outputs_of, first_of, in_door, out_door, sights_of, sight_door, sight_through, wire_in}
+use Rattle.run_desk.specs.Kept.{asked, left_out, IsSeat, IsSight, link_through, IsLaid, IsKept}
 use Rattle.run_desk.specs.Moves.{changed, all_changed, out_shut, in_shut, hand_on, sights_seen, ends, sees, seat_after, moved, made}
 use Rattle.run_desk.proofs.Lists.{changed_here, changed_there, changed_length, all_changed_length, sights_without_length, map_back}
-use Rattle.run_desk.proofs.Events.{looks_at, last_stays, ended_on, seen_on}
+use Rattle.run_desk.proofs.Events.{ended_on, seen_on}
 use Rattle.run_desk.proofs.Acts.{has_strand, want_here, want_other}
 use Rattle.run_desk.proofs.Links.{wires_made}
 use Rattle.run_desk.proofs.Shown.{sights_made}
@@ -71,9 +71,9 @@ pub sights_moved : (d : DeskState) (s : ℕ) (seen : Seen) → length (moved d s
 sights_moved d s (Told.Up level code) = refl
 sights_moved d s (Told.Saw i) = go (hand_on (wire_in d s i))
   where
-    go : (hand : Option ℕ) → length (sights_seen d.sights (in_door d s i) hand) ≡ length d.sights
+    go : (hand : Option ℕ) → length (sights_seen d.sights (sight_door d s i) hand) ≡ length d.sights
     go None = refl
-    go (Some grip) = changed_length d.sights (λ sight. Some grip) (in_door d s i)
+    go (Some grip) = changed_length d.sights (λ sight. Some grip) (sight_door d s i)
 sights_moved d s (Told.SawEnd i) = refl
 sights_moved d s Told.SawAllEnd = refl
 sights_moved d s (Told.Took i) = refl
@@ -83,7 +83,7 @@ sights_moved d s (Told.Primed b) = refl
 sights_moved d s (Told.Opened k) = refl
 sights_moved d s (Told.Joined k code) = refl
 sights_moved d s (Told.Cut i) = refl
-sights_moved d s (Told.Ended code) = sights_without_length (inputs_of (slice_get d.doors s)) d.sights
+sights_moved d s (Told.Ended code) = sights_without_length (sights_of (slice_get d.doors s)) d.sights
 
 -- and as many members
 pub unit_moved : (d : DeskState) (s : ℕ) (seen : Seen) → length (moved d s seen).unit ≡ length d.unit
@@ -100,6 +100,10 @@ unit_moved d s (Told.Joined k code) = refl
 unit_moved d s (Told.Cut i) = refl
 unit_moved d s (Told.Ended code) = unit_length d.unit s (units.ended_with code)
 
+-- so the sights keep their numbers
+same_sight : (d : DeskState) (s : ℕ) (seen : Seen) (u i : ℕ) → sight_door (made d s seen) u i ≡ sight_door d u i
+same_sight d s seen u i = ap (λ z. joined (slice_get (sights_of (slice_get z u)) i)) (doors_moved d s seen)
+
 -- The relation
 
 -- the tables are laid for the state after a turn as they were before it
@@ -107,7 +111,9 @@ pub laid_made : (net : Net) (st after : State) (d : DeskState) (s : Who) (seen :
 laid_made net st after d s seen laid = record {
   seat_count = changed_length d.seats (seat_after seen) (Some s) ∙ laid.seat_count;
   wire_count = wires_moved d s seen ∙ laid.wire_count;
-  sight_count = sights_moved d s seen ∙ laid.sight_count;
+  sight_count = subst (λ n. n ≤ 64 * length net.strands) (sym (sights_moved d s seen)) laid.sight_count;
+  sights_there = λ u i n at. subst (λ m. n < m) (sym (sights_moved d s seen)) (laid.sights_there u i n (sym (same_sight d s seen u i) ∙ at));
+  sights_apart = λ u t i k n at to. laid.sights_apart u t i k n (sym (same_sight d s seen u i) ∙ at) (sym (same_sight d s seen t k) ∙ to);
   in_doors = λ u i. laid.in_doors u i ∙ ap (λ z. link_through net.links (joined (slice_get (inputs_of (slice_get z u)) i))) (sym (doors_moved d s seen));
   out_doors = λ u o. laid.out_doors u o ∙ ap (λ z. link_through net.links (joined (slice_get (outputs_of (slice_get z u)) o))) (sym (doors_moved d s seen));
   firsts = λ u. ap (λ z. first_of u (slice_get z u)) (doors_moved d s seen) ∙ laid.firsts u;
@@ -156,25 +162,6 @@ module _ (net : Net) (texts : ℕ → List ℕ) (st : State) (left : Left) (d : 
     | inr other ↦ at_other st s e u other ∙ kept.nobody u (sym (changed_there d.seats (seat_after (told e)) s u other) ∙ none)
   ]
 
-  unseen_made : (u : Who) (i : ℕ) → link_in net now u i ≡ None → last_seen_on i (past now u) ≡ []
-  unseen_made u i none = elim (equal_or_not u s) [
-    | inr other ↦ ap (last_seen_on i) (at_other st s e u other) ∙ kept.unseen u i none
-    | inl it ↦
-        ap (λ z. last_seen_on i (past now z)) it ∙ ap (last_seen_on i) (at_same st s e)
-        ∙ last_stays i e (past st s) (not_there e refl (ap (λ z. link_in net st z i) (sym it) ∙ none)) ∙ kept.unseen s i (ap (λ z. link_in net st z i) (sym it) ∙ none)
-  ]
-    where
-      looked : (i' : ℕ) (rec : List ℕ) → e ≡ Saw i' rec → link_in net st s i ≡ None → (b : Bool) → (i' == i) ≡ b → (i' == i) ≡ false
-      looked i' rec is none false test = test
-      looked i' rec is none true test =
-          let hand : at_hand net st left (link_in net st s i') ≡ Some rec = saw_it net st left s k i' rec (may ∙ ap Some is) in
-          let no : None ≡ Some rec = ap (at_hand net st left) (sym none) ∙ ap (λ z. at_hand net st left (link_in net st s z)) (sym (eqb-true i' i test)) ∙ hand in
-          cc
-
-      not_there : (f : Event) → e ≡ f → link_in net st s i ≡ None → looks_at i f ≡ false
-      not_there (Saw i' rec) is none = looked i' rec is none (i' == i) refl
-      not_there _ is none = refl
-
   early_made : (u : Who) (level : ℤ) → want_at net now out u ≡ Some (Commit level) → IsLevel level
   early_made u level wants = elim (equal_or_not u s) [
     | inl it ↦ let no : None ≡ Some (Commit level) = sym (ap (want_at net now out) it ∙ want_here net st left s k e may) ∙ wants in cc
@@ -189,8 +176,7 @@ kept_made net texts st left d s k e formed kept may = record {
   seats = seats_made net texts st left d s k e kept may;
   nobody = nobody_made net texts st left d s k e kept may;
   wires = wires_made net texts st left s k e may formed d kept;
-  sights = sights_made net texts st left s k e may formed d kept;
-  unseen = unseen_made net texts st left d s k e kept may;
+  sights = λ u i. subst (λ z. IsSight texts (with_event st s e) u i (sight_through (moved d s (told e)).sights z)) (sym (same_sight d s (told e) u i)) (sights_made net texts st left s k e may d kept u i);
   member_count = unit_moved d s (told e) ∙ kept.member_count;
   members = members_made net texts st left s k e may d kept;
   early = early_made net texts st left d s k e kept may;

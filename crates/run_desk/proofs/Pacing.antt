@@ -22,7 +22,7 @@ use Rattle.stage_steps.specs.Coroutine.{told}
 use Rattle.confluence_laws.proofs.Basics.{at_same, at_other, not_ended, took_asked}
 use Rattle.confluence_laws.proofs.Owns.{answer_fits, sight_before}
 use Rattle.confluence_laws.proofs.Fitting.{wants_take}
-use Rattle.record_pool.specs.declared.pool.Held.{Held}
+use Rattle.record_pool.specs.PoolState.{PoolState}
 use Rattle.connectors.specs.WireState.{WireState, IsPaced, at_hand, taken, settled, cleared}
 use Rattle.run_desk.specs.declared.seat.Ask.TheVariants as Now
 use Rattle.run_desk.specs.Desk.{DeskState}
@@ -332,15 +332,15 @@ module _ (d new : DeskState) (st : State) (s : Who) (pacing : IsPacing st d) whe
           ]
 
 -- a strand that comes home keeps the pace
-pub pacing_home : (d new : DeskState) (st : State) (places after : List (Option Held)) (s : Who) (w : Coming) → IsPacing st d → CanCome d places s w → HasCome d places s w new after → IsPacing st new
-pacing_home d new st places after s (come.Write o out) pacing can came = pacing_offer d new st s pacing o came.0 can.0 came.2
-pacing_home d new st places after s (come.Commit level) pacing can came = pacing_plain d new st s pacing (come.Commit level) came.0
-pacing_home d new st places after s (come.Read i) pacing can came = pacing_plain d new st s pacing (come.Read i) came.0
-pacing_home d new st places after s come.Any pacing can came = pacing_plain d new st s pacing come.Any came.0
-pacing_home d new st places after s come.Gate pacing can came = pacing_plain d new st s pacing come.Gate came.0
-pacing_home d new st places after s (come.Take i) pacing can came = pacing_plain d new st s pacing (come.Take i) came.0
-pacing_home d new st places after s come.Primed pacing can came = pacing_plain d new st s pacing come.Primed came.0
-pacing_home d new st places after s (come.Issue text) pacing can came = pacing_plain d new st s pacing (come.Issue text) came.0
-pacing_home d new st places after s (come.Join u) pacing can came = pacing_plain d new st s pacing (come.Join u) came.0
-pacing_home d new st places after s (come.Cut i) pacing can came = pacing_plain d new st s pacing (come.Cut i) came.0
-pacing_home d new st places after s (come.Done code) pacing can came = pacing_plain d new st s pacing (come.Done code) came.0
+pub pacing_home : (d new : DeskState) (st : State) (pool after : PoolState) (s : Who) (w : Coming) → IsPacing st d → CanCome d pool s w → HasCome d pool s w new after → IsPacing st new
+pacing_home d new st pool after s (come.Write o out) pacing can came = pacing_offer d new st s pacing o came.0 can.0 came.2
+pacing_home d new st pool after s (come.Commit level) pacing can came = pacing_plain d new st s pacing (come.Commit level) came.0
+pacing_home d new st pool after s (come.Read i) pacing can came = pacing_plain d new st s pacing (come.Read i) came.0
+pacing_home d new st pool after s come.Any pacing can came = pacing_plain d new st s pacing come.Any came.0
+pacing_home d new st pool after s come.Gate pacing can came = pacing_plain d new st s pacing come.Gate came.0
+pacing_home d new st pool after s (come.Take i) pacing can came = pacing_plain d new st s pacing (come.Take i) came.0
+pacing_home d new st pool after s come.Primed pacing can came = pacing_plain d new st s pacing come.Primed came.0
+pacing_home d new st pool after s (come.Issue text) pacing can came = pacing_plain d new st s pacing (come.Issue text) came.0
+pacing_home d new st pool after s (come.Join u) pacing can came = pacing_plain d new st s pacing (come.Join u) came.0
+pacing_home d new st pool after s (come.Cut i) pacing can came = pacing_plain d new st s pacing (come.Cut i) came.0
+pacing_home d new st pool after s (come.Done code) pacing can came = pacing_plain d new st s pacing (come.Done code) came.0

@@ -8,9 +8,9 @@ use Rattle.pipe_model.specs.Next.{next, IsOwn}
 use Rattle.pipe_model.specs.State.{Who, State, past, with_event, strand_at}
 use Rattle.pipe_model.specs.Licence.{Left, licence}
 use Rattle.pipe_model.specs.WellFormed.{IsWellFormed}
-use Rattle.record_pool.specs.declared.pool.Held.{Held}
+use Rattle.record_pool.specs.PoolState.{PoolState}
 use Rattle.record_pool.specs.Places.{bytes_at}
-use Rattle.stage_steps.specs.Coroutine.{told, meaning, last_seen}
+use Rattle.stage_steps.specs.Coroutine.{told, meaning, last_seen, IsSeenBefore}
 use Rattle.run_desk.specs.Desk.{DeskState}
 use Rattle.run_desk.specs.Kept.{left_out, left_in}
 use Rattle.run_desk.specs.Moves.{made, pool_moved, CanMove, CanCome, HasCome}
@@ -23,32 +23,32 @@ use Rattle.run_desk.proofs.Pacing.{pacing_made, pacing_home}
 use Rattle.run_desk.proofs.Conditions.{can_move}
 use Rattle.run_desk.proofs.Comings.{can_come}
 
-module _ (net : Net) (st : State) (left : Left) (d : DeskState) (places : List (Option Held)) (formed : IsWellFormed net) (own : (t : Who) (q : Strand) → strand_at net st t ≡ Some q → IsOwn q (past st t)) (few : length net.links < 2147483648) (run : IsRun net st left d places) where
+module _ (net : Net) (st : State) (left : Left) (d : DeskState) (pool : PoolState) (formed : IsWellFormed net) (own : (t : Who) (q : Strand) → strand_at net st t ≡ Some q → IsOwn q (past st t)) (few : length net.links < 2147483648) (run : IsRun net st left d pool) where
   -- an event that may be can be made, and what is kept is kept of the state after it
   module _ (short : (t : Who) → length (past st t) < 18446744073709551615) (s : Who) (k : ℕ) (e : Event) (may : licence net st left s k ≡ Some e) where
-    pub run_can : CanMove d places s (told e)
-    run_can = can_move net st left d places s k e formed own few short run may
+    pub run_can : CanMove d pool s (told e)
+    run_can = can_move net st left d pool s k e formed own few short run may
 
-    pub run_made : IsRun net (with_event st s e) (left_out left s) (made d s (told e)) (pool_moved d places s (told e))
+    pub run_made : IsRun net (with_event st s e) (left_out left s) (made d s (told e)) (pool_moved d pool s (told e))
     run_made = record {
-      kept = retext net (bytes_at places) (bytes_at (pool_moved d places s (told e))) (with_event st s e) (left_out left s) (made d s (told e))
-          (kept_made net (bytes_at places) st left d s k e formed run.kept may) (texts_made d places s (told e) run.pooled run_can);
-      pooled = pooled_made d places s (told e) run.pooled run_can;
-      pacing = pacing_made net (bytes_at places) st left d s k e formed own run.kept run.pacing may;
+      kept = retext net (bytes_at pool) (bytes_at (pool_moved d pool s (told e))) (with_event st s e) (left_out left s) (made d s (told e))
+          (kept_made net (bytes_at pool) st left d s k e formed run.kept may) (texts_made d pool s (told e) run.pooled run_can);
+      pooled = pooled_made d pool s (told e) run.pooled run_can;
+      pacing = pacing_made net (bytes_at pool) st left d s k e formed own run.kept run.pacing may;
     }
 
   -- a strand that is out and hasn't ended can come home with what it wants, and what is kept is kept of all but it out
-  module _ (s : Who) (strand : Strand) (w : Want) (out : left s ≡ true) (there : strand_at net st s ≡ Some strand) (going : has_ended (past st s) ≡ false) (means : Some (meaning w (last_seen (past st s))) ≡ next strand (past st s)) where
-    pub run_can_come : CanCome d places s w
-    run_can_come = can_come net st left d places s strand w formed own few run out there going means
+  module _ (s : Who) (strand : Strand) (w : Want) (out : left s ≡ true) (there : strand_at net st s ≡ Some strand) (going : has_ended (past st s) ≡ false) (means : Some (meaning w (last_seen (past st s))) ≡ next strand (past st s)) (seen : IsSeenBefore w (past st s)) where
+    pub run_can_come : CanCome d pool s w
+    run_can_come = can_come net st left d pool s strand w formed own few run out there going means seen
 
-    pub run_home : (d' : DeskState) (after : List (Option Held)) → HasCome d places s w d' after → IsRun net st (left_in left s) d' after
+    pub run_home : (d' : DeskState) (after : PoolState) → HasCome d pool s w d' after → IsRun net st (left_in left s) d' after
     run_home d' after come = record {
-      kept = kept_home net st left d d' places after s strand w formed own run.kept run.pooled out there going means run_can_come come;
-      pooled = pooled_home d d' places after s w run.pooled run_can_come come;
-      pacing = pacing_home d d' st places after s w run.pacing run_can_come come;
+      kept = kept_home net st left d d' pool after s strand w formed own run.kept run.pooled out there going means run_can_come come;
+      pooled = pooled_home d d' pool after s w run.pooled run_can_come come;
+      pacing = pacing_home d d' st pool after s w run.pacing run_can_come come;
     }
 
   -- a strand that has ended comes home to the same desk
-  pub run_gone : (s : Who) → has_ended (past st s) ≡ true → IsRun net st (left_in left s) d places
-  run_gone s ended = record { kept = kept_gone net (bytes_at places) st left d s run.kept ended; pooled = run.pooled; pacing = run.pacing }
+  pub run_gone : (s : Who) → has_ended (past st s) ≡ true → IsRun net st (left_in left s) d pool
+  run_gone s ended = record { kept = kept_gone net (bytes_at pool) st left d s run.kept ended; pooled = run.pooled; pacing = run.pacing }

@@ -20,7 +20,7 @@ use Rattle.pipe_model.proofs.Numbers.{test_same}
 use Rattle.pipe_model.proofs.Lists.{found_at, finds, all_at, beside, all_from}
 use Rattle.commit_levels.specs.UnitState.{IsLevel}
 use Rattle.commit_levels.specs.UnitState as levels
-use Rattle.commit_levels.proofs.Agreement.{answers_by_number}
+use Rattle.commit_levels.proofs.Agreement.{answers_as}
 use Rattle.connectors.specs.WireState.{WireState}
 use Rattle.run_desk.specs.declared.seat.Seat.{Seat}
 use Rattle.run_desk.specs.Desk.{DeskState}
@@ -156,7 +156,7 @@ module _ (net : Net) (texts : ℕ → List ℕ) (st : State) (left : Left) (d : 
   -- Commit levels and DAM
 
   code_is : (s : Who) (l : ℤ) → IsLevel l → Pure.level_code d l ≡ level_of net st left s l
-  code_is s l is = ap (λ b. cond b (levels.answer d.unit l) None) (level_test l is) ∙ answers_by_number net st left s d.unit l is kept.member_count kept.members
+  code_is s l is = ap (λ b. cond b (levels.answer d.unit l) None) (level_test l is) ∙ answers_as net st left s d.unit l is (record { count = kept.member_count; each = kept.members })
 
   primed_is : (s : Who) → Pure.primed_at d s ≡ primed_by (past st (first_part net st s))
   primed_is s = ap (λ z. Pure.primed_of (slice_get d.seats z)) (kept.laid.firsts s) ∙ go (first_part net st s) (slice_get d.seats (first_part net st s)) refl

@@ -1,27 +1,27 @@
 -- The sights of a desk after a turn hold what was seen last.
-use Rattle.std.proofs.Common.{◌≡◌, ◌≢◌, ◌⊎◌, inl, inr, ℕ, ℤ, ◌<◌, Bool, true, false, cond, ◌&&◌, ◌==◌, List, ◌∷◌, refl, sym, ◌∙◌, ap, subst, Option, Some, None, slice_get}
-use Rattle.std.proofs.lemmas.Bool.{eqb-true, ne_eqb}
+use Rattle.std.proofs.Common.{◌≡◌, ◌≢◌, ◌⊎◌, inl, inr, ℕ, ℤ, ◌<◌, Bool, true, false, cond, ◌&&◌, ◌==◌, List, ◌∷◌, length, refl, sym, ◌∙◌, ap, subst, Option, Some, None, slice_get}
+use Rattle.std.specs.Option.{option_map}
+use Rattle.std.proofs.lemmas.Bool.{ne_eqb}
 use Rattle.std.proofs.lemmas.Option.{slice_get_within}
 use Rattle.pipe_model.specs.declared.net.Net.{Net}
 use Rattle.pipe_model.specs.declared.net.Link.{Link}
-use Rattle.pipe_model.specs.Event.{Event, records_on, last_seen_on, has_ended}
+use Rattle.pipe_model.specs.Event.{Event, records_on, has_ended}
 use Rattle.pipe_model.specs.Event.Event.{Up, Saw, SawEnd, SawAllEnd, Took, Put, Refused, Primed, Opened, Joined, Severed, Ended}
-use Rattle.pipe_model.specs.State.{Who, State, past, same, with_event, link_in}
+use Rattle.pipe_model.specs.State.{Who, State, past, with_event, link_in}
 use Rattle.pipe_model.specs.Licence.{Left, want_at, offered, is_level, puts, tooks, at_hand, licence}
-use Rattle.pipe_model.specs.WellFormed.{IsWellFormed}
-use Rattle.pipe_model.proofs.Truths.{cond_some, both}
+use Rattle.pipe_model.proofs.Truths.{cond_some}
 use Rattle.pipe_model.proofs.Numbers.{equal_or_not, test_same}
 use Rattle.pipe_model.proofs.Lists.{at_some}
 use Rattle.confluence_laws.proofs.Basics.{at_same, at_other}
 use Rattle.confluence_laws.proofs.Reached.{saw_it}
-use Rattle.stage_steps.specs.Coroutine.{told}
+use Rattle.stage_steps.specs.Coroutine.{told, record_seen_on}
 use Rattle.connectors.specs.WireState.{WireState}
 use Rattle.run_desk.specs.Desk.{DeskState}
-use Rattle.run_desk.specs.Pure.{through, wire_in, inputs_of, in_door}
-use Rattle.run_desk.specs.Kept.{IsWire, IsSight, IsKept, link_through}
-use Rattle.run_desk.specs.Moves.{hand_on, sights_seen, sights_without, ends, moved}
-use Rattle.run_desk.proofs.Lists.{leads, leads_any, changed_back, sights_without_back, map_back}
-use Rattle.run_desk.proofs.Leads.{in_leads, inputs_lead}
+use Rattle.run_desk.specs.Pure.{joined, through, wire_in, in_door, sights_of, sight_door, sight_through}
+use Rattle.run_desk.specs.Kept.{IsWire, IsSight, IsLaid, IsKept, link_through}
+use Rattle.run_desk.specs.Moves.{changed, hand_on, sights_seen, sights_without, ends, moved}
+use Rattle.run_desk.proofs.Lists.{changed_here, map_back}
+use Rattle.run_desk.proofs.SightDoors.{has_sight, through_changed, through_without}
 use Rattle.run_desk.proofs.Events.{looks_at, last_stays, ended_stays}
 
 -- the record at hand on a wire is the one that is at hand on its link
@@ -34,6 +34,14 @@ hand_of net texts st left l w rec is plain hand =
     let even : (w.puts == w.tooks) ≡ true = ap (λ z. z == w.tooks) is.puts ∙ ap (λ z. puts st l == z) is.tooks ∙ level.0 in
     let g = map_back texts w.offer rec (is.offer ∙ level.1) in
     (g.0, ap (λ b. cond b w.offer None) even ∙ g.1, sym g.2)
+
+-- an input with a record at hand has a sight
+pub sight_of_hand : (net : Net) (st : State) (d : DeskState) → IsLaid net st d → (s : Who) (i grip : ℕ) → hand_on (wire_in d s i) ≡ Some grip → (m : ℕ) × (sight_door d s i ≡ Some m) × (m < length d.sights)
+sight_of_hand net st d laid s i grip hand = by_door (in_door d s i) refl hand
+  where
+    by_door : (x : Option ℕ) → in_door d s i ≡ x → hand_on (through d.wires x) ≡ Some grip → (m : ℕ) × (sight_door d s i ≡ Some m) × (m < length d.sights)
+    by_door None door hand = cc
+    by_door (Some j) door hand = let there = has_sight (slice_get d.doors s) i j door in (there.0, there.1, laid.sights_there s i there.0 there.1)
 
 module _ (net : Net) (texts : ℕ → List ℕ) (st : State) (left : Left) (d : DeskState) (kept : IsKept net texts st left d) where
   -- the wire behind an input with a record at hand shows it
@@ -63,70 +71,79 @@ module _ (net : Net) (texts : ℕ → List ℕ) (st : State) (left : Left) (s : 
   ]
 
   -- a sight that the event leaves alone
-  still : (l : Link) (sight : Option ℕ) → IsSight texts st l sight → (l.to ≡ s → (ends (told e) ≡ false) × (looks_at l.input e ≡ false)) → IsSight texts now l sight
-  still l sight is off going = is (went_on l.to going (λ it. (off it).0)) ∙ elim (equal_or_not l.to s) [
-    | inr other ↦ ap (last_seen_on l.input) (sym (at_other st s e l.to other))
+  still : (u : Who) (n : ℕ) (sight : Option ℕ) → IsSight texts st u n sight → (u ≡ s → (ends (told e) ≡ false) × (looks_at n e ≡ false)) → IsSight texts now u n sight
+  still u n sight is off going = is (went_on u going (λ it. (off it).0)) ∙ elim (equal_or_not u s) [
+    | inr other ↦ ap (record_seen_on n) (sym (at_other st s e u other))
     | inl it ↦
-        ap (λ z. last_seen_on l.input (past st z)) it ∙ sym (last_stays l.input e (past st s) (off it).1)
-        ∙ ap (last_seen_on l.input) (sym (at_same st s e)) ∙ ap (λ z. last_seen_on l.input (past now z)) (sym it)
+        ap (λ z. record_seen_on n (past st z)) it ∙ sym (last_stays n e (past st s) (off it).1)
+        ∙ ap (record_seen_on n) (sym (at_same st s e)) ∙ ap (λ z. record_seen_on n (past now z)) (sym it)
   ]
 
-  module _ (formed : IsWellFormed net) (d : DeskState) (kept : IsKept net texts st left d) where
+  module _ (d : DeskState) (kept : IsKept net texts st left d) where
+    abbrev sight : Who → ℕ → Option ℕ
+    sight u n = sight_through d.sights (sight_door d u n)
+
     -- after a look, the sight of the input is the record at hand
-    at_look : (i : ℕ) (rec : List ℕ) → e ≡ Saw i rec → (j : ℕ) (l : Link) (sight : Option ℕ) → slice_get net.links j ≡ Some l →
-        slice_get (sights_seen d.sights (in_door d s i) (hand_on (wire_in d s i))) j ≡ Some sight → IsSight texts now l sight
-    at_look i rec is j l sight at got = subst (IsSight texts now l) (sym before.2) (by (leads j (in_door d s i)) (in_leads net formed st d kept.laid s i j l at))
+    at_look : (i : ℕ) (rec : List ℕ) → e ≡ Saw i rec → (u : Who) (n : ℕ) →
+        IsSight texts now u n (sight_through (sights_seen d.sights (sight_door d s i) (hand_on (wire_in d s i))) (sight_door d u n))
+    at_look i rec is u n = subst (λ z. IsSight texts now u n (sight_through (sights_seen d.sights (sight_door d s i) z) (sight_door d u n))) (sym hand.1)
+        (subst (λ z. IsSight texts now u n (sight_through (changed d.sights looked z) (sight_door d u n))) (sym place.1) (by (equal_or_not u s) (equal_or_not n i)))
       where
         hand : (grip : ℕ) × (hand_on (wire_in d s i) ≡ Some grip) × (texts grip ≡ rec)
         hand = shows_it net texts st left d kept s i rec (saw_it net st left s k i rec (may ∙ ap Some is))
 
-        before : (x : Option ℕ) × (slice_get d.sights j ≡ Some x) × (sight ≡ cond (leads j (in_door d s i)) (Some hand.0) x)
-        before = changed_back d.sights (λ x. Some hand.0) (in_door d s i) j sight (ap (λ z. slice_get (sights_seen d.sights (in_door d s i) z) j) (sym hand.1) ∙ got)
+        place : (m : ℕ) × (sight_door d s i ≡ Some m) × (m < length d.sights)
+        place = sight_of_hand net st d kept.laid s i hand.0 hand.1
 
-        by : (b : Bool) → b ≡ (same l.to s && (l.input == i)) → IsSight texts now l (cond b (Some hand.0) before.0)
-        by true test going =
-            let m = both (same l.to s) (l.input == i) (sym test) in
-            hand.2 ∙ sym (ap (λ z. last_seen_on l.input (past now z)) (eqb-true l.to s m.0) ∙ ap (last_seen_on l.input) (at_same st s e) ∙ ap (λ x. last_seen_on l.input (x ∷ past st s)) is
-            ∙ ap (λ b. cond b rec (last_seen_on l.input (past st s))) (ap (λ z. i == z) (eqb-true l.input i m.1) ∙ test_same i))
-        by false test going = still l before.0 (kept.sights j l before.0 at before.1) (λ it. (ap (λ x. ends (told x)) is, ap (looks_at l.input) is ∙ ne_eqb i l.input (λ q. apart it (sym q)))) going
-          where
-            apart : l.to ≡ s → l.input ≢ i
-            apart p q = let no : false ≡ true = test ∙ ap (λ z. same z s && (l.input == i)) p ∙ ap (λ b. b && (l.input == i)) (test_same s) ∙ ap (λ z. z == i) q ∙ test_same i in cc
+        looked : Option ℕ → Option ℕ
+        looked old = Some hand.0
+
+        elsewhere : ((u ≡ s) × (n ≡ i) → ⊥) → sight_door d u n ≢ Some place.0
+        elsewhere apart to = apart (kept.laid.sights_apart u s n i place.0 to place.1)
+
+        others : ((u ≡ s) × (n ≡ i) → ⊥) → (u ≡ s → looks_at n e ≡ false) → IsSight texts now u n (sight_through (changed d.sights looked (Some place.0)) (sight_door d u n))
+        others apart off = subst (IsSight texts now u n) (sym (through_changed d.sights looked place.0 (sight_door d u n) (elsewhere apart)))
+            (still u n (sight u n) (kept.sights u n) (λ it. (ap (λ x. ends (told x)) is, off it)))
+
+        by : (u ≡ s) ⊎ (u ≢ s) → (n ≡ i) ⊎ (n ≢ i) → IsSight texts now u n (sight_through (changed d.sights looked (Some place.0)) (sight_door d u n))
+        by (inl it) (inl too) going =
+            let old = at_some d.sights place.0 place.2 in
+            let to : sight_door d u n ≡ Some place.0 = ap (λ z. sight_door d z n) it ∙ ap (sight_door d s) too ∙ place.1 in
+            let held : sight_through (changed d.sights looked (Some place.0)) (sight_door d u n) ≡ Some hand.0 =
+            ap (sight_through (changed d.sights looked (Some place.0))) to ∙ ap joined (changed_here d.sights looked place.0 ∙ ap (option_map looked) old.1) in
+            ap (option_map texts) held ∙ ap Some hand.2
+            ∙ sym (ap (λ z. record_seen_on n (past now z)) it ∙ ap (record_seen_on n) (at_same st s e) ∙ ap (λ x. record_seen_on n (x ∷ past st s)) is
+            ∙ ap (λ b. cond b (Some rec) (record_seen_on n (past st s))) (ap (λ z. i == z) too ∙ test_same i))
+        by (inl it) (inr apart) going = others (λ both. apart both.1) (λ same. ap (looks_at n) is ∙ ne_eqb i n (λ q. apart (sym q))) going
+        by (inr other) which going = others (λ both. other both.0) (λ same. absurd (other same)) going
 
     -- at the end the strand's own sights are given back, and the others stay
-    at_end : (code : ℤ) → e ≡ Ended code → (j : ℕ) (l : Link) (sight : Option ℕ) → slice_get net.links j ≡ Some l →
-        slice_get (sights_without (inputs_of (slice_get d.doors s)) d.sights) j ≡ Some sight → IsSight texts now l sight
-    at_end code is j l sight at got = by (equal_or_not l.to s)
+    at_end : (code : ℤ) → e ≡ Ended code → (u : Who) (n : ℕ) → IsSight texts now u n (sight_through (sights_without (sights_of (slice_get d.doors s)) d.sights) (sight_door d u n))
+    at_end code is u n = by (equal_or_not u s)
       where
-        doors : List (Option ℕ)
-        doors = inputs_of (slice_get d.doors s)
-
-        before : (x : Option ℕ) × (slice_get d.sights j ≡ Some x) × (sight ≡ cond (leads_any j doors) None x)
-        before = sights_without_back doors d.sights j sight got
-
-        by : (l.to ≡ s) ⊎ (l.to ≢ s) → IsSight texts now l sight
+        by : (u ≡ s) ⊎ (u ≢ s) → IsSight texts now u n (sight_through (sights_without (sights_of (slice_get d.doors s)) d.sights) (sight_door d u n))
         by (inl it) going = let no : true ≡ false = sym (ap (λ z. has_ended (past now z)) it ∙ ap has_ended (at_same st s e) ∙ ap (λ x. has_ended (x ∷ past st s)) is) ∙ going in cc
-        by (inr other) going =
-            let off : leads_any j doors ≡ false = inputs_lead net formed st d kept.laid s j l at ∙ ne_eqb l.to s other in
-            subst (IsSight texts now l) (sym (before.2 ∙ ap (λ b. cond b None before.0) off)) (still l before.0 (kept.sights j l before.0 at before.1) (λ it. absurd (other it))) going
+        by (inr other) going = subst (IsSight texts now u n)
+            (sym (through_without (sights_of (slice_get d.doors s)) d.sights (sight_door d u n) (λ i m at to. other (kept.laid.sights_apart u s n i m to at).0)))
+            (still u n (sight u n) (kept.sights u n) (λ it. absurd (other it))) going
 
-    -- each sight is what its link's consumer saw last
-    pub sights_made : (j : ℕ) (l : Link) (sight : Option ℕ) → slice_get net.links j ≡ Some l → slice_get (moved d s (told e)).sights j ≡ Some sight → IsSight texts now l sight
-    sights_made j l sight at got = by e refl got
+    -- each sight is what the strand saw last on the input
+    pub sights_made : (u : Who) (n : ℕ) → IsSight texts now u n (sight_through (moved d s (told e)).sights (sight_door d u n))
+    sights_made u n = by e refl
       where
-        alone : (f : Event) → e ≡ f → ends (told f) ≡ false → ((i : ℕ) → looks_at i f ≡ false) → slice_get d.sights j ≡ Some sight → IsSight texts now l sight
-        alone f is quiet off got = still l sight (kept.sights j l sight at got) (λ it. (ap (λ x. ends (told x)) is ∙ quiet, ap (looks_at l.input) is ∙ off l.input))
+        alone : (f : Event) → e ≡ f → ends (told f) ≡ false → ((i : ℕ) → looks_at i f ≡ false) → IsSight texts now u n (sight u n)
+        alone f is quiet off = still u n (sight u n) (kept.sights u n) (λ it. (ap (λ x. ends (told x)) is ∙ quiet, ap (looks_at n) is ∙ off n))
 
-        by : (f : Event) → e ≡ f → slice_get (moved d s (told f)).sights j ≡ Some sight → IsSight texts now l sight
-        by (Saw i rec) is got = at_look i rec is j l sight at got
-        by (Ended code) is got = at_end code is j l sight at got
-        by (Put o rec) is got = alone (Put o rec) is refl (λ i. refl) got
-        by (Refused o) is got = alone (Refused o) is refl (λ i. refl) got
-        by (Took i) is got = alone (Took i) is refl (λ n. refl) got
-        by (Up level code) is got = alone (Up level code) is refl (λ i. refl) got
-        by (SawEnd i) is got = alone (SawEnd i) is refl (λ n. refl) got
-        by SawAllEnd is got = alone SawAllEnd is refl (λ i. refl) got
-        by (Primed b) is got = alone (Primed b) is refl (λ i. refl) got
-        by (Opened n) is got = alone (Opened n) is refl (λ i. refl) got
-        by (Joined n code) is got = alone (Joined n code) is refl (λ i. refl) got
-        by (Severed i) is got = alone (Severed i) is refl (λ n. refl) got
+        by : (f : Event) → e ≡ f → IsSight texts now u n (sight_through (moved d s (told f)).sights (sight_door d u n))
+        by (Saw i rec) is = at_look i rec is u n
+        by (Ended code) is = at_end code is u n
+        by (Put o rec) is = alone (Put o rec) is refl (λ i. refl)
+        by (Refused o) is = alone (Refused o) is refl (λ i. refl)
+        by (Took i) is = alone (Took i) is refl (λ n. refl)
+        by (Up level code) is = alone (Up level code) is refl (λ i. refl)
+        by (SawEnd i) is = alone (SawEnd i) is refl (λ n. refl)
+        by SawAllEnd is = alone SawAllEnd is refl (λ i. refl)
+        by (Primed b) is = alone (Primed b) is refl (λ i. refl)
+        by (Opened n) is = alone (Opened n) is refl (λ i. refl)
+        by (Joined n code) is = alone (Joined n code) is refl (λ i. refl)
+        by (Severed i) is = alone (Severed i) is refl (λ n. refl)

@@ -1,6 +1,6 @@
 -- A desk speaks only of the records that its offers and sights hold.
 use Rattle.std.proofs.Common.{◌≡◌, ℕ, ◌<◌, List, [], refl, ◌∙◌, ap, arith, Option, Some, None, slice_get}
-use Rattle.std.specs.Option.{option_map, option_map_or}
+use Rattle.std.specs.Option.{option_map}
 use Rattle.pipe_model.specs.declared.net.Net.{Net}
 use Rattle.pipe_model.specs.declared.net.Link.{Link}
 use Rattle.pipe_model.specs.State.{State}
@@ -8,6 +8,7 @@ use Rattle.pipe_model.specs.Licence.{Left}
 use Rattle.pipe_model.proofs.Numbers.{test_same}
 use Rattle.connectors.specs.WireState.{WireState}
 use Rattle.run_desk.specs.Desk.{DeskState}
+use Rattle.run_desk.specs.Pure.{joined, sight_door, sight_through}
 use Rattle.run_desk.specs.Kept.{IsWire, IsKept}
 use Rattle.run_desk.specs.Order.{holds, offer_holds, holds_of}
 use Rattle.run_desk.proofs.Counts.{count_some}
@@ -19,18 +20,19 @@ offer_held wires sights j grip wire at is =
     omega (arith, counted)
 
 -- and so is what a sight holds
-pub sight_held : (wires : List WireState) (sights : List (Option ℕ)) (j grip : ℕ) → slice_get sights j ≡ Some (Some grip) → 0 < holds_of wires sights grip
-sight_held wires sights j grip at =
-    let counted = count_some (holds grip) sights j (Some grip) at (test_same grip) in
-    omega (arith, counted)
+pub sight_held : (wires : List WireState) (sights : List (Option ℕ)) (door : Option ℕ) (grip : ℕ) → sight_through sights door ≡ Some grip → 0 < holds_of wires sights grip
+sight_held wires sights None grip is = cc
+sight_held wires sights (Some n) grip is = by_sight (slice_get sights n) refl is
+  where
+    by_sight : (x : Option (Option ℕ)) → slice_get sights n ≡ x → joined x ≡ Some grip → 0 < holds_of wires sights grip
+    by_sight None at is = cc
+    by_sight (Some sight) at is =
+        let counted = count_some (holds grip) sights n sight at (ap (holds grip) is ∙ test_same grip) in
+        omega (arith, counted)
 
 same_text : (texts texts' : ℕ → List ℕ) (x : Option ℕ) → ((grip : ℕ) → x ≡ Some grip → texts' grip ≡ texts grip) → option_map texts' x ≡ option_map texts x
 same_text texts texts' None same = refl
 same_text texts texts' (Some grip) same = ap Some (same grip refl)
-
-same_sight : (texts texts' : ℕ → List ℕ) (x : Option ℕ) → ((grip : ℕ) → x ≡ Some grip → texts' grip ≡ texts grip) → option_map_or texts' x [] ≡ option_map_or texts x []
-same_sight texts texts' None same = refl
-same_sight texts texts' (Some grip) same = same grip refl
 
 -- where the records that are held are the same, the desk stands as before
 pub retext : (net : Net) (texts texts' : ℕ → List ℕ) (st : State) (left : Left) (d : DeskState) → IsKept net texts st left d →
@@ -40,9 +42,8 @@ retext net texts texts' st left d kept same = record {
   seats = kept.seats;
   nobody = kept.nobody;
   wires = wires;
-  sights = λ j link sight at got going.
-      same_sight texts texts' sight (λ grip is. same grip (sight_held d.wires d.sights j grip (got ∙ ap Some is))) ∙ kept.sights j link sight at got going;
-  unseen = kept.unseen;
+  sights = λ s i going.
+      same_text texts texts' (sight_through d.sights (sight_door d s i)) (λ grip is. same grip (sight_held d.wires d.sights (sight_door d s i) grip is)) ∙ kept.sights s i going;
   member_count = kept.member_count;
   members = kept.members;
   early = kept.early;

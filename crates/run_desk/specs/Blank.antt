@@ -1,5 +1,5 @@
 -- The desk of a net before the first step.
-use Rattle.std.specs.Prelude.{ℕ, suc, ◌-◌, false, List, [], ◌∷◌, replicate, length, Some, None}
+use Rattle.std.specs.Prelude.{ℕ, suc, ◌+◌, ◌-◌, false, List, [], ◌∷◌, replicate, length, Some, None}
 use Rattle.pipe_model.specs.declared.net.Net.{Net}
 use Rattle.pipe_model.specs.declared.net.Link.{Link}
 use Rattle.pipe_model.specs.declared.net.Strand.{Strand}
@@ -14,14 +14,19 @@ use Rattle.run_desk.specs.Moves.{changed}
 abbrev pub new_seat : Seat
 new_seat = record { ask = Nothing; has_ended = false; has_seen = false }
 
--- the doors of a strand where none leads anywhere yet
-abbrev pub closed_doors : ℕ → Strand → DoorsState
-closed_doors s strand = record { inputs = replicate strand.ports.inputs None; outputs = replicate strand.ports.outputs None; first = s - strand.part }
+-- the doors of a strand where none leads anywhere yet, and whose sights count from n
+abbrev pub closed_doors : ℕ → ℕ → Strand → DoorsState
+closed_doors s n strand = record { inputs = replicate strand.ports.inputs None; outputs = replicate strand.ports.outputs None; first = s - strand.part; first_sight = n }
 
--- and those of these strands, which count from s
-abbrev pub doors_from : ℕ → List Strand → List DoorsState
-doors_from s [] = []
-doors_from s (strand ∷ strands) = closed_doors s strand ∷ doors_from (suc s) strands
+-- and those of these strands, which count from s, as their sights do from n
+abbrev pub doors_from : ℕ → ℕ → List Strand → List DoorsState
+doors_from s n [] = []
+doors_from s n (strand ∷ strands) = closed_doors s n strand ∷ doors_from (suc s) (n + strand.ports.inputs) strands
+
+-- how many inputs these strands have
+abbrev pub inputs_in : List Strand → ℕ
+inputs_in [] = 0
+inputs_in (strand ∷ strands) = strand.ports.inputs + inputs_in strands
 
 -- the doors, where an input leads to a link
 abbrev pub led_in : ℕ → ℕ → DoorsState → DoorsState
@@ -45,7 +50,7 @@ abbrev pub blank_desk : Net → DeskState
 blank_desk net = record {
   seats = replicate (length net.strands) new_seat;
   wires = replicate (length net.links) new_wire;
-  sights = replicate (length net.links) None;
-  doors = with_links (doors_from 0 net.strands) 0 net.links;
+  sights = replicate (inputs_in net.strands) None;
+  doors = with_links (doors_from 0 0 net.strands) 0 net.links;
   unit = new_unit (length net.strands);
 }

@@ -1,20 +1,21 @@
 -- For which net, state and strands left out a desk stands.
-use Rattle.std.specs.Prelude.{◌≡◌, ℕ, true, false, if◌then◌else◌, List, [], ℤ, slice_get, length, Option, Some, None}
-use Rattle.std.specs.Option.{option_map, option_map_or}
+use Rattle.std.specs.Prelude.{◌≡◌, ◌<◌, ◌≤◌, ◌*◌, ℕ, true, false, if◌then◌else◌, List, [], ℤ, slice_get, length, Option, Some, None}
+use Rattle.std.specs.Option.{option_map}
 use Rattle.pipe_model.specs.declared.net.Net.{Net}
 use Rattle.pipe_model.specs.declared.net.Link.{Link}
-use Rattle.pipe_model.specs.Event.{Want, has_ended, has_seen, last_seen_on}
+use Rattle.pipe_model.specs.Event.{Want, has_ended, has_seen}
 use Rattle.pipe_model.specs.Event.Want.{Commit, Read, Any, Gate, Take, Write, Prime, Issue, Join, Sever, Done}
 use Rattle.pipe_model.specs.State.{Who, State, past, same, link_in, link_out}
 use Rattle.pipe_model.specs.Licence.{Left, want_at, puts, tooks, out_closed, in_closed, offered, first_part}
 use Rattle.commit_levels.specs.UnitState.{IsLevel, Member}
 use Rattle.commit_levels.specs.Licensed.{IsStrand}
+use Rattle.stage_steps.specs.Coroutine.{record_seen_on}
 use Rattle.connectors.specs.WireState.{WireState}
 use Rattle.run_desk.specs.declared.seat.Ask.{Ask}
 use Rattle.run_desk.specs.declared.seat.Ask.TheVariants as Now
 use Rattle.run_desk.specs.declared.seat.Seat.{Seat}
 use Rattle.run_desk.specs.Desk.{DeskState}
-use Rattle.run_desk.specs.Pure.{in_door, out_door, first_of}
+use Rattle.run_desk.specs.Pure.{in_door, out_door, first_of, sight_door, sight_through}
 
 -- a want without the record that it writes
 abbrev pub asked : Option Want → Ask
@@ -52,20 +53,23 @@ pub record IsWire (net : Net) (texts : ℕ → List ℕ) (st : State) (left : Le
   pub out_closed : wire.out_closed ≡ out_closed st link
   pub in_closed : wire.in_closed ≡ in_closed st link
 
--- the sight holds the record that the link's consumer saw last, until that strand ends
-abbrev pub IsSight : (ℕ → List ℕ) → State → Link → Option ℕ → Type 0
-IsSight texts st link sight = has_ended (past st link.to) ≡ false → option_map_or texts sight [] ≡ last_seen_on link.input (past st link.to)
+-- the sight holds the record that the strand saw last on the input, and none where it saw none, until the strand ends
+abbrev pub IsSight : (ℕ → List ℕ) → State → Who → ℕ → Option ℕ → Type 0
+IsSight texts st s i sight = has_ended (past st s) ≡ false → option_map texts sight ≡ record_seen_on i (past st s)
 
 -- the link of a number
 abbrev pub link_through : List Link → Option ℕ → Option Link
 link_through links None = None
 link_through links (Some j) = slice_get links j
 
--- the tables of the net, which never change: a seat for each strand, a wire for each link, and doors that lead to the links; so far no link is a queue
+-- the tables of the net, which never change: a seat for each strand, a wire for each link, a sight for each input, and doors that lead to the links; so far no link is a queue
 pub record IsLaid (net : Net) (st : State) (d : DeskState) : Type 0 where
   pub seat_count : length d.seats ≡ length net.strands
   pub wire_count : length d.wires ≡ length net.links
-  pub sight_count : length d.sights ≡ length net.links
+  -- each input has a sight of its own, at most 64 a strand
+  pub sight_count : length d.sights ≤ 64 * length net.strands
+  pub sights_there : (s : Who) (i n : ℕ) → sight_door d s i ≡ Some n → n < length d.sights
+  pub sights_apart : (s t : Who) (i k n : ℕ) → sight_door d s i ≡ Some n → sight_door d t k ≡ Some n → (s ≡ t) × (i ≡ k)
   pub in_doors : (s : Who) (i : ℕ) → link_in net st s i ≡ link_through net.links (in_door d s i)
   pub out_doors : (s : Who) (o : ℕ) → link_out net st s o ≡ link_through net.links (out_door d s o)
   pub firsts : (s : Who) → first_of s (slice_get d.doors s) ≡ first_part net st s
@@ -78,9 +82,7 @@ pub record IsKept (net : Net) (texts : ℕ → List ℕ) (st : State) (left : Le
   -- who has no seat has no history
   pub nobody : (s : Who) → slice_get d.seats s ≡ None → past st s ≡ []
   pub wires : (j : ℕ) (link : Link) (wire : WireState) → slice_get net.links j ≡ Some link → slice_get d.wires j ≡ Some wire → IsWire net texts st left link wire
-  pub sights : (j : ℕ) (link : Link) (sight : Option ℕ) → slice_get net.links j ≡ Some link → slice_get d.sights j ≡ Some sight → IsSight texts st link sight
-  -- nothing was seen where there is no link
-  pub unseen : (s : Who) (i : ℕ) → link_in net st s i ≡ None → last_seen_on i (past st s) ≡ []
+  pub sights : (s : Who) (i : ℕ) → IsSight texts st s i (sight_through d.sights (sight_door d s i))
   -- the members of the unit are the strands, by their numbers
   pub member_count : length d.unit ≡ length net.strands
   pub members : (s : Who) (m : Member) → slice_get d.unit s ≡ Some m → IsStrand (past st s) (want_at net st left s) m

@@ -6,7 +6,7 @@ use Rattle.pipe_model.specs.declared.step.Seen.{Seen}
 use Rattle.pipe_model.specs.declared.step.Seen.TheVariants.{Up, Saw, Took, Put, Refused, Ended}
 use Rattle.pipe_model.specs.declared.step.Want.{Want}
 use Rattle.pipe_model.specs.declared.step.Want.TheVariants as want
-use Rattle.record_pool.specs.declared.pool.Held.{Held}
+use Rattle.record_pool.specs.PoolState.{PoolState}
 use Rattle.record_pool.specs.Places.{IsHeld, holders_at, record_at, with_record, fresh, shared}
 use Rattle.connectors.specs.WireState.{WireState, at_hand, taken, settled, cleared, offered, IsHeldIn, given_in}
 use Rattle.commit_levels.specs.UnitState.{IsLevel, IsLive, IsAt, reached_by, ended_by, asked_by, Member}
@@ -15,7 +15,7 @@ use Rattle.run_desk.specs.declared.seat.Ask.{Ask}
 use Rattle.run_desk.specs.declared.seat.Ask.TheVariants.{Nothing, Commit, Read, Any, Gate, Take, Write, Primed, Issue, Join, Cut, Done}
 use Rattle.run_desk.specs.declared.seat.Seat.{Seat}
 use Rattle.run_desk.specs.Desk.{DeskState}
-use Rattle.run_desk.specs.Pure.{joined, inputs_of, outputs_of, in_door, out_door, through, wire_in, wire_out}
+use Rattle.run_desk.specs.Pure.{inputs_of, outputs_of, in_door, out_door, sights_of, sight_door, sight_through, through, wire_in, wire_out}
 
 -- Lists
 
@@ -56,38 +56,33 @@ all_changed f (door ∷ doors) wires = all_changed f doors (changed wires f door
 
 -- Sights
 
--- what a strand saw last through a door
-abbrev pub sight_through : List (Option ℕ) → Option ℕ → Option ℕ
-sight_through sights None = None
-sight_through sights (Some j) = joined (slice_get sights j)
-
 -- the sights after a look at this record
 abbrev pub sights_seen : List (Option ℕ) → Option ℕ → Option ℕ → List (Option ℕ)
 sights_seen sights door None = sights
 sights_seen sights door (Some grip) = changed sights (λ sight. Some grip) door
 
 -- the pool after a look at this record, which takes the place of the one seen before
-abbrev pub pool_seen : List (Option Held) → Option ℕ → Option ℕ → List (Option Held)
-pool_seen places before None = places
-pool_seen places before (Some grip) = given_in (shared places grip) before
+abbrev pub pool_seen : PoolState → Option ℕ → Option ℕ → PoolState
+pool_seen pool before None = pool
+pool_seen pool before (Some grip) = given_in (shared pool grip) before
 
 -- a sight that was given back
 abbrev pub unseen : Option ℕ → Option ℕ
 unseen sight = None
 
--- the sights, and the pool, after those behind these doors were given back
+-- the sights, and the pool, after those of these numbers were given back
 abbrev pub sights_without : List (Option ℕ) → List (Option ℕ) → List (Option ℕ)
 sights_without [] sights = sights
 sights_without (door ∷ doors) sights = sights_without doors (changed sights unseen door)
 
-abbrev pub pool_without : List (Option ℕ) → List (Option ℕ) → List (Option Held) → List (Option Held)
-pool_without [] sights places = places
-pool_without (door ∷ doors) sights places = pool_without doors (changed sights unseen door) (given_in places (sight_through sights door))
+abbrev pub pool_without : List (Option ℕ) → List (Option ℕ) → PoolState → PoolState
+pool_without [] sights pool = pool
+pool_without (door ∷ doors) sights pool = pool_without doors (changed sights unseen door) (given_in pool (sight_through sights door))
 
 -- and each of them is held when its turn comes
-abbrev pub CanForget : List (Option ℕ) → List (Option ℕ) → List (Option Held) → Type 0
-CanForget [] sights places = Unit {0}
-CanForget (door ∷ doors) sights places = IsHeldIn places (sight_through sights door) × CanForget doors (changed sights unseen door) (given_in places (sight_through sights door))
+abbrev pub CanForget : List (Option ℕ) → List (Option ℕ) → PoolState → Type 0
+CanForget [] sights pool = Unit {0}
+CanForget (door ∷ doors) sights pool = IsHeldIn pool (sight_through sights door) × CanForget doors (changed sights unseen door) (given_in pool (sight_through sights door))
 
 -- Turns
 
@@ -107,7 +102,7 @@ seat_after seen seat = record { ask = Nothing; has_ended = seat.has_ended || end
 abbrev pub closed : DeskState → ℕ → DeskState
 closed d s = record d {
   wires = all_changed in_shut (inputs_of (slice_get d.doors s)) (all_changed out_shut (outputs_of (slice_get d.doors s)) d.wires);
-  sights = sights_without (inputs_of (slice_get d.doors s)) d.sights;
+  sights = sights_without (sights_of (slice_get d.doors s)) d.sights;
 }
 
 -- and after the strand ended with this code
@@ -117,7 +112,7 @@ ended d s code = record (closed d s) { unit = ended_by d.unit s code }
 -- the desk after a strand was told this, but for its seat
 abbrev pub moved : DeskState → ℕ → Seen → DeskState
 moved d s (Up level code) = record d { unit = reached_by d.unit s level }
-moved d s (Saw i) = record d { sights = sights_seen d.sights (in_door d s i) (hand_on (wire_in d s i)) }
+moved d s (Saw i) = record d { sights = sights_seen d.sights (sight_door d s i) (hand_on (wire_in d s i)) }
 moved d s (Took i) = record d { wires = changed d.wires taken (in_door d s i) }
 moved d s (Put o) = record d { wires = changed d.wires settled (out_door d s o) }
 moved d s (Refused o) = record d { wires = changed d.wires cleared (out_door d s o) }
@@ -129,12 +124,12 @@ abbrev pub made : DeskState → ℕ → Seen → DeskState
 made d s seen = record (moved d s seen) { seats = changed d.seats (seat_after seen) (Some s) }
 
 -- and the pool
-abbrev pub pool_moved : DeskState → List (Option Held) → ℕ → Seen → List (Option Held)
-pool_moved d places s (Saw i) = pool_seen places (sight_through d.sights (in_door d s i)) (hand_on (wire_in d s i))
-pool_moved d places s (Put o) = given_in places (offer_on (wire_out d s o))
-pool_moved d places s (Refused o) = given_in places (offer_on (wire_out d s o))
-pool_moved d places s (Ended code) = pool_without (inputs_of (slice_get d.doors s)) d.sights places
-pool_moved d places s _ = places
+abbrev pub pool_moved : DeskState → PoolState → ℕ → Seen → PoolState
+pool_moved d pool s (Saw i) = pool_seen pool (sight_through d.sights (sight_door d s i)) (hand_on (wire_in d s i))
+pool_moved d pool s (Put o) = given_in pool (offer_on (wire_out d s o))
+pool_moved d pool s (Refused o) = given_in pool (offer_on (wire_out d s o))
+pool_moved d pool s (Ended code) = pool_without (sights_of (slice_get d.doors s)) d.sights pool
+pool_moved d pool s _ = pool
 
 -- When a turn may be made
 
@@ -142,27 +137,31 @@ pool_moved d places s _ = places
 abbrev pub Behind : (WireState → Type 0) → List WireState → Option ℕ → Type 0
 Behind P wires door = (wire : WireState) → through wires door ≡ Some wire → P wire
 
--- what the event needs of the desk and the pool: grips that are held, counts that are less than 64 bits hold, and a strand that hasn't ended
-abbrev pub CanMove : DeskState → List (Option Held) → ℕ → Seen → Type 0
-CanMove d places s (Up level code) = (s < length d.unit) × IsLive d.unit s × IsLevel level × IsAt d.unit s level Asked
-CanMove d places s (Saw i) =
-    (length d.sights ≡ length d.wires)
-    × ((grip : ℕ) → hand_on (wire_in d s i) ≡ Some grip → IsHeld places grip)
-    × ((grip : ℕ) → hand_on (wire_in d s i) ≡ Some grip → holders_at places grip < 4294967295)
-    × IsHeldIn places (sight_through d.sights (in_door d s i))
-CanMove d places s (Took i) =
+-- there is a sight of this number
+abbrev pub HasSight : List (Option ℕ) → Option ℕ → Type 0
+HasSight sights door = (n : ℕ) × (door ≡ Some n) × (n < length sights)
+
+-- what the event needs of the desk and the pool: a sight for the record, grips that are held, counts that are less than 64 bits hold, and a strand that hasn't ended
+abbrev pub CanMove : DeskState → PoolState → ℕ → Seen → Type 0
+CanMove d pool s (Up level code) = (s < length d.unit) × IsLive d.unit s × IsLevel level × IsAt d.unit s level Asked
+CanMove d pool s (Saw i) =
+    ((grip : ℕ) → hand_on (wire_in d s i) ≡ Some grip → HasSight d.sights (sight_door d s i))
+    × ((grip : ℕ) → hand_on (wire_in d s i) ≡ Some grip → IsHeld pool grip)
+    × ((grip : ℕ) → hand_on (wire_in d s i) ≡ Some grip → holders_at pool grip < 4294967295)
+    × IsHeldIn pool (sight_through d.sights (sight_door d s i))
+CanMove d pool s (Took i) =
     Behind (λ wire. IsSome (at_hand wire)) d.wires (in_door d s i)
-    × Behind (λ wire. IsHeldIn places wire.offer) d.wires (in_door d s i)
+    × Behind (λ wire. IsHeldIn pool wire.offer) d.wires (in_door d s i)
     × Behind (λ wire. wire.tooks < 2 ^ 64 - 1) d.wires (in_door d s i)
-CanMove d places s (Put o) =
+CanMove d pool s (Put o) =
     Behind (λ wire. wire.tooks ≡ wire.puts + 1) d.wires (out_door d s o)
-    × Behind (λ wire. IsHeldIn places wire.offer) d.wires (out_door d s o)
-CanMove d places s (Refused o) =
+    × Behind (λ wire. IsHeldIn pool wire.offer) d.wires (out_door d s o)
+CanMove d pool s (Refused o) =
     Behind (λ wire. IsSome wire.offer) d.wires (out_door d s o)
     × Behind (λ wire. wire.tooks ≡ wire.puts) d.wires (out_door d s o)
-    × Behind (λ wire. IsHeldIn places wire.offer) d.wires (out_door d s o)
-CanMove d places s (Ended code) = (s < length d.unit) × IsLive d.unit s × CanForget (inputs_of (slice_get d.doors s)) d.sights places
-CanMove d places s _ = Unit {0}
+    × Behind (λ wire. IsHeldIn pool wire.offer) d.wires (out_door d s o)
+CanMove d pool s (Ended code) = (s < length d.unit) × IsLive d.unit s × CanForget (sights_of (slice_get d.doors s)) d.sights pool
+CanMove d pool s _ = Unit {0}
 
 -- Coming home
 
@@ -171,18 +170,17 @@ abbrev pub offers : ℕ → WireState → WireState
 offers grip wire = offered wire grip
 
 -- the grip is the only hold on a new record of these bytes
-abbrev pub IsFresh : List (Option Held) → List ℕ → ℕ → List (Option Held) → Type 0
-IsFresh places bytes grip after = (record_at places grip ≡ None) × (after ≡ with_record places grip (Some (fresh bytes)))
+abbrev pub IsFresh : PoolState → List ℕ → ℕ → PoolState → Type 0
+IsFresh pool bytes grip after = (record_at pool grip ≡ None) × (after ≡ with_record pool grip (Some (fresh bytes)))
 
--- the grip is one more hold on the record that was seen, or on an empty one where none was
-abbrev pub IsShare : List (Option Held) → Option ℕ → ℕ → List (Option Held) → Type 0
-IsShare places None grip after = IsFresh places [] grip after
-IsShare places (Some seen) grip after = (grip ≡ seen) × (after ≡ shared places seen)
+-- the grip is one more hold on the record that was seen
+abbrev pub IsShare : PoolState → Option ℕ → ℕ → PoolState → Type 0
+IsShare pool sight grip after = (sight ≡ Some grip) × (after ≡ shared pool grip)
 
 -- the grip holds what is to be written
-abbrev pub IsHold : DeskState → List (Option Held) → ℕ → Out → ℕ → List (Option Held) → Type 0
-IsHold d places s (Same i) grip after = IsShare places (sight_through d.sights (in_door d s i)) grip after
-IsHold d places s (Fresh bytes) grip after = IsFresh places bytes grip after
+abbrev pub IsHold : DeskState → PoolState → ℕ → Out → ℕ → PoolState → Type 0
+IsHold d pool s (Same i) grip after = IsShare pool (sight_through d.sights (sight_door d s i)) grip after
+IsHold d pool s (Fresh bytes) grip after = IsFresh pool bytes grip after
 
 -- the seat of a strand that asks for this
 abbrev pub asking : Ask → Seat → Seat
@@ -201,7 +199,7 @@ home d s ask = record d { seats = changed d.seats (asking ask) (Some s); unit = 
 abbrev pub home_writing : DeskState → ℕ → ℕ → ℕ → DeskState
 home_writing d s o grip = record (home d s (Write o)) { wires = changed d.wires (offers grip) (out_door d s o) }
 
--- what home asks of the desk and the pool: a level that the strand hasn't asked for, or a connected output with no offer, and a sight that can be shared
+-- what home asks of the desk and the pool: a level that the strand hasn't asked for, or a connected output with no offer, and a sight that is there and can be shared
 abbrev pub CanAsk : DeskState → ℕ → Ask → Type 0
 CanAsk d s (Commit level) = (s < length d.unit) × IsLive d.unit s × IsLevel level × IsAt d.unit s level NotAsked
 CanAsk d s (Write o) =
@@ -210,11 +208,12 @@ CanAsk d s (Write o) =
     × Behind (λ wire. wire.out_closed ≡ false) d.wires (out_door d s o)
 CanAsk d s _ = Unit {0}
 
-abbrev pub CanHold : DeskState → List (Option Held) → ℕ → Out → Type 0
-CanHold d places s (Same i) =
-    IsHeldIn places (sight_through d.sights (in_door d s i))
-    × ((grip : ℕ) → sight_through d.sights (in_door d s i) ≡ Some grip → holders_at places grip < 4294967295)
-CanHold d places s (Fresh bytes) = Unit {0}
+abbrev pub CanShare : PoolState → Option ℕ → Type 0
+CanShare pool sight = (grip : ℕ) × (sight ≡ Some grip) × IsHeld pool grip × (holders_at pool grip < 4294967295)
+
+abbrev pub CanHold : DeskState → PoolState → ℕ → Out → Type 0
+CanHold d pool s (Same i) = CanShare pool (sight_through d.sights (sight_door d s i))
+CanHold d pool s (Fresh bytes) = Unit {0}
 
 -- a want, without the record that it writes
 abbrev pub ask_for : Want → Ask
@@ -230,9 +229,18 @@ ask_for (want.Join unit) = Join unit
 ask_for (want.Cut i) = Cut i
 ask_for (want.Done code) = Done code
 
-abbrev pub CanCome : DeskState → List (Option Held) → ℕ → Want → Type 0
-CanCome d places s (want.Write o out) = CanAsk d s (Write o) × CanHold d places s out
-CanCome d places s w = CanAsk d s (ask_for w)
+abbrev pub CanCome : DeskState → PoolState → ℕ → Want → Type 0
+CanCome d pool s (want.Write o out) = CanAsk d s (Write o) × CanHold d pool s out
+CanCome d pool s w = CanAsk d s (ask_for w)
+
+-- a new record is written
+abbrev pub is_new : Out → Bool
+is_new (Fresh bytes) = true
+is_new (Same i) = false
+
+abbrev pub writes_new : Want → Bool
+writes_new (want.Write o out) = is_new out
+writes_new w = false
 
 -- what is written, and the want, where a new record has been moved out of it
 abbrev pub bare_out : Out → Out
@@ -244,6 +252,6 @@ bare (want.Write o out) = want.Write o (bare_out out)
 bare w = w
 
 -- the desk and the pool after the strand came home with this want
-abbrev pub HasCome : DeskState → List (Option Held) → ℕ → Want → DeskState → List (Option Held) → Type 0
-HasCome d places s (want.Write o out) new after = (grip : ℕ) × IsHold d places s out grip after × (new ≡ home_writing d s o grip)
-HasCome d places s w new after = (new ≡ home d s (ask_for w)) × (after ≡ places)
+abbrev pub HasCome : DeskState → PoolState → ℕ → Want → DeskState → PoolState → Type 0
+HasCome d pool s (want.Write o out) new after = (grip : ℕ) × IsHold d pool s out grip after × (new ≡ home_writing d s o grip)
+HasCome d pool s w new after = (new ≡ home d s (ask_for w)) × (after ≡ pool)

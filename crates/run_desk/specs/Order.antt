@@ -4,7 +4,7 @@ use Rattle.pipe_model.specs.declared.net.Net.{Net}
 use Rattle.pipe_model.specs.Event.{has_ended, in_sight}
 use Rattle.pipe_model.specs.State.{Who, State, past}
 use Rattle.pipe_model.specs.Licence.{Left}
-use Rattle.record_pool.specs.declared.pool.Held.{Held}
+use Rattle.record_pool.specs.PoolState.{Held, PoolState}
 use Rattle.record_pool.specs.Places.{record_at, holders_at, bytes_at}
 use Rattle.connectors.specs.WireState.{WireState, IsPaced, at_hand}
 use Rattle.run_desk.specs.Desk.{DeskState}
@@ -24,9 +24,9 @@ abbrev pub holds_of : List WireState → List (Option ℕ) → ℕ → ℕ
 holds_of wires sights grip = count_by (offer_holds grip) wires + count_by (holds grip) sights
 
 -- the pool counts for each record the offers and sights that hold it, and has no record that none holds
-pub record IsPooled (wires : List WireState) (sights : List (Option ℕ)) (places : List (Option Held)) : Type 0 where
-  pub counted : (grip : ℕ) → holders_at places grip ≡ holds_of wires sights grip
-  pub alive : (grip : ℕ) (held : Held) → record_at places grip ≡ Some held → 0 < held.holders
+pub record IsPooled (wires : List WireState) (sights : List (Option ℕ)) (pool : PoolState) : Type 0 where
+  pub counted : (grip : ℕ) → holders_at pool grip ≡ holds_of wires sights grip
+  pub alive : (grip : ℕ) (held : Held) → record_at pool grip ≡ Some held → 0 < held.holders
 
 -- each wire has as many records taken as put, or one more; and where a strand has seen a record and not taken it, the record is still at hand
 pub record IsPacing (st : State) (d : DeskState) : Type 0 where
@@ -38,7 +38,7 @@ abbrev pub out_from : ℕ → ℕ → Left
 out_from s count = λ t. not (nat_lt t s) && nat_lt t count
 
 -- the desk and the pool stand for the state, where these strands are out
-pub record IsRun (net : Net) (st : State) (left : Left) (d : DeskState) (places : List (Option Held)) : Type 0 where
-  pub kept : IsKept net (bytes_at places) st left d
-  pub pooled : IsPooled d.wires d.sights places
+pub record IsRun (net : Net) (st : State) (left : Left) (d : DeskState) (pool : PoolState) : Type 0 where
+  pub kept : IsKept net (bytes_at pool) st left d
+  pub pooled : IsPooled d.wires d.sights pool
   pub pacing : IsPacing st d

@@ -1,5 +1,5 @@
 -- What a strand would be told, read off the plain data of a desk.
-use Rattle.std.specs.Prelude.{◌≡◌, ◌<◌, ℕ, Bool, true, false, ◌&&◌, ◌==◌, nat_lt, int_le, if◌then◌else◌, List, [], ℤ, pos, negsuc, slice_get, Option, Some, None, is_some}
+use Rattle.std.specs.Prelude.{◌≡◌, ◌<◌, ℕ, suc, Bool, true, false, ◌&&◌, ◌==◌, nat_lt, int_le, if◌then◌else◌, List, [], ◌∷◌, ℤ, pos, negsuc, slice_get, Option, Some, None, is_some}
 use Rattle.std.specs.List.{list_all}
 use Rattle.pipe_model.specs.declared.step.Seen.{Seen}
 use Rattle.pipe_model.specs.declared.step.Seen.TheVariants.{Up, Saw, SawEnd, SawAllEnd, Took, Put, Refused, Cut, Primed, Ended}
@@ -35,6 +35,26 @@ in_door d s i = joined (slice_get (inputs_of (slice_get d.doors s)) i)
 
 abbrev pub out_door : DeskState → ℕ → ℕ → Option ℕ
 out_door d s o = joined (slice_get (outputs_of (slice_get d.doors s)) o)
+
+-- Sights
+
+-- the numbers of the sights of these inputs, from the first one's on
+abbrev pub numbered : ℕ → List (Option ℕ) → List (Option ℕ)
+numbered n [] = []
+numbered n (door ∷ doors) = Some n ∷ numbered (suc n) doors
+
+abbrev pub sights_of : Option DoorsState → List (Option ℕ)
+sights_of None = []
+sights_of (Some doors) = numbered doors.first_sight doors.inputs
+
+-- the number of the sight of a strand's input
+abbrev pub sight_door : DeskState → ℕ → ℕ → Option ℕ
+sight_door d s i = joined (slice_get (sights_of (slice_get d.doors s)) i)
+
+-- the place of the record that the sight of a number holds
+abbrev pub sight_through : List (Option ℕ) → Option ℕ → Option ℕ
+sight_through sights None = None
+sight_through sights (Some n) = joined (slice_get sights n)
 
 -- Wires
 

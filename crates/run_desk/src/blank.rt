@@ -3,8 +3,9 @@ ghost use Rattle.std.specs.Prelude.{◌≡◌, ◌<◌, ◌≤◌, [], ℕ, fals
 ghost use Rattle.pipe_model.specs.declared.net.Link.{Link};
 ghost use Rattle.pipe_model.specs.State.{nothing_yet};
 ghost use Rattle.pipe_model.specs.WellFormed.{IsWellFormed};
+ghost use Rattle.record_pool.specs.PoolState.{empty_pool};
 ghost use Rattle.connectors.specs.WireState.{new_wire};
-ghost use Rattle.run_desk.specs.Blank.{new_seat, closed_doors, doors_from, led_in, led_out, with_link, with_links, blank_desk};
+ghost use Rattle.run_desk.specs.Blank.{new_seat, closed_doors, doors_from, inputs_in, led_in, led_out, with_link, with_links, blank_desk};
 ghost use Rattle.run_desk.specs.Order.{IsRun, out_from};
 
 use crate::desk::Desk;
@@ -23,7 +24,7 @@ impl Desk {
         requires formed { IsWellFormed net.now }
         requires few { length net.now.links < 2147483648 }
         requires rendezvous { (j : ℕ) (link : Link) → slice_get net.now.links j ≡ Some link → link.queue ≡ false }
-        ensures { IfOk result (λ desk. IsRun net.now nothing_yet (out_from 0 (length net.now.strands)) desk []) }
+        ensures { IfOk result (λ desk. IsRun net.now nothing_yet (out_from 0 (length net.now.strands)) desk empty_pool) }
     {
         lay_out(alloc, net)
     }
@@ -38,9 +39,9 @@ fn lay_out(alloc: Global, net: &Net) -> Result<Desk, NoMemory>
     let links = net.links.as_slice();
     let seats = new_seats(alloc, strands.len())?;
     let unit = Unit::new(alloc, strands.len() as u32)?;
-    let mut doors = close_doors(alloc, strands)?;
+    let (mut doors, inputs) = close_doors(alloc, strands)?;
     lead_all(&mut doors, links);
-    let (wires, sights) = new_holders(alloc, links.len())?;
+    let (wires, sights) = new_holders(alloc, links.len(), inputs as usize)?;
     Ok(Desk::new(seats, wires, sights, doors, unit))
 }
 
@@ -55,43 +56,52 @@ fn new_seats(alloc: Global, count: usize) -> Result<Vec<Seat>, NoMemory>
     Ok(vec![in alloc; seat; count]?)
 }
 
-// A wire and a sight for each link, which hold nothing.
-fn new_holders(alloc: Global, count: usize) -> Result<(Vec<Wire>, Vec<Option<Grip>>), NoMemory>
-    ensures wires { IfOk result (λ holders. holders.0.items ≡ replicate count new_wire) }
-    ensures sights { IfOk result (λ holders. holders.1.items ≡ replicate count None) }
+// So many wires and sights, which hold nothing.
+fn new_holders(
+    alloc: Global,
+    links: usize,
+    inputs: usize,
+) -> Result<(Vec<Wire>, Vec<Option<Grip>>), NoMemory>
+    ensures wires { IfOk result (λ holders. holders.0.items ≡ replicate links new_wire) }
+    ensures sights { IfOk result (λ holders. holders.1.items ≡ replicate inputs None) }
 {
-    let mut wires = Vec::with_capacity(alloc, count)?;
-    let Ok(mut sights) = Vec::with_capacity(alloc, count) else {
+    let mut wires = Vec::with_capacity(alloc, links)?;
+    let Ok(mut sights) = Vec::with_capacity(alloc, inputs) else {
         wires.destroy_empty();
         return Err(NoMemory);
     };
-    for _ in 0..count {
+    for _ in 0..links {
         wires.push_reserved(Wire::new(false));
+    }
+    for _ in 0..inputs {
         sights.push_reserved(None);
     }
     Ok((wires, sights))
 }
 
-// The doors of these strands, of which none leads anywhere yet.
-fn close_doors(alloc: Global, strands: &[Strand]) -> Result<Vec<Doors>, NoMemory>
+// The doors of these strands, of which none leads anywhere yet, and how many inputs they have.
+fn close_doors(alloc: Global, strands: &[Strand]) -> Result<(Vec<Doors>, u32), NoMemory>
     requires { length strands.now ≤ 65536 }
-    ensures { IfOk result (λ doors. doors.items ≡ doors_from 0 strands.now) }
+    ensures doors { IfOk result (λ closed. closed.0.items ≡ doors_from 0 0 strands.now) }
+    ensures inputs { IfOk result (λ closed. closed.1 ≡ inputs_in strands.now) }
 {
     let mut doors = Vec::new(alloc);
+    let mut inputs = 0u32;
     for strand in strands {
-        let closed = closed(alloc, doors.len() as u32, strand)?;
+        let closed = closed(alloc, doors.len() as u32, inputs, strand)?;
         doors.push(closed)?;
+        inputs += u32::from(strand.ports.inputs);
     }
-    Ok(doors)
+    Ok((doors, inputs))
 }
 
-fn closed(alloc: Global, number: u32, strand: &Strand) -> Result<Doors, NoMemory>
-    ensures { IfOk result (λ doors. doors ≡ closed_doors number strand.now) }
+fn closed(alloc: Global, number: u32, first_sight: u32, strand: &Strand) -> Result<Doors, NoMemory>
+    ensures { IfOk result (λ doors. doors ≡ closed_doors number first_sight strand.now) }
 {
     let inputs = vec![in alloc; None; strand.ports.inputs as usize]?;
     let outputs = vec![in alloc; None; strand.ports.outputs as usize]?;
     let first = number.saturating_sub(u32::from(strand.part));
-    Ok(Doors::new(inputs, outputs, first))
+    Ok(Doors::new(inputs, outputs, first, first_sight))
 }
 
 // Both ends of each link lead to it.

@@ -1,4 +1,4 @@
-ghost use Rattle.std.specs.Prelude.{◌≡◌, ◌<◌, length, slice_get};
+ghost use Rattle.std.specs.Prelude.{◌≡◌, ◌<◌, length, slice_get, Some};
 ghost use Rattle.std.specs.List.{list_all};
 ghost use Rattle.run_desk.specs.Pure as Pure;
 
@@ -6,12 +6,14 @@ use crate::looks::is_over;
 use connectors::Wire;
 use std::marker::Model;
 
-/// The numbers of the links at a strand's inputs and outputs, and the first strand of its stage.
+/// The numbers of the links at a strand's inputs and outputs, the first strand of its stage, and the number of the sight
+/// of its first input, which those of the others follow.
 #[derive(Drop)]
 pub struct Doors {
     pub(crate) inputs: Vec<Option<u32>>,
     pub(crate) outputs: Vec<Option<u32>>,
     pub(crate) first: u32,
+    pub(crate) first_sight: u32,
 }
 
 impl Model for Doors {
@@ -20,21 +22,27 @@ impl Model for Doors {
 
     ghost Value = { DoorsState };
 
-    ghost view = { λ doors. record { inputs = doors.inputs.items; outputs = doors.outputs.items; first = doors.first } };
+    ghost view = { λ doors. record { inputs = doors.inputs.items; outputs = doors.outputs.items; first = doors.first; first_sight = doors.first_sight } };
 
     ghost invariant = { λ doors. length doors.inputs.items < 65536 };
 }
 
 impl Doors {
     /// The doors of a strand, which takes no memory.
-    pub fn new(inputs: Vec<Option<u32>>, outputs: Vec<Option<u32>>, first: u32) -> Doors
+    pub fn new(
+        inputs: Vec<Option<u32>>,
+        outputs: Vec<Option<u32>>,
+        first: u32,
+        first_sight: u32,
+    ) -> Doors
         requires { length inputs.items < 65536 }
-        ensures { result ≡ record { inputs = inputs.items; outputs = outputs.items; first = first } }
+        ensures { result ≡ record { inputs = inputs.items; outputs = outputs.items; first = first; first_sight = first_sight } }
     {
         Doors {
             inputs,
             outputs,
             first,
+            first_sight,
         }
     }
 
@@ -48,6 +56,17 @@ impl Doors {
         ensures { result ≡ Pure.joined (slice_get self.now.outputs o) }
     {
         self.outputs.get(o as usize).copied()?
+    }
+
+    // The number of the sight of an input.
+    pub(crate) fn sight(&self, i: u16) -> Option<usize>
+        ensures { result ≡ Pure.joined (slice_get (Pure.sights_of (Some self.now)) i) }
+    {
+        if (i as usize) < self.inputs.len() {
+            Some(self.first_sight as usize + i as usize)
+        } else {
+            None
+        }
     }
 
     pub(crate) fn input_count(&self) -> u16

@@ -3,6 +3,7 @@
 #![tactic(auto)]
 
 mod blank;
+mod coming;
 mod desk;
 mod doors;
 mod laws;
@@ -10,8 +11,10 @@ mod looks;
 mod records;
 mod seat;
 mod sights;
+mod telling;
 #[cfg(test)]
 mod tests;
+mod turns;
 mod wires;
 
 pub use desk::Desk;

@@ -5,9 +5,10 @@ ghost use Rattle.record_pool.specs.Places.{bytes_at};
 ghost use Rattle.record_pool.specs.Blocks.{blocks_in};
 ghost use Rattle.connectors.specs.WireState.{IsHeldIn};
 ghost use Rattle.commit_levels.specs.UnitState.{Member};
-ghost use Rattle.run_desk.specs.Moves.{hand_on, sight_through};
+ghost use Rattle.run_desk.specs.Moves.{hand_on};
 ghost use Rattle.run_desk.specs.Order.{IsPooled};
 ghost use Rattle.run_desk.specs.Pure as Pure;
+ghost use Rattle.run_desk.specs.Pure.{sight_through};
 
 use crate::desk::Desk;
 use crate::seat::Ask;
@@ -17,10 +18,10 @@ use record_pool::{Grip, Pool};
 impl Desk {
     /// The bytes of the record that a strand saw last on an input, and none where it saw none.
     pub fn seen_bytes<'a>(&self, pool: &'a Pool, strand: u32, i: u16) -> &'a [u8]
-        requires { IsHeldIn pool.now (sight_through self.now.sights (Pure.in_door self.now strand i)) }
-        ensures { result.now ≡ option_map_or (bytes_at pool.now) (sight_through self.now.sights (Pure.in_door self.now strand i)) [] }
+        requires { IsHeldIn pool.now (sight_through self.now.sights (Pure.sight_door self.now strand i)) }
+        ensures { result.now ≡ option_map_or (bytes_at pool.now) (sight_through self.now.sights (Pure.sight_door self.now strand i)) [] }
     {
-        bytes_seen(&self.sights, pool, self.in_door(strand, i))
+        bytes_seen(&self.sights, pool, self.sight_door(strand, i))
     }
 
     /// The number of bytes of the record at hand on a strand's input, and 0 where none is.
@@ -66,13 +67,13 @@ impl Desk {
     }
 }
 
-fn bytes_seen<'a>(sights: &[Option<Grip>], pool: &'a Pool, door: Option<u32>) -> &'a [u8]
+fn bytes_seen<'a>(sights: &[Option<Grip>], pool: &'a Pool, door: Option<usize>) -> &'a [u8]
     requires { IsHeldIn pool.now (sight_through sights.now door) }
     ensures { result.now ≡ option_map_or (bytes_at pool.now) (sight_through sights.now door) [] }
 {
     match door {
         None => &[],
-        Some(j) => match sights.get(j as usize) {
+        Some(n) => match sights.get(n) {
             Some(Some(grip)) => pool.bytes_of(grip),
             _ => &[],
         },

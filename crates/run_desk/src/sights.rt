@@ -1,33 +1,35 @@
-ghost use Rattle.std.specs.Prelude.{◌≡◌, ◌<◌, ℕ, Some, None, length, IfOk, OnErr};
+ghost use Rattle.std.specs.Prelude.{◌≡◌, ◌<◌, ℕ, Some, length};
 ghost use Rattle.record_pool.specs.Places.{IsHeld, holders_at, shared};
 ghost use Rattle.connectors.specs.WireState.{IsHeldIn, given_in};
-ghost use Rattle.run_desk.specs.Pure.{through};
-ghost use Rattle.run_desk.specs.Moves.{changed, hand_on, sight_through, sights_seen, pool_seen, unseen, sights_without, pool_without, CanForget, IsShare};
+ghost use Rattle.run_desk.specs.Pure.{numbered, sight_through, through};
+ghost use Rattle.run_desk.specs.Moves.{changed, hand_on, HasSight, sights_seen, pool_seen, unseen, sights_without, pool_without, CanForget, CanShare, IsShare};
 
 use connectors::Wire;
-use pipe_model::NoMemory;
 use record_pool::{Grip, Pool};
 
-// The record at hand behind a door is seen: a hold on it takes the place of the one on the record seen before.
+// The record at hand behind a door is seen: in the sight of this number a hold on it takes the place of the one on the
+// record seen before.
 #[inline(always)]
 pub(crate) fn see_at(
     wires: &[Wire],
     sights: &mut Vec<Option<Grip>>,
     pool: &mut Pool,
     door: Option<u32>,
+    place: Option<usize>,
 )
-    requires count { length sights.old.items ≡ length wires.now }
+    requires there { (grip : ℕ) → hand_on (through wires.now door) ≡ Some grip → HasSight sights.old.items place }
     requires held { (grip : ℕ) → hand_on (through wires.now door) ≡ Some grip → IsHeld pool.old grip }
     requires room { (grip : ℕ) → hand_on (through wires.now door) ≡ Some grip → holders_at pool.old grip < 4294967295 }
-    requires sight { IsHeldIn pool.old (sight_through sights.old.items door) }
-    ensures sights { sights.new.items ≡ sights_seen sights.old.items door (hand_on (through wires.now door)) }
-    ensures pool { pool.new ≡ pool_seen pool.old (sight_through sights.old.items door) (hand_on (through wires.now door)) }
+    requires sight { IsHeldIn pool.old (sight_through sights.old.items place) }
+    ensures sights { sights.new.items ≡ sights_seen sights.old.items place (hand_on (through wires.now door)) }
+    ensures pool { pool.new ≡ pool_seen pool.old (sight_through sights.old.items place) (hand_on (through wires.now door)) }
 {
     if let Some(j) = door {
         if let Some(wire) = wires.get(j as usize) {
             if let Some(grip) = wire.at_hand() {
-                if let Some(sight) = sights.get_mut(j as usize) {
-                    look(sight, pool, grip);
+                match place {
+                    None => unreachable!(),
+                    Some(n) => look(&mut sights[n], pool, grip),
                 }
             }
         }
@@ -48,48 +50,47 @@ fn look(sight: &mut Option<Grip>, pool: &mut Pool, grip: &Grip)
     }
 }
 
-// What was seen behind these doors is given back.
-pub(crate) fn forget(sights: &mut Vec<Option<Grip>>, pool: &mut Pool, doors: &[Option<u32>])
-    requires { CanForget doors.now sights.old.items pool.old }
-    ensures sights { sights.new.items ≡ sights_without doors.now sights.old.items }
-    ensures pool { pool.new ≡ pool_without doors.now sights.old.items pool.old }
+// What was seen on these inputs, whose sights follow that of the first, is given back.
+pub(crate) fn forget(
+    sights: &mut Vec<Option<Grip>>,
+    pool: &mut Pool,
+    inputs: &[Option<u32>],
+    first: u32,
+)
+    requires { CanForget (numbered first inputs.now) sights.old.items pool.old }
+    ensures sights { sights.new.items ≡ sights_without (numbered first inputs.now) sights.old.items }
+    ensures pool { pool.new ≡ pool_without (numbered first inputs.now) sights.old.items pool.old }
 {
-    for door in doors {
-        forget_at(sights, pool, *door);
+    let mut n = first as usize;
+    for _ in inputs {
+        forget_at(sights, pool, n);
+        n += 1;
     }
 }
 
-fn forget_at(sights: &mut Vec<Option<Grip>>, pool: &mut Pool, door: Option<u32>)
-    requires { IsHeldIn pool.old (sight_through sights.old.items door) }
-    ensures sights { sights.new.items ≡ changed sights.old.items unseen door }
-    ensures pool { pool.new ≡ given_in pool.old (sight_through sights.old.items door) }
+fn forget_at(sights: &mut Vec<Option<Grip>>, pool: &mut Pool, n: usize)
+    requires { IsHeldIn pool.old (sight_through sights.old.items (Some n)) }
+    ensures sights { sights.new.items ≡ changed sights.old.items unseen (Some n) }
+    ensures pool { pool.new ≡ given_in pool.old (sight_through sights.old.items (Some n)) }
 {
-    if let Some(j) = door {
-        if let Some(sight) = sights.get_mut(j as usize) {
-            if let Some(grip) = sight.take() {
-                pool.give(grip);
-            }
+    if let Some(sight) = sights.get_mut(n) {
+        if let Some(grip) = sight.take() {
+            pool.give(grip);
         }
     }
 }
 
-// A hold on the record that is to be written: the one in sight, or an empty one where nothing was seen, or new bytes.
+// One more hold on the record of a sight.
 #[inline(always)]
-pub(crate) fn hold_of(
-    sights: &[Option<Grip>],
-    pool: &mut Pool,
-    door: Option<u32>,
-) -> Result<Grip, NoMemory>
-    requires held { IsHeldIn pool.old (sight_through sights.now door) }
-    requires room { (grip : ℕ) → sight_through sights.now door ≡ Some grip → holders_at pool.old grip < 4294967295 }
-    ensures hold { IfOk result (λ grip. IsShare pool.old (sight_through sights.now door) grip pool.new) }
-    ensures err { OnErr result (pool.new ≡ pool.old) }
+pub(crate) fn hold_of(sights: &[Option<Grip>], pool: &mut Pool, door: Option<usize>) -> Grip
+    requires { CanShare pool.old (sight_through sights.now door) }
+    ensures { IsShare pool.old (sight_through sights.now door) result pool.new }
 {
     match door {
-        None => pool.put(&[]),
-        Some(j) => match sights.get(j as usize) {
-            Some(Some(grip)) => Ok(pool.share(grip)),
-            _ => pool.put(&[]),
+        None => unreachable!(),
+        Some(n) => match sights.get(n) {
+            Some(Some(grip)) => pool.share(grip),
+            _ => unreachable!(),
         },
     }
 }

@@ -23,25 +23,28 @@ const fn seat(ask: Ask) -> Seat {
 
 // The doors of a strand whose input and output are these links.
 fn doors(alloc: Global, input: Option<u32>, output: Option<u32>) -> Result<Doors, NoMemory> {
-    Ok(Doors::new(vec![in alloc; input]?, vec![in alloc; output]?, 0))
+    Ok(Doors::new(vec![in alloc; input]?, vec![in alloc; output]?, 0, 0))
 }
 
 // What a strand that writes a record and one that looks at any input are told, before or after the record was taken.
-fn told_over(alloc: Global, is_taken: bool) -> Result<[Option<Seen>; 2], NoMemory> {
+fn told_over(
+    alloc: Global,
+    pool: &mut Pool,
+    is_taken: bool,
+) -> Result<[Option<Seen>; 2], NoMemory> {
     let seats = vec![in alloc; seat(Ask::Write(0)), seat(Ask::Any)]?;
     let doors = vec![in alloc; doors(alloc, None, Some(0))?, doors(alloc, Some(0), None)?]?;
     let unit = Unit::new(alloc, 0)?;
-    let mut pool = Pool::new(alloc);
     let grip = pool.put(b"one")?;
     let mut wire = Wire::new(false);
     wire.offer(grip);
     if is_taken {
-        wire.take(&mut pool);
+        wire.take(pool);
     }
     let wires = match wires_of(alloc, wire) {
         Ok(wires) => wires,
         Err(wire) => {
-            wire.drain(&mut pool);
+            wire.drain(pool);
             return Err(NoMemory);
         }
     };
@@ -50,7 +53,7 @@ fn told_over(alloc: Global, is_taken: bool) -> Result<[Option<Seen>; 2], NoMemor
     let (mut wires, sights) = desk.into_holders();
     sights.destroy_empty();
     if let Some(wire) = wires.pop() {
-        wire.drain(&mut pool);
+        wire.drain(pool);
     }
     wires.destroy_empty();
     Ok(told)
@@ -71,8 +74,13 @@ fn wires_of(alloc: Global, wire: Wire) -> Result<Vec<Wire>, Wire>
 #[test]
 fn a_record_goes_over(rt: HostRuntime) -> Result<(), Fail> {
     let alloc = rt.alloc();
-    assert_eq!(rt; told_over(alloc, false)?, [None, Some(Seen::Saw(0))]);
-    assert_eq!(rt; told_over(alloc, true)?, [Some(Seen::Put(0)), None]);
+    let mut pool = Pool::new(alloc);
+    let offered = told_over(alloc, &mut pool, false);
+    let taken = told_over(alloc, &mut pool, true);
+    assert_eq!(rt; pool.in_use(), 0);
+    pool.close();
+    assert_eq!(rt; offered?, [None, Some(Seen::Saw(0))]);
+    assert_eq!(rt; taken?, [Some(Seen::Put(0)), None]);
     Ok(())
 }
 
@@ -147,6 +155,8 @@ fn a_strand_goes_out_and_comes_home(rt: HostRuntime) -> Result<(), Fail> {
     let (wires, sights) = desk.into_holders();
     wires.destroy_empty();
     sights.destroy_empty();
+    assert_eq!(rt; pool.in_use(), 0);
+    pool.close();
     came?;
     assert_eq!(rt;
         [first, out, home],
@@ -249,8 +259,8 @@ fn filtering_net(alloc: Global) -> Result<Net, NoMemory>
 fn a_run_begins_with_nothing(rt: HostRuntime) -> Result<(), Fail> {
     let alloc = rt.alloc();
     let net = filtering_net(alloc)?;
-    let mut pool = Pool::new(alloc);
     let desk = Desk::blank(alloc, &net)?;
+    let mut pool = Pool::new(alloc);
     let size = desk.size_at_hand(&pool, 1, 0);
     let seen = desk.seen_bytes(&pool, 1, 0).len();
     let told = [desk.asks_nothing(2), desk.has_ended(2)];
@@ -259,7 +269,7 @@ fn a_run_begins_with_nothing(rt: HostRuntime) -> Result<(), Fail> {
     assert_eq!(rt; [size, seen], [0, 0]);
     assert_eq!(rt; told, [true, false]);
     assert_eq!(rt; end, None);
-    assert_eq!(rt; pool.in_use(), 0);
+    pool.close();
     Ok(())
 }
 
@@ -272,6 +282,7 @@ fn a_sight_is_read_and_given_back(rt: HostRuntime) -> Result<(), Fail> {
     let mut sights = Vec::with_capacity(alloc, 1)?;
     let mut pool = Pool::new(alloc);
     let Ok(grip) = pool.put(b"one") else {
+        pool.close();
         sights.destroy_empty();
         return Err("no memory")?;
     };
@@ -282,6 +293,18 @@ fn a_sight_is_read_and_given_back(rt: HostRuntime) -> Result<(), Fail> {
     desk.drain(&mut pool);
     assert!(rt; is_read);
     assert_eq!(rt; [used, pool.in_use()], [1, 0]);
+    pool.close();
+    Ok(())
+}
+
+fn is_send<T: Send>() {}
+
+#[test]
+fn types_are_sent_between_threads(_rt: HostRuntime) -> Result<(), Fail> {
+    is_send::<Desk>();
+    is_send::<Doors>();
+    is_send::<Seat>();
+    is_send::<Ask>();
     Ok(())
 }
 

@@ -5,7 +5,7 @@ use Rattle.pipe_model.specs.Ranges.{locates}
 use Rattle.pipe_model.specs.Row.{Act}
 use Rattle.pipe_model.specs.Shape.{Records, Stream, at_hand_of}
 use Rattle.pipe_model.specs.Table.{line_of, through}
-use Rattle.stage_steps.specs.Waiting.{waiting_act}
+use Rattle.stage_steps.specs.Waiting.{waiting_act, IsWaiting}
 use Rattle.select_stages.specs.declared.locate.Locates.{Locates}
 use Rattle.select_stages.specs.declared.picks.Picked.{Picked}
 use Rattle.select_stages.specs.declared.picks.Rejects.{Rejects}
@@ -13,7 +13,7 @@ use Rattle.select_stages.specs.Picks.{Choice, choice_by, rejected, chosen}
 
 -- each record goes on the output that is picked, where it may wait for it
 abbrev pub PickedStand : {P : Type 0} → (P → Choice → Records → Type 0) → Picked P → Stream → Records → List Act → Type 0
-PickedStand stands x t recs acts = (choice : Choice) × (t ≡ chosen choice) × stands x.picks choice recs × (acts ≡ waiting_act x.waiting (at_hand_of recs))
+PickedStand stands x t recs acts = (choice : Choice) × (t ≡ chosen choice) × stands x.picks choice recs × (acts ≡ waiting_act x.waiting (at_hand_of recs)) × IsWaiting x.waiting recs
 
 -- they look where what picks does
 abbrev pub picked_look : {P : Type 0} → (P → Bool) → Picked P → Bool

@@ -1,3 +1,4 @@
+use crate::SelectStage;
 use crate::locate::Locates;
 use crate::picks::{Picked, Picks, Rejects};
 use pipe_model::{NoMemory, Range, Rec, Seen, Span};
@@ -99,4 +100,12 @@ fn records_are_parted_by_a_range(rt: HostRuntime) -> Result<(), Fail> {
         assert_eq!(rt; rejects.pick(rec), !is_there, "{string:?} in {rec:?}");
     }
     Ok(())
+}
+
+// Calls for this type show that its values can be moved to another thread.
+fn is_send<T: Send>() {}
+
+#[test]
+fn a_value_can_go_to_another_thread() {
+    is_send::<SelectStage>();
 }

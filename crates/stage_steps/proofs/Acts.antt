@@ -11,7 +11,7 @@ use Rattle.pipe_model.specs.Event.Event.{Put, Refused}
 use Rattle.pipe_model.specs.Members.{flag_at}
 use Rattle.pipe_model.specs.Row.{Pair, Act, Goal, Row}
 use Rattle.pipe_model.specs.Row.Act.{Writes, Repeats, Takes}
-use Rattle.pipe_model.specs.Shape.{writes}
+use Rattle.pipe_model.specs.Shape.{Records, writes}
 use Rattle.pipe_model.specs.Next.{Past, is_live, is_refused, want_in}
 use Rattle.pipe_model.proofs.Pasts.{after, after_refusal}
 use Rattle.pipe_model.proofs.Truths.{both}
@@ -21,7 +21,7 @@ use Rattle.stage_steps.specs.declared.group.Group.TheVariants.{AtHand, New}
 use Rattle.stage_steps.specs.declared.group.Repeat.{Repeat}
 use Rattle.stage_steps.specs.declared.place.Follow.{Follow}
 use Rattle.stage_steps.specs.declared.place.Follow.TheVariants.{Take, Look, End}
-use Rattle.stage_steps.specs.Group.{acts_by, group_acts, held_acts, has_more, is_due, less, less_one}
+use Rattle.stage_steps.specs.Group.{acts_by, group_acts, held_acts, has_more, is_due, less, less_one, IsOfRecord, IsLeftOfRecord}
 use Rattle.stage_steps.specs.Outputs.{open_from, can_do, live}
 use Rattle.stage_steps.specs.Listed.{first_write, when_written, and_behind}
 use Rattle.stage_steps.proofs.Flags.{flag_open, fewer_open, shut}
@@ -140,6 +140,15 @@ comes_by All o rec flags follow rest opened more =
 abbrev pub left_of : Group → Option Repeat
 left_of (AtHand r) = less_one r
 left_of (New o) = None
+
+-- of a record at hand, as the group was
+pub left_seen : (recs : Records) (g : Group) → IsOfRecord recs g → IsLeftOfRecord recs (left_of g)
+left_seen recs (AtHand r) some = go (less_one r)
+  where
+    go : (x : Option Repeat) → IsLeftOfRecord recs x
+    go None = tt
+    go (Some left) = some
+left_seen recs (New o) some = tt
 
 -- the pair that a group writes
 abbrev pub pair_of : List ℕ → Option (List ℕ) → Group → Pair

@@ -20,7 +20,7 @@ use Rattle.stage_steps.specs.declared.outputs.Outputs.{Outputs}
 use Rattle.stage_steps.specs.declared.place.Place.{Place}
 use Rattle.stage_steps.specs.declared.place.Place.TheVariants.{Starting, Committing, Looking, Writing, Taking, Ending}
 use Rattle.stage_steps.specs.declared.walk.Walk.{Walk}
-use Rattle.stage_steps.specs.Coroutine.{meaning, told, bytes_with, last_seen, owed, IsTold}
+use Rattle.stage_steps.specs.Coroutine.{meaning, told, bytes_with, last_seen, owed, IsSeenBefore, IsTold}
 use Rattle.stage_steps.specs.KeptText.{KeptText}
 use Rattle.stage_steps.specs.Kept.{kept_after}
 use Rattle.stage_steps.specs.Listed.{list_row, goal_behind, PlaceIs, AllIs, KeptIs, ListedIs}
@@ -104,16 +104,16 @@ module _ {L : Type 0} (stands : L → Stream → Records → List Act → Type 0
   goes = After stands looks is.keeps w.order is.stream outputs h bytes x y w.hand place1 old w.place e new
 
   gone : goes
-  gone = by_place stands looks is.keeps w.order is.stream outputs h bytes (is_none kept' && none_left outputs'.connected outputs'.flags.items) x y w.hand place1 old is.walk_is.sight_is is.walk_is.few w.place e was room ends_is fits bytes_are heard
+  gone = by_place stands looks is.keeps w.order is.stream outputs h bytes (is_none kept' && none_left outputs'.connected outputs'.flags.items) x y w.hand place1 old is.walk_is.sight_is is.walk_is.seen_is is.walk_is.few w.place e was room ends_is fits bytes_are heard
 
   asked_it : Asks stands made flags y w.hand place1 z hand' place2 asked
   asked_it = subst (λ l. Asks stands made l y w.hand place1 z hand' place2 asked) flags_are asks
 
   -- what is so while the strand goes on
   wants : has_ended (e ∷ h) ≡ false →
-      PlaceIs stands (order_of w.order) is.stream true z place2 hand' flags new × (Some (meaning asked (last_seen (e ∷ h))) ≡ want_in new.phase) × ((all : List ℕ) → AllIs place1 all (e ∷ h) → AllIs place2 all (e ∷ h))
+      PlaceIs stands (order_of w.order) is.stream true z place2 hand' flags new × (Some (meaning asked (last_seen (e ∷ h))) ≡ want_in new.phase) × ((all : List ℕ) → AllIs place1 all (e ∷ h) → AllIs place2 all (e ∷ h)) × IsSeenBefore asked (e ∷ h)
   wants goes_on =
-      by_want stands made (order_of w.order) is.stream outputs (e ∷ h) y z w.hand hand' place2 flags asked new place1 gone.walk.sight_is (gone.walk.place_is goes_on) asked_it
+      by_want stands made (order_of w.order) is.stream outputs (e ∷ h) y z w.hand hand' place2 flags asked new place1 gone.walk.sight_is gone.walk.seen_is (gone.walk.place_is goes_on) asked_it
 
   wants_next : has_ended (e ∷ h) ≡ false → Some (meaning asked (last_seen (e ∷ h))) ≡ next s (e ∷ h)
   wants_next goes_on =
@@ -154,6 +154,7 @@ module _ {L : Type 0} (stands : L → Stream → Records → List Act → Type 0
     walk_is = record {
       flags_are = flags_are ∙ gone.walk.flags_are;
       sight_is = gone.walk.sight_is;
+      seen_is = gone.walk.seen_is;
       few = gone.walk.few;
       place_is = λ goes_on. subst (λ l. PlaceIs stands (order_of w.order) is.stream true z place2 hand' l new) (sym flags_are) (place_is goes_on);
     };
@@ -162,20 +163,21 @@ module _ {L : Type 0} (stands : L → Stream → Records → List Act → Type 0
     kept_is = kept_now all;
   }
 
-  goes_on : has_ended (e ∷ h) ≡ false → ListedIs stands looks z walk s (e ∷ h) × (Some (meaning asked (last_seen (e ∷ h))) ≡ next s (e ∷ h))
-  goes_on more = (stands_for (λ m. (wants m).0) (wants more).2, wants_next more)
+  goes_on : has_ended (e ∷ h) ≡ false → ListedIs stands looks z walk s (e ∷ h) × (Some (meaning asked (last_seen (e ∷ h))) ≡ next s (e ∷ h)) × IsSeenBefore asked (e ∷ h)
+  goes_on more = (stands_for (λ m. (wants m).0) (wants more).2, wants_next more, (wants more).3)
 
-  ends_here : (code : ℤ) → e ≡ Ended code → ListedIs stands looks z walk s (e ∷ h) × (Some (meaning asked (last_seen (e ∷ h))) ≡ Some (Want.Done code))
+  ends_here : (code : ℤ) → e ≡ Ended code → ListedIs stands looks z walk s (e ∷ h) × (Some (meaning asked (last_seen (e ∷ h))) ≡ Some (Want.Done code)) × IsSeenBefore asked (e ∷ h)
   ends_here code it =
       let at = stays code it in (
         stands_for (λ more. let no : true ≡ false = ap (λ v. has_ended (v ∷ h)) (sym it) ∙ more in cc) (λ all kept. subst (λ f. AllIs f all (e ∷ h)) (sym at.0) tt),
         ap (λ a. Some (meaning a (last_seen (e ∷ h)))) at.1,
+        subst (λ a. IsSeenBefore a (e ∷ h)) (sym at.1) tt,
       )
 
 module _ {L : Type 0} (stands : L → Stream → Records → List Act → Type 0) (made : L → Option (List ℕ)) (looks : Bool) (x y z : L) (seen : Seen) (bytes : List ℕ) (w : Walk) (kept' : Option KeptText) (outputs' : Outputs)
     (place1 : Place) (v : Walk) (looks' : Bool) (asked : Asked) (s : Strand) (h : List Event) where
   abbrev Stepped : Event → Type 0
-  Stepped e = ListedIs stands looks z (record { order = w.order; place = v.place; hand = v.hand; outputs = outputs'; kept = kept' }) s (e ∷ h) × (Some (meaning asked (last_seen (e ∷ h))) ≡ owed s (e ∷ h))
+  Stepped e = ListedIs stands looks z (record { order = w.order; place = v.place; hand = v.hand; outputs = outputs'; kept = kept' }) s (e ∷ h) × (Some (meaning asked (last_seen (e ∷ h))) ≡ owed s (e ∷ h)) × IsSeenBefore asked (e ∷ h)
 
   by_event : (e : Event) → IsTold (λ v s h. ListedIs stands looks v w s h) x seen bytes s h e →
       kept' ≡ option_map (kept_after seen bytes) w.kept → outputs'.flags.items ≡ open_after seen w.outputs.flags.items → outputs'.connected ≡ w.outputs.connected →
@@ -191,7 +193,7 @@ module _ {L : Type 0} (stands : L → Stream → Records → List Act → Type 0
       kept' ≡ option_map (kept_after seen bytes) w.kept → outputs'.flags.items ≡ open_after seen w.outputs.flags.items → outputs'.connected ≡ w.outputs.connected →
       Hears stands looks w.order (is_none kept' && none_left outputs'.connected outputs'.flags.items) x w.place seen bytes y place1 →
       Asks stands made outputs'.flags.items y w.hand place1 z v.hand v.place asked →
-      ListedIs stands looks' z v s (e ∷ h) × (Some (meaning asked (last_seen (e ∷ h))) ≡ owed s (e ∷ h))
+      ListedIs stands looks' z v s (e ∷ h) × (Some (meaning asked (last_seen (e ∷ h))) ≡ owed s (e ∷ h)) × IsSeenBefore asked (e ∷ h)
   steps e same others t kept_is flags_is connected_is hears asks =
       let done = by_event e t kept_is flags_is connected_is hears asks in
-      (subst (λ b. ListedIs stands b z v s (e ∷ h)) (sym same) (subst (λ (u : Walk). ListedIs stands looks z u s (e ∷ h)) (sym others) done.0), done.1)
+      (subst (λ b. ListedIs stands b z v s (e ∷ h)) (sym same) (subst (λ (u : Walk). ListedIs stands looks z u s (e ∷ h)) (sym others) done.0), done.1, done.2)

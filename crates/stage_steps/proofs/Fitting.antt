@@ -34,7 +34,7 @@ pub lines_begin : (bytes : List ℕ) → LinesStand (fresh_lines bytes) (only_be
 lines_begin bytes = (refl, ap (λ l. writes (map (λ rec. (0, rec)) (lines l))) (sym (drop_all (length bytes) bytes (omega arith))))
 
 pub copies_begin : (is_looking : Bool) → EachStand CopiesStand (fresh_copies is_looking) (each_record copied) [] []
-copies_begin is_looking = (Pairs copied, refl, (refl, refl))
+copies_begin is_looking = (Pairs copied, refl, (refl, refl, tt))
 
 pub fresh_copies_look : (is_looking : Bool) → each_look copies_look (fresh_copies is_looking) ≡ is_looking
 fresh_copies_look is_looking = refl

@@ -30,7 +30,7 @@ module _ {L : Type 0} (stands : L → Stream → Records → List Act → Type 0
   -- then comes one that is due
   pub fetches_one : (x y z : L) (hand : Option Repeat) (g : Group) → Passes stands flags x hand y → GivesNext stands made y z (Some g) → is_due flags g ≡ true → Fetches stands made flags x hand z (Some g)
   fetches_one x y z hand g passes gives due =
-      (due, gives.0, λ t recs acts is. let p = passes t recs acts is in let n = gives.1 t recs p.0 p.2 in (n.0, p.1 ∙ ap (live flags) n.1, n.2))
+      (due, gives.0, λ t recs acts is. let p = passes t recs acts is in let n = gives.1 t recs p.0 p.2 in (n.0, p.1 ∙ ap (live flags) n.1, n.2, λ left. n.3))
 
   -- or none
   pub fetches_none : (x y z : L) (hand : Option Repeat) → Passes stands flags x hand y → GivesNext stands made y z None → Fetches stands made flags x hand z None
@@ -38,10 +38,10 @@ module _ {L : Type 0} (stands : L → Stream → Records → List Act → Type 0
 
   -- the record in hand is due
   pub fetches_hand : (x : L) (r : Repeat) → is_due flags (AtHand r) ≡ true → Fetches stands made flags x (Some r) x (Some (AtHand r))
-  fetches_hand x r due = (due, tt, λ t recs acts is. (acts, refl, is))
+  fetches_hand x r due = (due, tt, λ t recs acts is. (acts, refl, is, λ left. left))
 
   -- the record in hand isn't, and what comes next is fetched
   pub fetches_behind : (x y : L) (r : Repeat) (given : Option Group) → is_due flags (AtHand r) ≡ false → Fetches stands made flags x None y given → Fetches stands made flags x (Some r) y given
   fetches_behind x y r None due fetches = λ t recs acts is. let f = fetches t recs acts is in (not_due (AtHand r) (at_hand_of recs) None flags acts due ∙ f.0, f.1)
   fetches_behind x y r (Some n) due fetches =
-      (fetches.0, fetches.1, λ t recs acts is. let f = fetches.2 t recs acts is in (f.0, not_due (AtHand r) (at_hand_of recs) None flags acts due ∙ f.1, f.2))
+      (fetches.0, fetches.1, λ t recs acts is. let f = fetches.2 t recs acts is in (f.0, not_due (AtHand r) (at_hand_of recs) None flags acts due ∙ f.1, f.2, λ left. f.3 tt))

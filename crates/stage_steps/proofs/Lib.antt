@@ -5,6 +5,7 @@ pub mod Fields
 pub mod Fitting
 pub mod Flags
 pub mod Groups
+pub mod Lasts
 pub mod Searching
 pub mod Sources
 pub mod Starts

@@ -42,6 +42,7 @@ module _ {L : Type 0} (stands : L → Stream → Records → List Act → Type 0
     walk_is = record {
       flags_are = flags_are ∙ fits.outputs_are ∙ all_open 0 s.ports.has_output;
       sight_is = refl;
+      seen_is = λ some. absurd (omega (arith, some));
       few = omega arith;
       place_is = λ on. (fits.begins, refl, refl, refl);
     };

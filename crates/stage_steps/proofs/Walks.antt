@@ -2,7 +2,7 @@
 use Rattle.std.proofs.Common.{◌≡◌, ◌≤◌, ◌<◌, ℕ, suc, ◌+◌, Bool, true, false, cond, ◌&&◌, not, List, [], ◌∷◌, ◌++◌, length, refl, sym, ◌∙◌, ap, subst, arith, Some, None, Option, ℤ, pos, negsuc, append_assoc}
 use Rattle.std.proofs.lemmas.List.{map-append, length-append}
 use Rattle.std.proofs.lemmas.Bool.{eqb-true}
-use Rattle.std.specs.Prelude.{filter}
+use Rattle.std.specs.Prelude.{filter, IsSome}
 use Rattle.std.specs.List.{list_any}
 use Rattle.std.specs.Ordering.{int_eq}
 use Rattle.pipe_model.specs.declared.step.Want.{Want as Asked}
@@ -27,8 +27,8 @@ use Rattle.stage_steps.specs.declared.place.Follow.{Follow}
 use Rattle.stage_steps.specs.declared.place.Follow.TheVariants.{Take, Look, End}
 use Rattle.stage_steps.specs.declared.place.Place.{Place}
 use Rattle.stage_steps.specs.declared.place.Place.TheVariants.{Starting, Committing, Looking, Writing, Taking, Ending}
-use Rattle.stage_steps.specs.Coroutine.{meaning, told, bytes_with, last_seen}
-use Rattle.stage_steps.specs.Group.{group_acts, held_acts, is_due}
+use Rattle.stage_steps.specs.Coroutine.{meaning, told, bytes_with, last_seen, record_seen_on, IsSeenBefore}
+use Rattle.stage_steps.specs.Group.{group_acts, held_acts, is_due, IsOfRecord, IsLeftOfRecord}
 use Rattle.stage_steps.specs.KeptText.{KeptText}
 use Rattle.stage_steps.specs.Kept.{kept_after}
 use Rattle.stage_steps.specs.Lists.{Sees, Finishes, Tells}
@@ -37,7 +37,7 @@ use Rattle.stage_steps.specs.Outputs.{open_after, open_from, live, none_left}
 use Rattle.stage_steps.specs.Places.{order_of, want_at, place_with, sight_place, look_place, taken_place, place_behind}
 use Rattle.stage_steps.specs.Walk.{IsBegun, Hears, Fetches, Puts, Turns, Asks}
 use Rattle.stage_steps.proofs.Flags.{closed_open, refused_is}
-use Rattle.stage_steps.proofs.Acts.{live_is, live_refused, want_first, after_put, after_refused, live_behind, left_of, pair_of, comes}
+use Rattle.stage_steps.proofs.Acts.{live_is, live_refused, want_first, after_put, after_refused, live_behind, left_of, left_seen, pair_of, comes}
 
 -- Records
 
@@ -87,7 +87,7 @@ module _ {L : Type 0} (stands : L → Stream → Records → List Act → Type 0
     pub taken : (kept : KeptText) → AllIs f kept.all h → kept.taken ≡ text (taken_from 0 h) → (kept_after (told e) bytes kept).taken ≡ text (taken_from 0 (e ∷ h))
 
 module _ {L : Type 0} (stands : L → Stream → Records → List Act → Type 0) (looks keeps : Bool) (order : Order) (t : Stream) (outputs : List Bool) (h : List Event) (bytes : List ℕ)
-    (ends_it : Bool) (x y : L) (hand : Option Repeat) (place' : Place) (p : Past) (sight_is : last_seen_on 0 h ≡ at_hand_of (records_of p.known.seen)) (few : length (records_of p.known.seen) ≤ length h) where
+    (ends_it : Bool) (x y : L) (hand : Option Repeat) (place' : Place) (p : Past) (sight_is : last_seen_on 0 h ≡ at_hand_of (records_of p.known.seen)) (seen_is : 0 < length (records_of p.known.seen) → IsSome (record_seen_on 0 h)) (few : length (records_of p.known.seen) ≤ length h) where
   abbrev Next : Place → Event → Past → Type 0
   Next f e q = After stands looks keeps order t outputs h bytes x y hand place' p f e q
 
@@ -98,12 +98,17 @@ module _ {L : Type 0} (stands : L → Stream → Records → List Act → Type 0
   placed : (f : Place) (q : Past) → y ≡ x → place' ≡ f → Stood x f q → Stood y place' q
   placed f q same is stood = subst (λ z. Stood z place' q) (sym same) (subst (λ f. Stood x f q) (sym is) stood)
 
+  -- of nothing in hand nothing is left
+  none_left_of : (recs : Records) → hand ≡ None → IsLeftOfRecord recs hand
+  none_left_of recs none = subst (λ g. IsLeftOfRecord recs g) (sym none) tt
+
   from_start : (e : Event) → stands x t [] [] → hand ≡ None → p.known ≡ nothing_known → answers (Some (Want.Commit (negsuc 0))) e ≡ true → Hears stands looks order ends_it x Starting (told e) bytes y place' →
       Next Starting e (after (list_row (order_of order) keeps t) outputs p (Reaching (negsuc 0)) e)
   from_start (Up l c) stood none known fits heard = record {
     walk = record {
       flags_are = refl;
       sight_is = sight_is;
+      seen_is = seen_is;
       few = one_more _ _ few;
       place_is = λ on. placed (cond (int_eq c (pos 0)) Committing (Ending (pos 0))) (record p { phase = cond (int_eq c (pos 0)) (Reaching (pos 0)) (Doing [] (Ends (pos 0))) }) heard.0 heard.1
           (elim (int_eq c (pos 0)) as (λ b. Stood x (cond b Committing (Ending (pos 0))) (record p { phase = cond b (Reaching (pos 0)) (Doing [] (Ends (pos 0))) })) [ true ↦ (stood, none, known, refl) | false ↦ refl ]);
@@ -116,7 +121,7 @@ module _ {L : Type 0} (stands : L → Stream → Records → List Act → Type 0
   begun : hand ≡ None → p.known ≡ nothing_known → stands y t [] (writes t.before) → Stood y (Writing Look) (record p { phase = begins_plan outputs p.refused (list_plan (order_of order) t p.known p.known.told) })
   begun none known stood =
       subst (λ k. Stood y (Writing Look) (record { known = k; refused = p.refused; phase = begins_plan outputs p.refused (list_plan (order_of order) t k k.told) })) (sym known)
-      (writes t.before, stood, ap (λ l. Doing l (next_record t [])) (live_is outputs p.refused (writes t.before)) ∙ ap (λ g. Doing (live (open_from 0 outputs p.refused) (held_acts [] g ++ writes t.before)) (next_record t [])) (sym none))
+      (writes t.before, stood, ap (λ l. Doing l (next_record t [])) (live_is outputs p.refused (writes t.before)) ∙ ap (λ g. Doing (live (open_from 0 outputs p.refused) (held_acts [] g ++ writes t.before)) (next_record t [])) (sym none), none_left_of [] none)
 
   from_commit : (e : Event) → stands x t [] [] → hand ≡ None → p.known ≡ nothing_known → answers (Some (Want.Commit (pos 0))) e ≡ true → Hears stands looks order ends_it x Committing (told e) bytes y place' →
       Next Committing e (after (list_row (order_of order) keeps t) outputs p (Reaching (pos 0)) e)
@@ -124,6 +129,7 @@ module _ {L : Type 0} (stands : L → Stream → Records → List Act → Type 0
     walk = record {
       flags_are = refl;
       sight_is = (elim (int_eq c (pos 0)) as (λ b. last_seen_on 0 h ≡ at_hand_of (records_of p.known.seen)) [ true ↦ sight_is | false ↦ sight_is ]);
+      seen_is = (elim (int_eq c (pos 0)) as (λ b. 0 < length (records_of p.known.seen) → IsSome (record_seen_on 0 h)) [ true ↦ seen_is | false ↦ seen_is ]);
       few = one_more _ _ few;
       place_is = λ on. (elim (int_eq c (pos 0)) as (λ b. IsBegun stands x y place' b →
           Stood y place' (record p { phase = cond b (begins_plan outputs p.refused (list_plan (order_of order) t p.known p.known.told)) (Doing [] (Ends (pos 0))) })) [
@@ -148,6 +154,7 @@ module _ {L : Type 0} (stands : L → Stream → Records → List Act → Type 0
     stood,
     ap (λ l. Doing l (next_record t (records_of known.seen))) (live_is outputs p.refused (acts ++ Takes 0 ∷ []))
         ∙ ap (λ g. Doing (live (open_from 0 outputs p.refused) ((held_acts (at_hand_of (records_of known.seen)) g ++ acts) ++ Takes 0 ∷ [])) (next_record t (records_of known.seen))) (sym none),
+    none_left_of (records_of known.seen) none,
   )
   at_sight_is known acts stood none TakesFirst = (acts, stood, none, tt, ap (λ l. Doing (Takes 0 ∷ l) (next_record t (records_of known.seen))) (live_is outputs p.refused acts))
 
@@ -166,6 +173,7 @@ module _ {L : Type 0} (stands : L → Stream → Records → List Act → Type 0
         walk = record {
           flags_are = refl;
           sight_is = sym (ap at_hand_of all ∙ at_hand (records_of p.known.seen) rec);
+          seen_is = λ some. refl;
           few = let n : length (records_of known.seen) ≡ length (records_of p.known.seen) + 1 = ap length all ∙ length-append (records_of p.known.seen) (rec ∷ []) in omega (arith, n, few);
           place_is = λ on. subst (λ f. Stood y f (after (list_row (order_of order) keeps t) outputs p (Doing [] (Asking (Want.Read 0))) (Saw 0 rec))) (sym place_is)
               (elim (t.halts (records_of known.seen)) as (λ b. Stood y (cond b (Ending (t.code (records_of known.seen))) (place_with order)) (record {
@@ -188,11 +196,13 @@ module _ {L : Type 0} (stands : L → Stream → Records → List Act → Type 0
         walk = record {
           flags_are = refl;
           sight_is = sight_is;
+          seen_is = seen_is;
           few = one_more _ _ few;
           place_is = λ on. subst (λ f. Stood y f (after (list_row (order_of order) keeps t) outputs p (Doing [] (Asking (Want.Read 0))) (SawEnd 0))) (sym place_is) (
             acts,
             finishes t (records_of p.known.seen) stood,
             ap (λ l. Doing l goal) (live_is outputs p.refused acts) ∙ ap (λ g. Doing (live (open_from 0 outputs p.refused) (held_acts (at_hand_of (records_of p.known.seen)) g ++ acts)) goal) (sym none),
+            none_left_of (records_of p.known.seen) none,
           );
         };
         all = λ kept came is. subst (λ f. AllIs f kept.all (SawEnd 0 ∷ h)) (sym place_is) is;
@@ -213,22 +223,23 @@ module _ {L : Type 0} (stands : L → Stream → Records → List Act → Type 0
   wrote : (follow : Follow) (left acts : List Act) (q : Pair) (e : Event) → stands x t (records_of p.known.seen) left →
       ends_it ≡ (not keeps && none_left (list_any (λ flag. flag) outputs) (open_after (told e) (open_from 0 outputs p.refused))) →
       p.phase ≡ Doing acts (goal_behind follow t (records_of p.known.seen)) → first_write acts ≡ Some q →
-      when_written acts ≡ live (open_from 0 outputs p.refused) (and_behind follow (held_acts (at_hand_of (records_of p.known.seen)) hand ++ left)) →
+      when_written acts ≡ live (open_from 0 outputs p.refused) (and_behind follow (held_acts (at_hand_of (records_of p.known.seen)) hand ++ left)) → IsLeftOfRecord (records_of p.known.seen) hand →
       answers (Some (Want.Write q.0 q.1)) e ≡ true → Hears stands looks order ends_it x (Writing follow) (told e) bytes y place' →
       Next (Writing follow) e (after (list_row (order_of order) keeps t) outputs p (Doing acts (goal_behind follow t (records_of p.known.seen))) e)
-  wrote follow left acts q (Put o rec) stood ends_is phase_is first rest fits heard =
+  wrote follow left acts q (Put o rec) stood ends_is phase_is first rest in_hand fits heard =
       subst (λ z. Next (Writing follow) (Put o rec) z) (sym (after_put (list_row (order_of order) keeps t) outputs p acts (goal_behind follow t (records_of p.known.seen)) q o rec first phase_is)) (record {
         walk = record {
           flags_are = refl;
           sight_is = sight_is;
+          seen_is = seen_is;
           few = one_more _ _ few;
           place_is = λ on. placed (Writing follow) (record p { phase = Doing (when_written acts) (goal_behind follow t (records_of p.known.seen)) }) heard.0 heard.1
-              (left, stood, ap (λ l. Doing l (goal_behind follow t (records_of p.known.seen))) rest);
+              (left, stood, ap (λ l. Doing l (goal_behind follow t (records_of p.known.seen))) rest, in_hand);
         };
         all = λ kept came is. subst (λ f. AllIs f kept.all (Put o rec ∷ h)) (sym heard.1) (all_same (Writing follow) kept.all (Put o rec ∷ h) h refl refl is);
         taken = λ kept is taken. taken;
       })
-  wrote follow left acts q (Refused o) stood ends_is phase_is first rest fits heard =
+  wrote follow left acts q (Refused o) stood ends_is phase_is first rest in_hand fits heard =
       let goal = goal_behind follow t (records_of p.known.seen) in
       let old = open_from 0 outputs p.refused in
       let now = open_from 0 outputs (o ∷ p.refused) in
@@ -240,6 +251,7 @@ module _ {L : Type 0} (stands : L → Stream → Records → List Act → Type 0
         walk = record {
           flags_are = closed_open 0 o outputs p.refused;
           sight_is = sight_is;
+          seen_is = seen_is;
           few = one_more _ _ few;
           place_is = λ on.
               subst (λ l. PlaceIs stands (order_of order) t false y place' hand l (record { known = p.known; refused = o ∷ p.refused; phase = cond (not keeps && is_refused outputs (o ∷ p.refused)) (Doing [] (Ends (pos 0))) (Doing (filter (is_live outputs (o ∷ p.refused)) (when_written acts)) goal) })) (sym (closed_open 0 o outputs p.refused))
@@ -248,14 +260,14 @@ module _ {L : Type 0} (stands : L → Stream → Records → List Act → Type 0
               (subst (λ z. PlaceIs stands (order_of order) t false z (cond ends_it (Ending (pos 0)) (Writing follow)) hand now (record { known = p.known; refused = o ∷ p.refused; phase = cond ends_it (Doing [] (Ends (pos 0))) (Doing (filter (is_live outputs (o ∷ p.refused)) (when_written acts)) goal) })) (sym heard.0)
               (elim ends_it as (λ b. PlaceIs stands (order_of order) t false x (cond b (Ending (pos 0)) (Writing follow)) hand now (record { known = p.known; refused = o ∷ p.refused; phase = cond b (Doing [] (Ends (pos 0))) (Doing (filter (is_live outputs (o ∷ p.refused)) (when_written acts)) goal) })) [
                 | true ↦ refl
-                | false ↦ (left, stood, ap (λ l. Doing l goal) rest_is)
+                | false ↦ (left, stood, ap (λ l. Doing l goal) rest_is, in_hand)
               ]))));
         };
         all = λ kept came is. subst (λ f. AllIs f kept.all (Refused o ∷ h)) (sym heard.1)
             (elim ends_it as (λ b. AllIs (cond b (Ending (pos 0)) (Writing follow)) kept.all (Refused o ∷ h)) [ true ↦ tt | false ↦ all_same (Writing follow) kept.all (Refused o ∷ h) h refl refl is ]);
         taken = λ kept is taken. taken;
       })
-  wrote follow left acts q _ stood ends_is phase_is first rest fits heard = cc
+  wrote follow left acts q _ stood ends_is phase_is first rest in_hand fits heard = cc
 
   take_by : (order' : Order) (acts : List Act) → order' ≡ order → stands x t (records_of p.known.seen) acts → hand ≡ None → IsBeforeTake (order_of order') acts → place' ≡ taken_place order' t (records_of p.known.seen) → (q : Past) →
       q.known.seen ≡ p.known.seen → q.phase ≡ Doing (live (open_from 0 outputs p.refused) acts) (next_record t (records_of p.known.seen)) → Stood x place' q
@@ -270,6 +282,7 @@ module _ {L : Type 0} (stands : L → Stream → Records → List Act → Type 0
         subst (λ l. stands x t (records_of l) acts) (sym seen) stood,
         phase_is ∙ ap (λ l. Doing (live (open_from 0 outputs p.refused) acts) (next_record t (records_of l))) (sym seen)
             ∙ ap (λ g. Doing (live (open_from 0 outputs p.refused) (held_acts (at_hand_of (records_of q.known.seen)) g ++ acts)) (next_record t (records_of q.known.seen))) (sym none),
+        none_left_of (records_of q.known.seen) none,
       )
 
   take_kept : (order' : Order) (all : List ℕ) (g : List Event) → all ≡ text (taken_from 0 g) → AllIs (taken_place order' t (records_of p.known.seen)) all g
@@ -285,6 +298,7 @@ module _ {L : Type 0} (stands : L → Stream → Records → List Act → Type 0
         walk = record {
           flags_are = refl;
           sight_is = sight_is;
+          seen_is = seen_is;
           few = one_more _ _ few;
           place_is = λ on. subst (λ z. Stood z place' q) (sym heard.0) (take_by order acts refl stood none before place_is q refl refl);
         };
@@ -296,7 +310,7 @@ module _ {L : Type 0} (stands : L → Stream → Records → List Act → Type 0
   ended : (code : ℤ) (e : Event) → answers (Some (Want.Done code)) e ≡ true → Hears stands looks order ends_it x (Ending code) (told e) bytes y place' →
       Next (Ending code) e (after (list_row (order_of order) keeps t) outputs p (Doing [] (Ends code)) e)
   ended code (Ended c) fits heard = record {
-    walk = record { flags_are = refl; sight_is = sight_is; few = one_more _ _ few; place_is = λ on. cc };
+    walk = record { flags_are = refl; sight_is = sight_is; seen_is = seen_is; few = one_more _ _ few; place_is = λ on. cc };
     all = λ kept came is. subst (λ f. AllIs f kept.all (Ended c ∷ h)) (sym heard.1) tt;
     taken = λ kept is taken. taken;
   }
@@ -315,7 +329,7 @@ module _ {L : Type 0} (stands : L → Stream → Records → List Act → Type 0
   by_place (Writing follow) e is room ends_is fits came heard =
       let doing = is.2 in
       subst (λ z. Next (Writing follow) e (after (list_row (order_of order) keeps t) outputs p z e)) (sym doing.2)
-      (wrote follow is.0 doing.0 doing.1 e is.1 ends_is doing.2 doing.3 doing.4
+      (wrote follow is.0 doing.0 doing.1 e is.1 ends_is doing.2 doing.3 doing.4 is.3
       (subst (λ z. answers z e ≡ true) (want_first doing.0 (goal_behind follow t (records_of p.known.seen)) doing.1 doing.3) (subst (λ z. answers (want_in z) e ≡ true) doing.2 fits)) heard)
   by_place Taking e is room ends_is fits came heard =
       subst (λ z. Next Taking e (after (list_row (order_of order) keeps t) outputs p z e)) (sym is.4) (took is.0 e is.1 is.2 is.3 (subst (λ z. answers (want_in z) e ≡ true) is.4 fits) heard)
@@ -324,11 +338,20 @@ module _ {L : Type 0} (stands : L → Stream → Records → List Act → Type 0
 
 -- Asking
 
+-- where nothing is written nothing seen is asked for
+plain_seen : (h : List Event) (place : Place) → IsSeenBefore (want_at place) h
+plain_seen h Starting = tt
+plain_seen h Committing = tt
+plain_seen h Looking = tt
+plain_seen h Taking = tt
+plain_seen h (Ending code) = tt
+plain_seen h (Writing follow) = tt
+
 module _ {L : Type 0} (stands : L → Stream → Records → List Act → Type 0) (made : L → Option (List ℕ)) (order : RowOrder) (t : Stream) (outputs : List Bool) (h : List Event)
     (x y : L) (hand hand' : Option Repeat) (place' : Place) (flags : List Bool) (asked : Asked) (p : Past) where
   -- what is so when it has asked
   abbrev pub HasAsked : Place → Type 0
-  HasAsked from = PlaceIs stands order t true y place' hand' flags p × (Some (meaning asked (last_seen h)) ≡ want_in p.phase) × ((all : List ℕ) → AllIs from all h → AllIs place' all h)
+  HasAsked from = PlaceIs stands order t true y place' hand' flags p × (Some (meaning asked (last_seen h)) ≡ want_in p.phase) × ((all : List ℕ) → AllIs from all h → AllIs place' all h) × IsSeenBefore asked h
 
   plainly : (from : Place) → (y ≡ x) × (hand' ≡ hand) × (place' ≡ from) × (asked ≡ want_at from) → PlaceIs stands order t true x from hand flags p → Some (meaning (want_at from) (last_seen h)) ≡ want_in p.phase → HasAsked from
   plainly from asks is want = (
@@ -336,6 +359,7 @@ module _ {L : Type 0} (stands : L → Stream → Records → List Act → Type 0
         (subst (λ g. PlaceIs stands order t true x place' g flags p) (sym asks.1) (subst (λ f. PlaceIs stands order t true x f hand flags p) (sym asks.2) is)),
     ap (λ a. Some (meaning a (last_seen h))) asks.3 ∙ want,
     λ all kept. subst (λ f. AllIs f all h) (sym asks.2) kept,
+    subst (λ a. IsSeenBefore a h) (sym asks.3) (plain_seen h from),
   )
 
   -- nothing was left to write
@@ -345,6 +369,7 @@ module _ {L : Type 0} (stands : L → Stream → Records → List Act → Type 0
     subst (λ g. PlaceIs stands order t true y place' g flags p) (sym none) (subst (λ f. PlaceIs stands order t true y f None flags p) (sym place_is) is),
     ap (λ a. Some (meaning a (last_seen h))) (asks ∙ ap want_at place_is) ∙ want,
     λ all is. subst (λ f. AllIs f all h) (sym place_is) (kept all is),
+    subst (λ a. IsSeenBefore a h) (sym asks) (plain_seen h place'),
   )
 
   look_want : (stops : Bool) (code : ℤ) → p.phase ≡ Doing [] (cond stops (Ends code) (Asking (Want.Read 0))) → Some (meaning (want_at (cond stops (Ending code) Looking)) (last_seen h)) ≡ want_in p.phase
@@ -360,10 +385,11 @@ module _ {L : Type 0} (stands : L → Stream → Records → List Act → Type 0
   behind End stood none place_is asks is = turns End (Ending (t.code (records_of p.known.seen))) none place_is asks is (ap want_in (sym is)) (λ all kept. tt)
 
   -- what a group writes is asked for, by lists that stand for the same as those that gave it
-  one : (follow : Follow) (given : L) (g : Group) (rest before : List Act) → last_seen_on 0 h ≡ at_hand_of (records_of p.known.seen) → is_due flags g ≡ true → stands given t (records_of p.known.seen) rest →
+  one : (follow : Follow) (given : L) (g : Group) (rest before : List Act) → last_seen_on 0 h ≡ at_hand_of (records_of p.known.seen) → (0 < length (records_of p.known.seen) → IsSome (record_seen_on 0 h)) →
+      IsOfRecord (records_of p.known.seen) g → is_due flags g ≡ true → stands given t (records_of p.known.seen) rest →
       Puts stands made given g y hand' asked → place' ≡ Writing follow → live flags before ≡ live flags (group_acts (at_hand_of (records_of p.known.seen)) (made given) g ++ rest) →
       p.phase ≡ Doing (live flags (and_behind follow before)) (goal_behind follow t (records_of p.known.seen)) → HasAsked (Writing follow)
-  one follow given g rest before sight due stood puts place_is same is =
+  one follow given g rest before sight seen of due stood puts place_is same is =
       let rec = at_hand_of (records_of p.known.seen) in
       let goal = goal_behind follow t (records_of p.known.seen) in
       let pair = pair_of rec (made given) g in
@@ -371,34 +397,40 @@ module _ {L : Type 0} (stands : L → Stream → Records → List Act → Type 0
       let done = live flags (and_behind follow (group_acts rec (made given) g ++ rest)) in
       let acts : live flags (and_behind follow before) ≡ done = live_behind flags follow before ∙ ap (and_behind follow) same ∙ sym (live_behind flags follow (group_acts rec (made given) g ++ rest)) in
       let phase : p.phase ≡ Doing done goal = is ∙ ap (λ l. Doing l goal) acts in
-      let put = is_put given g rest sight puts stood in (
+      let put = is_put given g rest sight seen of puts stood in (
         subst (λ f. PlaceIs stands order t true y f hand' flags p) (sym place_is)
-            (rest, put.0, (done, pair, phase, first.0, first.1 ∙ ap (λ z. live flags (and_behind follow (held_acts rec z ++ rest))) (sym put.1))),
+            (rest, put.0, (done, pair, phase, first.0, first.1 ∙ ap (λ z. live flags (and_behind follow (held_acts rec z ++ rest))) (sym put.1)), subst (IsLeftOfRecord (records_of p.known.seen)) (sym put.1) (left_seen (records_of p.known.seen) g of)),
         put.2 ∙ sym (want_first done goal pair first.0) ∙ ap want_in (sym phase),
         λ all kept. subst (λ f. AllIs f all h) (sym place_is) kept,
+        put.3,
       )
     where
-      is_put : (given : L) (g : Group) (rest : List Act) → last_seen_on 0 h ≡ at_hand_of (records_of p.known.seen) → Puts stands made given g y hand' asked → stands given t (records_of p.known.seen) rest →
-          stands y t (records_of p.known.seen) rest × (hand' ≡ left_of g) × (Some (meaning asked (last_seen h)) ≡ Some (Want.Write (pair_of (at_hand_of (records_of p.known.seen)) (made given) g).0 (pair_of (at_hand_of (records_of p.known.seen)) (made given) g).1))
-      is_put given (AtHand r) rest sight puts stood =
-          (subst (λ z. stands z t (records_of p.known.seen) rest) (sym puts.0) stood, puts.1, ap (λ a. Some (meaning a (last_seen h))) puts.2 ∙ ap (λ rec. Some (Want.Write r.output rec)) sight)
-      is_put given (New o) rest sight puts stood = (puts.0 t (records_of p.known.seen) rest stood, puts.1, ap (λ a. Some (meaning a (last_seen h))) puts.2)
+      is_put : (given : L) (g : Group) (rest : List Act) → last_seen_on 0 h ≡ at_hand_of (records_of p.known.seen) → (0 < length (records_of p.known.seen) → IsSome (record_seen_on 0 h)) → IsOfRecord (records_of p.known.seen) g → Puts stands made given g y hand' asked → stands given t (records_of p.known.seen) rest →
+          stands y t (records_of p.known.seen) rest × (hand' ≡ left_of g) × (Some (meaning asked (last_seen h)) ≡ Some (Want.Write (pair_of (at_hand_of (records_of p.known.seen)) (made given) g).0 (pair_of (at_hand_of (records_of p.known.seen)) (made given) g).1)) × IsSeenBefore asked h
+      is_put given (AtHand r) rest sight seen of puts stood = (
+        subst (λ z. stands z t (records_of p.known.seen) rest) (sym puts.0) stood,
+        puts.1,
+        ap (λ a. Some (meaning a (last_seen h))) puts.2 ∙ ap (λ rec. Some (Want.Write r.output rec)) sight,
+        subst (λ a. IsSeenBefore a h) (sym puts.2) (seen of),
+      )
+      is_put given (New o) rest sight seen of puts stood =
+          (puts.0 t (records_of p.known.seen) rest stood, puts.1, ap (λ a. Some (meaning a (last_seen h))) puts.2, subst (λ a. IsSeenBefore a h) (sym puts.2) tt)
 
-  asks_at : (follow : Follow) (given : L) (group : Option Group) → last_seen_on 0 h ≡ at_hand_of (records_of p.known.seen) → PlaceIs stands order t false x (Writing follow) hand flags p → Fetches stands made flags x hand given group → Turns stands made follow given group y hand' place' asked → HasAsked (Writing follow)
-  asks_at follow given None sight is fetches turn =
+  asks_at : (follow : Follow) (given : L) (group : Option Group) → last_seen_on 0 h ≡ at_hand_of (records_of p.known.seen) → (0 < length (records_of p.known.seen) → IsSome (record_seen_on 0 h)) → PlaceIs stands order t false x (Writing follow) hand flags p → Fetches stands made flags x hand given group → Turns stands made follow given group y hand' place' asked → HasAsked (Writing follow)
+  asks_at follow given None sight seen is fetches turn =
       let rec = at_hand_of (records_of p.known.seen) in
       let f = fetches t (records_of p.known.seen) is.0 is.1 in
       behind follow (subst (λ z. stands z t (records_of p.known.seen) []) (sym turn.0) f.1) turn.1 (turn.2 t (records_of p.known.seen) [] f.1) turn.3
       (is.2 ∙ ap (λ l. Doing l (goal_behind follow t (records_of p.known.seen))) (live_behind flags follow (held_acts rec hand ++ is.0) ∙ ap (and_behind follow) f.0))
-  asks_at follow given (Some g) sight is fetches turn =
+  asks_at follow given (Some g) sight seen is fetches turn =
       let f = fetches.2 t (records_of p.known.seen) is.0 is.1 in
-      one follow given g f.0 (held_acts (at_hand_of (records_of p.known.seen)) hand ++ is.0) sight fetches.0 f.2 turn.0 turn.1 f.1 is.2
+      one follow given g f.0 (held_acts (at_hand_of (records_of p.known.seen)) hand ++ is.0) sight seen (f.3 is.3) fetches.0 f.2 turn.0 turn.1 f.1 is.2
 
   -- it asks for what is wanted
-  pub by_want : (from : Place) → last_seen_on 0 h ≡ at_hand_of (records_of p.known.seen) → PlaceIs stands order t false x from hand flags p → Asks stands made flags x hand from y hand' place' asked → HasAsked from
-  by_want Starting sight is asks = plainly Starting asks is (ap want_in (sym is.3))
-  by_want Committing sight is asks = plainly Committing asks is (ap want_in (sym is.3))
-  by_want Looking sight is asks = plainly Looking asks is (ap want_in (sym is.2))
-  by_want (Writing follow) sight is asks = asks_at follow asks.0 asks.1 sight is asks.2 asks.3
-  by_want Taking sight is asks = plainly Taking asks is (ap want_in (sym is.4))
-  by_want (Ending code) sight is asks = plainly (Ending code) asks is (ap want_in (sym is))
+  pub by_want : (from : Place) → last_seen_on 0 h ≡ at_hand_of (records_of p.known.seen) → (0 < length (records_of p.known.seen) → IsSome (record_seen_on 0 h)) → PlaceIs stands order t false x from hand flags p → Asks stands made flags x hand from y hand' place' asked → HasAsked from
+  by_want Starting sight seen is asks = plainly Starting asks is (ap want_in (sym is.3))
+  by_want Committing sight seen is asks = plainly Committing asks is (ap want_in (sym is.3))
+  by_want Looking sight seen is asks = plainly Looking asks is (ap want_in (sym is.2))
+  by_want (Writing follow) sight seen is asks = asks_at follow asks.0 asks.1 sight seen is asks.2 asks.3
+  by_want Taking sight seen is asks = plainly Taking asks is (ap want_in (sym is.4))
+  by_want (Ending code) sight seen is asks = plainly (Ending code) asks is (ap want_in (sym is))

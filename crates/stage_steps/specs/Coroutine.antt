@@ -1,7 +1,7 @@
 -- What a stage's coroutine promises: it asks for what its strand wants.
-use Rattle.std.specs.Prelude.{◌≡◌, ℕ, ◌<◌, Bool, true, List, [], ◌∷◌, length}
+use Rattle.std.specs.Prelude.{◌≡◌, ℕ, ◌<◌, ◌==◌, if◌then◌else◌, Bool, true, List, [], ◌∷◌, length, IsSome}
 use Rattle.std.specs.declared.option.Option.{Option}
-use Rattle.std.specs.declared.option.Option.TheVariants.{Some}
+use Rattle.std.specs.declared.option.Option.TheVariants.{Some, None}
 use Rattle.pipe_model.specs.declared.net.Strand.{Strand}
 use Rattle.pipe_model.specs.declared.step.Want.{Want as Asked}
 use Rattle.pipe_model.specs.declared.step.Want.TheVariants as Ask
@@ -22,6 +22,12 @@ use Rattle.pipe_model.specs.Table.{form}
 abbrev pub last_seen : List Event → ℕ → List ℕ
 last_seen h = λ i. last_seen_on i h
 
+-- the record last seen on an input, where one was seen
+abbrev pub record_seen_on : ℕ → List Event → Option (List ℕ)
+record_seen_on i [] = None
+record_seen_on i (Saw i' rec ∷ h) = if i' == i then Some rec else record_seen_on i h
+record_seen_on i (_ ∷ h) = record_seen_on i h
+
 -- the record that is to be written, by the records last seen
 abbrev pub written : Out → (ℕ → List ℕ) → List ℕ
 written (Same i) sight = sight i
@@ -40,6 +46,11 @@ meaning (Ask.Issue command) sight = Issue command
 meaning (Ask.Join k) sight = Join k
 meaning (Ask.Cut s) sight = Sever s
 meaning (Ask.Done code) sight = Done code
+
+-- where a record that was seen is to be written, one was seen
+abbrev pub IsSeenBefore : Asked → List Event → Type 0
+IsSeenBefore (Ask.Write o (Same i)) h = IsSome (record_seen_on i h)
+IsSeenBefore _ h = Unit {0}
 
 -- what the code is told of an event
 abbrev pub told : Event → Seen
@@ -84,7 +95,7 @@ pub record IsTold {S : Type 0} (stands : S → Strand → List Event → Type 0)
 abbrev pub CanResume : {S : Type 0} → (S → Strand → List Event → Type 0) → S → Seen → List ℕ → Type 0
 CanResume stands x seen bytes = (s : Strand) × (h : List Event) × (e : Event) × IsTold stands x seen bytes s h e
 
--- for each such strand, history and event, the new value stands for the history with that event, and asks for what is wanted then
+-- for each such strand, history and event, the new value stands for the history with that event, asks for what is wanted then, and writes no record as one seen that was never seen
 abbrev pub Resumes : {S : Type 0} → (S → Strand → List Event → Type 0) → S → S → Seen → List ℕ → Asked → Type 0
 Resumes stands x y seen bytes asked = (s : Strand) (h : List Event) (e : Event) → IsTold stands x seen bytes s h e →
-    stands y s (e ∷ h) × (Some (meaning asked (last_seen (e ∷ h))) ≡ owed s (e ∷ h))
+    stands y s (e ∷ h) × (Some (meaning asked (last_seen (e ∷ h))) ≡ owed s (e ∷ h)) × IsSeenBefore asked (e ∷ h)

@@ -1,5 +1,5 @@
 -- What stages of lists give, group by group.
-use Rattle.std.specs.Prelude.{◌≡◌, ℕ, ◌-◌, ◌==◌, Bool, true, ◌&&◌, not, if◌then◌else◌, List, [], ◌∷◌, replicate, option_map, is_some, unwrap_or}
+use Rattle.std.specs.Prelude.{◌≡◌, ◌<◌, length, ℕ, ◌-◌, ◌==◌, Bool, true, ◌&&◌, not, if◌then◌else◌, List, [], ◌∷◌, replicate, option_map, is_some, unwrap_or}
 use Rattle.std.specs.declared.option.Option.{Option}
 use Rattle.std.specs.declared.option.Option.TheVariants.{Some, None}
 use Rattle.pipe_model.specs.declared.kind.Times.{Times}
@@ -7,7 +7,7 @@ use Rattle.pipe_model.specs.declared.kind.Times.TheVariants.{Only, All}
 use Rattle.pipe_model.specs.Members.{flag_at}
 use Rattle.pipe_model.specs.Row.{Act}
 use Rattle.pipe_model.specs.Row.Act.{Writes, Repeats}
-use Rattle.pipe_model.specs.Shape.{writes}
+use Rattle.pipe_model.specs.Shape.{Records, writes}
 use Rattle.stage_steps.specs.declared.group.Repeat.{Repeat}
 use Rattle.stage_steps.specs.declared.group.Group.{Group}
 use Rattle.stage_steps.specs.declared.group.Group.TheVariants.{AtHand, New}
@@ -26,6 +26,16 @@ group_acts rec made (New o) = Writes o (unwrap_or made []) ∷ []
 abbrev pub IsHeld : Option (List ℕ) → Group → Type 0
 IsHeld made (AtHand r) = Unit {0}
 IsHeld made (New o) = is_some made ≡ true
+
+-- where the group is of the record at hand, there was one
+abbrev pub IsOfRecord : Records → Group → Type 0
+IsOfRecord recs (AtHand r) = 0 < length recs
+IsOfRecord recs (New o) = Unit {0}
+
+-- where something of the record at hand is left, there was one
+abbrev pub IsLeftOfRecord : Records → Option Repeat → Type 0
+IsLeftOfRecord recs None = Unit {0}
+IsLeftOfRecord recs (Some r) = 0 < length recs
 
 -- what is left to do of a record at hand that may be left
 abbrev pub held_acts : List ℕ → Option Repeat → List Act

@@ -1,5 +1,5 @@
 -- What the driver of lists stands for.
-use Rattle.std.specs.Prelude.{◌≡◌, ◌≤◌, ℕ, Bool, true, false, not, ◌==◌, if◌then◌else◌, List, [], ◌∷◌, ◌++◌, length, pos, negsuc, is_some}
+use Rattle.std.specs.Prelude.{◌≡◌, ◌≤◌, ◌<◌, IsSome, ℕ, Bool, true, false, not, ◌==◌, if◌then◌else◌, List, [], ◌∷◌, ◌++◌, length, pos, negsuc, is_some}
 use Rattle.std.specs.List.{list_any}
 use Rattle.std.specs.declared.option.Option.{Option}
 use Rattle.std.specs.declared.option.Option.TheVariants.{Some, None}
@@ -24,8 +24,8 @@ use Rattle.stage_steps.specs.declared.place.Follow.TheVariants.{Take, End}
 use Rattle.stage_steps.specs.declared.place.Place.{Place}
 use Rattle.stage_steps.specs.declared.place.Place.TheVariants.{Starting, Committing, Looking, Writing, Taking, Ending}
 use Rattle.stage_steps.specs.declared.walk.Walk.{Walk}
-use Rattle.stage_steps.specs.Coroutine.{kept_by}
-use Rattle.stage_steps.specs.Group.{held_acts}
+use Rattle.stage_steps.specs.Coroutine.{kept_by, record_seen_on}
+use Rattle.stage_steps.specs.Group.{held_acts, IsLeftOfRecord}
 use Rattle.stage_steps.specs.KeptText.{KeptText}
 use Rattle.stage_steps.specs.Outputs.{open_from, live}
 use Rattle.stage_steps.specs.Places.{order_of}
@@ -98,6 +98,7 @@ PlaceIs stands order t has_asked x Committing hand flags p = stands x t [] [] ×
 PlaceIs stands order t has_asked x Looking hand flags p = stands x t (records_of p.known.seen) [] × (hand ≡ None) × (p.phase ≡ Doing [] (Asks (Read 0)))
 PlaceIs stands order t has_asked x (Writing follow) hand flags p = (acts : List Act) × stands x t (records_of p.known.seen) acts
     × IsDoing has_asked (live flags (and_behind follow (held_acts (at_hand_of (records_of p.known.seen)) hand ++ acts))) (goal_behind follow t (records_of p.known.seen)) p.phase
+    × IsLeftOfRecord (records_of p.known.seen) hand
 PlaceIs stands order t has_asked x Taking hand flags p = (acts : List Act) × stands x t (records_of p.known.seen) acts × (hand ≡ None) × IsBeforeTake order acts
     × (p.phase ≡ Doing (Takes 0 ∷ live flags acts) (next_record t (records_of p.known.seen)))
 PlaceIs stands order t has_asked x (Ending code) hand flags p = p.phase ≡ Doing [] (Ends code)
@@ -122,6 +123,7 @@ pub record WalkIs {L : Type 0} (stands : L → Stream → Records → List Act �
     (x : L) (place : Place) (hand : Option Repeat) (flags : List Bool) (h : List Event) (p : Past) : Type 0 where
   pub flags_are : flags ≡ open_from 0 outputs p.refused
   pub sight_is : last_seen_on 0 h ≡ at_hand_of (records_of p.known.seen)
+  pub seen_is : 0 < length (records_of p.known.seen) → IsSome (record_seen_on 0 h)
   pub few : length (records_of p.known.seen) ≤ length h
   pub place_is : has_ended h ≡ false → PlaceIs stands order t has_asked x place hand flags p
 

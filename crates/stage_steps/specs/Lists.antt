@@ -5,7 +5,7 @@ use Rattle.std.specs.declared.option.Option.TheVariants.{Some, None}
 use Rattle.pipe_model.specs.Row.{Act}
 use Rattle.pipe_model.specs.Shape.{Records, Outs, Stream, each_record, writes, acts_of, last_pairs, at_hand_of}
 use Rattle.stage_steps.specs.declared.group.Group.{Group}
-use Rattle.stage_steps.specs.Group.{group_acts, IsHeld}
+use Rattle.stage_steps.specs.Group.{group_acts, IsHeld, IsOfRecord}
 
 -- it gives the pairs at the start
 abbrev pub Begins : {L : Type 0} → (L → Stream → Records → List Act → Type 0) → L → L → Type 0
@@ -24,7 +24,7 @@ Finishes stands x y = (t : Stream) (recs : Records) → stands x t recs [] → s
 abbrev pub GivesNext : {L T : Type 0} → (L → T → Records → List Act → Type 0) → (L → Option (List ℕ)) → L → L → Option Group → Type 0
 GivesNext {L} {T} stands made x y None = (t : T) (recs : Records) (acts : List Act) → stands x t recs acts → (acts ≡ []) × stands y t recs []
 GivesNext {L} {T} stands made x y (Some g) = IsHeld (made y) g × ((t : T) (recs : Records) (acts : List Act) → stands x t recs acts →
-    (rest : List Act) × (acts ≡ group_acts (at_hand_of recs) (made y) g ++ rest) × stands y t recs rest)
+    (rest : List Act) × (acts ≡ group_acts (at_hand_of recs) (made y) g ++ rest) × stands y t recs rest × IsOfRecord recs g)
 
 -- it stands for the same as before
 abbrev pub StandsOn : {L T : Type 0} → (L → T → Records → List Act → Type 0) → L → L → Type 0

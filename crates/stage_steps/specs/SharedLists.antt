@@ -9,7 +9,7 @@ use Rattle.stage_steps.specs.declared.copies.Copies.{Copies}
 use Rattle.stage_steps.specs.declared.each.Each.{Each}
 use Rattle.stage_steps.specs.declared.text_lines.TextLines.{TextLines}
 use Rattle.stage_steps.specs.Listed.{only_before}
-use Rattle.stage_steps.specs.Waiting.{waiting_act}
+use Rattle.stage_steps.specs.Waiting.{waiting_act, IsWaiting}
 
 -- the lines of a text, before the first of them is asked for
 abbrev pub fresh_lines : List ℕ → TextLines
@@ -33,7 +33,7 @@ fresh_copies is_looking = record { each = record { is_looking = is_looking; wait
 
 -- each record on output 0, where it may wait for it
 abbrev pub CopiesStand : Copies → Outs → Records → List Act → Type 0
-CopiesStand x outs recs acts = (outs ≡ Pairs copied) × (acts ≡ waiting_act x.waiting (at_hand_of recs))
+CopiesStand x outs recs acts = (outs ≡ Pairs copied) × (acts ≡ waiting_act x.waiting (at_hand_of recs)) × IsWaiting x.waiting recs
 
 -- whether copies are made with a look at records
 abbrev pub copies_look : Copies → Bool

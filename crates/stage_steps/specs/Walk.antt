@@ -18,7 +18,7 @@ use Rattle.stage_steps.specs.declared.place.Follow.{Follow}
 use Rattle.stage_steps.specs.declared.place.Follow.TheVariants.{Look, End}
 use Rattle.stage_steps.specs.declared.place.Place.{Place}
 use Rattle.stage_steps.specs.declared.place.Place.TheVariants.{Starting, Committing, Looking, Writing, Taking, Ending}
-use Rattle.stage_steps.specs.Group.{group_acts, held_acts, is_due, less_one, IsHeld}
+use Rattle.stage_steps.specs.Group.{group_acts, held_acts, is_due, less_one, IsHeld, IsOfRecord, IsLeftOfRecord}
 use Rattle.stage_steps.specs.Lists.{Begins, Sees, Finishes, StandsOn, Tells}
 use Rattle.stage_steps.specs.Outputs.{live}
 use Rattle.stage_steps.specs.Places.{want_at, sight_place, taken_place, place_behind}
@@ -45,7 +45,8 @@ abbrev pub Fetches : {L : Type 0} → (L → Stream → Records → List Act →
 Fetches stands made flags x hand y None = (t : Stream) (recs : Records) (acts : List Act) → stands x t recs acts →
     (live flags (held_acts (at_hand_of recs) hand ++ acts) ≡ []) × stands y t recs []
 Fetches stands made flags x hand y (Some g) = (is_due flags g ≡ true) × IsHeld (made y) g × ((t : Stream) (recs : Records) (acts : List Act) → stands x t recs acts →
-    (rest : List Act) × (live flags (held_acts (at_hand_of recs) hand ++ acts) ≡ live flags (group_acts (at_hand_of recs) (made y) g ++ rest)) × stands y t recs rest)
+    (rest : List Act) × (live flags (held_acts (at_hand_of recs) hand ++ acts) ≡ live flags (group_acts (at_hand_of recs) (made y) g ++ rest)) × stands y t recs rest
+    × (IsLeftOfRecord recs hand → IsOfRecord recs g))
 
 -- one of the group is asked for, and the others of a record at hand stay there
 abbrev pub Puts : {L : Type 0} → (L → Stream → Records → List Act → Type 0) → (L → Option (List ℕ)) → L → Group → L → Option Repeat → Want → Type 0

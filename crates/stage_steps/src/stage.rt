@@ -17,8 +17,9 @@ pub trait Stage: Sized + Drop {
     fn first(&self) -> Want
         ensures { (s : Strand) → stands self.now s [] → Some (meaning result (last_seen [])) ≡ next s [] };
 
-    /// The want after an event that answers the last one, and after `Ended(code)` `Done(code)`. `bytes` is the record
-    /// where the event is a `Saw` and the stage looks, else empty. After want of memory the value isn't resumed again.
+    /// The want after an event that answers the last one, and after `Ended(code)` `Done(code)`. A write of `Same(i)` comes
+    /// only after a record was seen on input i. `bytes` is the record where the event is a `Saw` and the stage looks, else
+    /// empty. After want of memory the value isn't resumed again.
     fn resume(&mut self, alloc: Global, seen: Seen, bytes: &[u8]) -> Result<Want, NoMemory>
         requires { CanResume stands self.old seen bytes.now }
         ensures { IfOk result (λ asked. Resumes stands self.old self.new seen bytes.now asked) };

@@ -10,7 +10,7 @@ use Rattle.core_machine.proofs.tests.work.Goals as goal
 pub run-done-requires : goal.run-done-requires
 run-done-requires g c =
     let job = c.in-Work.job in
-    let runs = work_runs g.S.Stage.stands c.args.core.now c.turn.new.self c.args.strand 0 (vec_capacity c.args.room.now) job c.turn.new.room.items c.in-Work.ensures.turned in
+    let runs = work_runs g.S.Stage.stands c.args.core.now c.turn.new.self c.args.strand c.args.stream (vec_capacity c.args.room.now) job c.turn.new.room.items c.in-Work.ensures.turned in
     subst (λ z. CanResume g.S.Stage.stands job.stage job.seen z) (sym c.deref.ensures.value) runs
 
 pub finish-requires-clause-stands : goal.finish-requires-clause-stands
@@ -18,14 +18,14 @@ finish-requires-clause-stands g c =
     let job = c.in-Work.job in
     let done = c.run-done.result in
     let resumes = subst (λ z. IfOk done.want (λ want. Resumes g.S.Stage.stands job.stage done.stage job.seen z want)) c.deref.ensures.value c.run-done.ensures.resumes in
-    let stands = work_done g.S.Stage.stands c.args.core.now c.turn.new.self c.args.strand 0 (vec_capacity c.args.room.now) job c.turn.new.room.items c.in-Work.ensures.turned done c.run-done.ensures.strand c.run-done.ensures.place resumes in
+    let stands = work_done g.S.Stage.stands c.args.core.now c.turn.new.self c.args.strand c.args.stream (vec_capacity c.args.room.now) job c.turn.new.room.items c.in-Work.ensures.turned done c.run-done.ensures.strand c.run-done.ensures.place resumes in
     let same : c.turn-2.new.self ≡ c.turn.new.self = c.in-NotReady.ensures.turned.2 in
-    subst (λ (z : Machine). IfOk done.want (λ want. DoneStands g.S.Stage.stands z.net (take done.place z.journal) done.strand done.place done.stage want)) (sym same) stands
+    subst (λ (z : Machine). DoneStands g.S.Stage.stands z.net (take done.place z.journal) done) (sym same) stands
 
 pub finish-requires-clause-among : goal.finish-requires-clause-among
 finish-requires-clause-among g c =
     let job = c.in-Work.job in
     let done = c.run-done.result in
-    let out = work_among g.S.Stage.stands c.args.core.now c.turn.new.self c.args.strand 0 (vec_capacity c.args.room.now) job c.turn.new.room.items c.in-Work.ensures.turned done c.run-done.ensures.place in
+    let out = work_among g.S.Stage.stands c.args.core.now c.turn.new.self c.args.strand c.args.stream (vec_capacity c.args.room.now) job c.turn.new.room.items c.in-Work.ensures.turned done c.run-done.ensures.place in
     let same : c.turn-2.new.self ≡ c.turn.new.self = c.in-NotReady.ensures.turned.2 in
     subst (λ (z : Machine). is_among done.place z.out ≡ true) (sym same) out

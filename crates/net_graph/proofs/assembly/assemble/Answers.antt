@@ -5,11 +5,12 @@ use Rattle.pipe_model.specs.declared.kind.Kind.{Kind}
 use Rattle.stage_syntax.specs.declared.fault.KindFault.{KindFault}
 use Rattle.net_graph.specs.Strands.{strands_by}
 use Rattle.net_graph.proofs.Searched.{outcomes_of_all}
-use Rattle.net_graph.specs.Nets.{net_of}
 use Rattle.net_graph.specs.Stands.{stages_of, stands_of}
+use Rattle.net_graph.proofs.WholeNets.{whole_net}
 use Rattle.net_graph.proofs.FormedFaults.{few_stages}
 use Rattle.net_graph.proofs.Assembled.{assembled, later_size, same_net, small_table}
 use Rattle.net_graph.proofs.Joined.{past_same}
+use Rattle.net_graph.proofs.WholeStages.{whole_same}
 use Rattle.net_graph.proofs.assembly.assemble.Goals as goal
 
 pub links_of-requires-clause-small : goal.links_of-requires-clause-small
@@ -52,4 +53,5 @@ returns c =
     c.in_ok-later.later.items c.in_ok-inputs.inputs.items c.in_ok-outputs.outputs.items c.len-stages.result
     (c.from_vec-2.ensures ∙ c.in_ok-links.ensures) (c.deref.ensures.value ∙ sym c.from_vec-2.ensures) (c.deref-2.ensures.value ∙ sym c.from_vec-2.ensures)
     c.in_ok-later.ensures size c.in_ok-inputs.ensures c.in_ok-outputs.ensures strands in
-    same_net c.from_vec.result c.from_vec-2.result (net_of c.args.pipelines.now c.args.kinds.items) both.0 both.1
+    same_net c.from_vec.result c.from_vec-2.result (whole_net c.args.pipelines.now c.args.kinds.items) both.0 both.1
+    ∙ sym (whole_same c.args.pipelines.now c.args.kinds.items c.requires.read)

@@ -1,31 +1,51 @@
-use Rattle.core_machine.specs.Machine.{state_of}
-use Rattle.pipe_model.specs.Reply.{reply, console_from}
-use Rattle.pipe_cli.proofs.Finishes.{run_means, some_outcome}
-use Rattle.pipe_cli.proofs.Replies.{decides_words, decides_reading, decides_running, decides_done, decides_part}
+use Rattle.std.proofs.Common.{inl, refl, ◌∙◌}
+use Rattle.pipe_cli.specs.declared.status.Outcome.TheVariants.{NoMemory, WriteFault}
+use Rattle.pipe_cli.proofs.Replies.{decides_words, decides_told, decides_as, decides_reading, reading_fixed, decides_memory, decides_running, decides_done, decides_part}
 use Rattle.pipe_cli.proofs.main_call.run.Goals as goal
 
-pub returns-in-Err : goal.returns-in-Err
-returns-in-Err g c = decides_words _ _ _ c.in-Err.outcome c.in-Err.ensures.unrun c.in-Err.ensures.called
+pub returns-in-Err-clause-decides : goal.returns-in-Err-clause-decides
+returns-in-Err-clause-decides g c =
+    decides_told _ _ _ _ _ c.in-Err.outcome c.tell.result.outcome c.tell.ensures.1
+    (decides_words _ _ _ _ c.in-Err.outcome c.in-Err.ensures.called)
+    (λ wants. decides_words _ _ _ _ NoMemory (inl refl))
 
-pub returns-in-Err-take_input : goal.returns-in-Err-take_input
-returns-in-Err-take_input g c = decides_reading _ c.in-Ok.call.net c.in-Ok.call.steps _ _ _ c.in-Err-take_input.outcome c.in-Ok.ensures.called c.in-Err-take_input.ensures.taken
+pub returns-in-Err-take_input-clause-decides : goal.returns-in-Err-take_input-clause-decides
+returns-in-Err-take_input-clause-decides g c =
+    let part = c.in-Err-take_input.ensures.taken in
+    let runs = c.in-Ok.ensures.called in
+    decides_told _ _ _ _ _ c.in-Err-take_input.outcome c.tell-in-Err-take_input.result.outcome c.tell-in-Err-take_input.ensures.1
+    (decides_reading _ _ _ _ c.in-Ok.call.net c.in-Ok.call.steps runs c.in-Ok.ensures.built _ c.in-Err-take_input.outcome part)
+    (reading_fixed _ _ _ _ c.in-Ok.call.net c.in-Ok.call.steps runs c.in-Ok.ensures.built _ c.in-Err-take_input.outcome part)
 
-pub returns-in-Err-run_net : goal.returns-in-Err-run_net
-returns-in-Err-run_net g c =
+pub returns-in-Err-run_net-clause-decides : goal.returns-in-Err-run_net-clause-decides
+returns-in-Err-run_net-clause-decides g c =
     let taken = c.in-Ok-take_input.ensures.taken in
-    decides_running _ c.in-Ok.call.net c.in-Ok.call.steps c.in-Ok.ensures.called c.in-Ok.ensures.whole taken.0 _ _ taken.1 c.in-Ok-take_input.net taken.2 _ c.in-Err-run_net.outcome c.in-Err-run_net.ensures
+    let runs = c.in-Ok.ensures.called in
+    decides_told _ _ _ _ _ c.in-Err-run_net.outcome c.tell-in-Err-run_net.result.outcome c.tell-in-Err-run_net.ensures.1
+    (decides_running _ _ _ _ c.in-Ok.call.net c.in-Ok.call.steps runs c.in-Ok.ensures.built _ c.in-Ok.ensures.whole taken.0 taken.1 c.in-Ok-take_input.net taken.2 c.in-Err-run_net.outcome c.in-Err-run_net.ensures)
+    (λ wants. decides_memory _ _ _ _ c.in-Ok.call.net c.in-Ok.call.steps runs c.in-Ok.ensures.built _ c.in-Ok.ensures.whole taken.0 taken.1)
 
-pub returns-in-Ok-write_kept : goal.returns-in-Ok-write_kept
-returns-in-Ok-write_kept g c =
+pub returns-in-Err-outcome_of-clause-decides : goal.returns-in-Err-outcome_of-clause-decides
+returns-in-Err-outcome_of-clause-decides g c =
     let taken = c.in-Ok-take_input.ensures.taken in
-    let core = c.in-Ok-run_net.core in
-    let means = run_means _ c.in-Ok.call.net c.in-Ok.call.steps c.in-Ok.ensures.called taken.0 taken.1.fits taken.1.leaves c.in-Ok.ensures.whole c.in-Ok-take_input.net taken.2 c.in-Ok-take_input.ensures.built core c.in-Ok-run_net.ensures c.outcome_of.result c.outcome_of.ensures in
-    decides_done _ c.in-Ok.call.net c.in-Ok.call.steps c.in-Ok.ensures.called c.in-Ok.ensures.whole taken.0 _ _ taken.1 _ _ (console_from (state_of core) 0 core.net.strands) c.outcome_of.result means c.in-Ok-write_kept.ensures
+    decides_as _ _ _ _ _ NoMemory c.no_memory.result.outcome c.no_memory.ensures.outcome
+    (decides_memory _ _ _ _ c.in-Ok.call.net c.in-Ok.call.steps c.in-Ok.ensures.called c.in-Ok.ensures.built _ c.in-Ok.ensures.whole taken.0 taken.1)
 
-pub returns : goal.returns
-returns g c =
+pub returns-in-Err-with_text-clause-decides : goal.returns-in-Err-with_text-clause-decides
+returns-in-Err-with_text-clause-decides g c =
     let taken = c.in-Ok-take_input.ensures.taken in
-    let core = c.in-Ok-run_net.core in
-    let some = some_outcome (reply core.net (state_of core)) in
-    let means = run_means _ c.in-Ok.call.net c.in-Ok.call.steps c.in-Ok.ensures.called taken.0 taken.1.fits taken.1.leaves c.in-Ok.ensures.whole c.in-Ok-take_input.net taken.2 c.in-Ok-take_input.ensures.built core c.in-Ok-run_net.ensures some.0 some.1 in
-    decides_part _ c.in-Ok.call.net c.in-Ok.call.steps c.in-Ok.ensures.called c.in-Ok.ensures.whole taken.0 _ _ taken.1 _ _ (console_from (state_of core) 0 core.net.strands) some.0 c.in-Err-write_kept.outcome means c.in-Err-write_kept.ensures
+    decides_as _ _ _ _ _ NoMemory c.no_memory-in-Err-with_text.result.outcome c.no_memory-in-Err-with_text.ensures.outcome
+    (decides_memory _ _ _ _ c.in-Ok.call.net c.in-Ok.call.steps c.in-Ok.ensures.called c.in-Ok.ensures.built _ c.in-Ok.ensures.whole taken.0 taken.1)
+
+pub returns-in-Ok-write_kept-clause-decides : goal.returns-in-Ok-write_kept-clause-decides
+returns-in-Ok-write_kept-clause-decides g c =
+    let taken = c.in-Ok-take_input.ensures.taken in
+    decides_done _ _ _ _ c.in-Ok.call.net c.in-Ok.call.steps c.in-Ok.ensures.called c.in-Ok.ensures.built _ c.in-Ok.ensures.whole taken.0 taken.1 c.in-Ok-take_input.net taken.2
+    c.in-Ok-run_net.core c.in-Ok-run_net.ensures c.in-Ok-with_text.told.outcome (c.in-Ok-with_text.ensures.same ∙ c.in-Ok-outcome_of.ensures) _ c.in-Ok-write_kept.ensures
+
+pub returns-clause-decides : goal.returns-clause-decides
+returns-clause-decides g c =
+    let taken = c.in-Ok-take_input.ensures.taken in
+    decides_as _ _ _ _ _ WriteFault c.write_fault.result.outcome c.write_fault.ensures.outcome
+    (decides_part _ _ _ _ c.in-Ok.call.net c.in-Ok.call.steps c.in-Ok.ensures.called c.in-Ok.ensures.built _ c.in-Ok.ensures.whole taken.0 taken.1 c.in-Ok-take_input.net taken.2
+    c.in-Ok-run_net.core c.in-Ok-run_net.ensures c.in-Ok-with_text.told.outcome (c.in-Ok-with_text.ensures.same ∙ c.in-Ok-outcome_of.ensures) _ _ c.in-Err-write_kept.ensures)

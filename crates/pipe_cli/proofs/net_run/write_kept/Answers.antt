@@ -7,7 +7,7 @@ use Rattle.pipe_model.specs.State.{past}
 use Rattle.pipe_model.specs.Table.{form}
 use Rattle.stage_steps.specs.Coroutine.{kept_by}
 use Rattle.core_machine.specs.Machine.{state_of}
-use Rattle.pipe_cli.specs.Devices.{device}
+use Rattle.outside.specs.Device.{device}
 use Rattle.pipe_cli.specs.Steps.{IsPartWritten}
 use Rattle.pipe_cli.proofs.Kept.{with_kept, without_kept, wrote_more, wrote_part}
 use Rattle.pipe_cli.proofs.net_run.write_kept.Goals as goal

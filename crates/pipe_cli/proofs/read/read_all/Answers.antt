@@ -1,7 +1,7 @@
 use Rattle.std.proofs.Common.{◌∙◌, ◌++◌, ◌<◌, take, length, arith, length-append}
+use Rattle.std.proofs.KnownBytes.{Consumes-trans}
 use Rattle.std.proofs.lemmas.List.{length-take}
 use Rattle.pipe_cli.specs.Meaning.{input_limit}
-use Rattle.pipe_cli.proofs.Streams.{gave-more}
 use Rattle.pipe_cli.proofs.read.read_all.Goals as goal
 
 pub returns-then-count-len : goal.returns-then-count-len
@@ -11,7 +11,7 @@ returns-then-count-len g c =
     omega (arith, read.1, length-append c.loop-bytes.bytes.items (take c.in-Bytes.count c.read.new.room), length-take c.in-Bytes.count c.read.new.room) in
     record {
       given = _;
-      gave = gave-more _ _ _ _ _ c.loop-bytes.invariant.gave read.2;
+      gave = Consumes-trans (g.I.Source.left c.args.input.now) (g.I.Source.left c.loop-bytes.input) (g.I.Source.left c.read.new.self) _ _ c.loop-bytes.invariant.gave read.2;
       stops = (past, c.in-Bytes.ensures.count ∙ c.loop-bytes.invariant.steady);
     }
 
@@ -20,6 +20,6 @@ returns-then-is_err g c =
     let read = c.in-Bytes.ensures.bytes in
     record {
       given = _;
-      gave = gave-more _ _ _ _ _ c.loop-bytes.invariant.gave read.2;
+      gave = Consumes-trans (g.I.Source.left c.args.input.now) (g.I.Source.left c.loop-bytes.input) (g.I.Source.left c.read.new.self) _ _ c.loop-bytes.invariant.gave read.2;
       stops = c.in-Bytes.ensures.count ∙ c.loop-bytes.invariant.steady;
     }

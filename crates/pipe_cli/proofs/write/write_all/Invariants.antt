@@ -1,11 +1,11 @@
 use Rattle.std.proofs.Common.{◌≡◌, ◌≤◌, ◌-◌, take, length}
-use Rattle.outside.specs.Sink.{Gained}
+use Rattle.std.specs.Io.KnownBytes.{Appends}
 use Rattle.pipe_cli.proofs.write.write_all.Given as goal
 
 abbrev pub invariant-loop-at : goal.invariant-loop-at
 invariant-loop-at g l = record {
   within : l.at ≤ length l.bytes;
-  gained : Gained (take l.at l.bytes) (g.O.Sink.written l.fn.output) (g.O.Sink.written l.output);
+  gained : Appends (g.O.Sink.written l.fn.output) (g.O.Sink.written l.output) (take l.at l.bytes);
   steady : g.O.Sink.faults l.output ≡ g.O.Sink.faults l.fn.output;
 }
 

@@ -1,6 +1,6 @@
 use Rattle.std.proofs.Common.{◌≡◌, ◌+◌, ◌<◌, ◌≤◌, [], length, vec_capacity, arith, sym, rules}
 use Rattle.std.proofs.lemmas.Grind.{common_steps}
-use Rattle.record_pool.proofs.Places.{with_record-set, with_record-end}
+use Rattle.record_pool.proofs.Places.{with_place-set, with_place-end}
 use Rattle.record_pool.proofs.Keeps.{last_is_vacant, kept_filled, kept_added, vacancy_at-within, vacancy_at-none}
 use Rattle.record_pool.proofs.pool.fill.Goals as goal
 
@@ -16,7 +16,7 @@ pub returns-in-Some-clause-vacant : goal.returns-in-Some-clause-vacant
 returns-in-Some-clause-vacant c = vacancy_at-none c.args.places.now.items c.in-Some.place (last_is_vacant _ _ _ _ _ c.requires c.in-Some.ensures.items)
 
 pub returns-in-Some-clause-put : goal.returns-in-Some-clause-put
-returns-in-Some-clause-put c = sym (with_record-set _ _ _ (vacancy_at-within _ _ (last_is_vacant _ _ _ _ _ c.requires c.in-Some.ensures.items)))
+returns-in-Some-clause-put c = sym (with_place-set _ _ _ (vacancy_at-within _ _ (last_is_vacant _ _ _ _ _ c.requires c.in-Some.ensures.items)))
 
 pub returns-clause-kept : goal.returns-clause-kept
 returns-clause-kept c =
@@ -28,4 +28,4 @@ returns-clause-kept c =
 pub returns-clause-put : goal.returns-clause-put
 returns-clause-put c =
     let at : c.len-place.result ≡ length c.args.places.now.items = search rules in
-    rw (c.in_ok-push.ensures.items, at) (sym (with_record-end _ _))
+    rw (c.in_ok-push.ensures.items, at) (sym (with_place-end _ _))

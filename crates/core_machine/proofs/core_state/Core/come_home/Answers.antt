@@ -1,7 +1,7 @@
 use Rattle.std.proofs.Common.{◌≡◌, ◌<◌, ◌≤◌, ℕ, true, length, take, List, arith, sym, ◌∙◌, ap, subst}
 use Rattle.pipe_model.specs.Play.{play}
 use Rattle.record_pool.specs.Places.{bytes_at}
-use Rattle.core_machine.specs.Jobs.{DoneStands}
+use Rattle.core_machine.specs.Jobs.{HasGoneOn}
 use Rattle.core_machine.specs.Machine.{Machine, left_by, without, is_among, came_home}
 use Rattle.core_machine.specs.Sound.{IsSound}
 use Rattle.core_machine.specs.Woken.{IsCovering, AsksEarly, AreInside}
@@ -13,8 +13,8 @@ come_back-requires-clause-can g c =
     let i = c.self.inside in
     let v : ◌≡◌ {A = Machine} (record { net = i.net; budget = i.budget; journal = i.journal.items; out = i.out.items; is_broken = i.is_broken }) c.args.self.now = c.self.view_is in
     let among : is_among c.args.place i.out.items ≡ true = subst (λ (z : Machine). is_among c.args.place z.out ≡ true) (sym v) c.requires.among in
-    let done : DoneStands g.S.Stage.stands i.net (take c.args.place i.journal.items) c.args.strand c.args.place c.args.stage c.args.want =
-    subst (λ (z : Machine). DoneStands g.S.Stage.stands z.net (take c.args.place z.journal) c.args.strand c.args.place c.args.stage c.args.want) (sym v) c.requires.stands in
+    let done : HasGoneOn g.S.Stage.stands i.net (take c.args.place i.journal.items) c.args.strand c.args.place c.args.stage c.args.want =
+    subst (λ (z : Machine). HasGoneOn g.S.Stage.stands z.net (take c.args.place z.journal) c.args.strand c.args.place c.args.stage c.args.want) (sym v) c.requires.stands in
     λ going. can_home g.S.Stage.stands i.net i.budget i.journal.items i.out.items i.actors.items i.desk i.pool i.ready c.self.invariant.0 c.args.strand c.args.place c.args.stage c.args.want among done (sym c.has_ended-has_ended.ensures ∙ going)
 
 pub wake-requires : goal.wake-requires
@@ -22,8 +22,8 @@ wake-requires g c =
     let i = c.self.inside in
     let v : ◌≡◌ {A = Machine} (record { net = i.net; budget = i.budget; journal = i.journal.items; out = i.out.items; is_broken = i.is_broken }) c.args.self.now = c.self.view_is in
     let among : is_among c.args.place i.out.items ≡ true = subst (λ (z : Machine). is_among c.args.place z.out ≡ true) (sym v) c.requires.among in
-    let done : DoneStands g.S.Stage.stands i.net (take c.args.place i.journal.items) c.args.strand c.args.place c.args.stage c.args.want =
-    subst (λ (z : Machine). DoneStands g.S.Stage.stands z.net (take c.args.place z.journal) c.args.strand c.args.place c.args.stage c.args.want) (sym v) c.requires.stands in
+    let done : HasGoneOn g.S.Stage.stands i.net (take c.args.place i.journal.items) c.args.strand c.args.place c.args.stage c.args.want =
+    subst (λ (z : Machine). HasGoneOn g.S.Stage.stands z.net (take c.args.place z.journal) c.args.strand c.args.place c.args.stage c.args.want) (sym v) c.requires.stands in
     subst (λ n. c.args.strand < n) (sym c.self.invariant.0.size) (place g.S.Stage.stands i.net i.budget i.journal.items i.out.items i.actors.items i.desk i.pool i.ready c.self.invariant.0 c.args.strand c.args.place c.args.stage c.args.want among done)
 
 pub come_back-requires-clause-strand : goal.come_back-requires-clause-strand
@@ -31,8 +31,8 @@ come_back-requires-clause-strand g c =
     let i = c.self.inside in
     let v : ◌≡◌ {A = Machine} (record { net = i.net; budget = i.budget; journal = i.journal.items; out = i.out.items; is_broken = i.is_broken }) c.args.self.now = c.self.view_is in
     let among : is_among c.args.place i.out.items ≡ true = subst (λ (z : Machine). is_among c.args.place z.out ≡ true) (sym v) c.requires.among in
-    let done : DoneStands g.S.Stage.stands i.net (take c.args.place i.journal.items) c.args.strand c.args.place c.args.stage c.args.want =
-    subst (λ (z : Machine). DoneStands g.S.Stage.stands z.net (take c.args.place z.journal) c.args.strand c.args.place c.args.stage c.args.want) (sym v) c.requires.stands in
+    let done : HasGoneOn g.S.Stage.stands i.net (take c.args.place i.journal.items) c.args.strand c.args.place c.args.stage c.args.want =
+    subst (λ (z : Machine). HasGoneOn g.S.Stage.stands z.net (take c.args.place z.journal) c.args.strand c.args.place c.args.stage c.args.want) (sym v) c.requires.stands in
     subst (λ n. c.args.strand < n) (sym (c.wake.ensures.larger.0 ∙ c.self.invariant.0.size)) (place g.S.Stage.stands i.net i.budget i.journal.items i.out.items i.actors.items i.desk i.pool i.ready c.self.invariant.0 c.args.strand c.args.place c.args.stage c.args.want among done)
 
 pub come_back-requires-clause-links : goal.come_back-requires-clause-links
@@ -59,8 +59,8 @@ take_back-requires g c =
     let i = c.self.inside in
     let v : ◌≡◌ {A = Machine} (record { net = i.net; budget = i.budget; journal = i.journal.items; out = i.out.items; is_broken = i.is_broken }) c.args.self.now = c.self.view_is in
     let among : is_among c.args.place i.out.items ≡ true = subst (λ (z : Machine). is_among c.args.place z.out ≡ true) (sym v) c.requires.among in
-    let done : DoneStands g.S.Stage.stands i.net (take c.args.place i.journal.items) c.args.strand c.args.place c.args.stage c.args.want =
-    subst (λ (z : Machine). DoneStands g.S.Stage.stands z.net (take c.args.place z.journal) c.args.strand c.args.place c.args.stage c.args.want) (sym v) c.requires.stands in
+    let done : HasGoneOn g.S.Stage.stands i.net (take c.args.place i.journal.items) c.args.strand c.args.place c.args.stage c.args.want =
+    subst (λ (z : Machine). HasGoneOn g.S.Stage.stands z.net (take c.args.place z.journal) c.args.strand c.args.place c.args.stage c.args.want) (sym v) c.requires.stands in
     let here = place g.S.Stage.stands i.net i.budget i.journal.items i.out.items i.actors.items i.desk i.pool i.ready c.self.invariant.0 c.args.strand c.args.place c.args.stage c.args.want among done in
     let count = c.self.invariant.0.strands.count in
     omega (arith, here, count)
@@ -70,8 +70,8 @@ invariant_of-self-2 g c =
     let i = c.self.inside in
     let v : ◌≡◌ {A = Machine} (record { net = i.net; budget = i.budget; journal = i.journal.items; out = i.out.items; is_broken = i.is_broken }) c.args.self.now = c.self.view_is in
     let among : is_among c.args.place i.out.items ≡ true = subst (λ (z : Machine). is_among c.args.place z.out ≡ true) (sym v) c.requires.among in
-    let done : DoneStands g.S.Stage.stands i.net (take c.args.place i.journal.items) c.args.strand c.args.place c.args.stage c.args.want =
-    subst (λ (z : Machine). DoneStands g.S.Stage.stands z.net (take c.args.place z.journal) c.args.strand c.args.place c.args.stage c.args.want) (sym v) c.requires.stands in
+    let done : HasGoneOn g.S.Stage.stands i.net (take c.args.place i.journal.items) c.args.strand c.args.place c.args.stage c.args.want =
+    subst (λ (z : Machine). HasGoneOn g.S.Stage.stands z.net (take c.args.place z.journal) c.args.strand c.args.place c.args.stage c.args.want) (sym v) c.requires.stands in
     let old = c.self.invariant.0 in
     let back = c.come_back.new in
     let home = c.in_ok-come_back.ensures.home in

@@ -75,7 +75,7 @@ returns-clause-job g c =
     let covers = c.move_out.ensures.covers i.net (bytes_at i.pool) (play i.net i.journal.items) (left_by i.journal.items i.out.items) (sym c.as_slice.ensures) (sym old.size) old.formed old.run.kept (asks_early g.S.Stage.stands i.net i.budget i.journal.items i.out.items i.actors.items i.desk i.pool i.ready c.self.invariant.0) old.covers in
     let job = job_turned g.S.Stage.stands i.net i.budget i.journal.items i.out.items i.actors.items i.desk i.pool i.ready c.self.invariant.0 c.args.strand c.args.stream c.requires.may.0 may out.0 c.send_out-stage.result out.1 out.2 c.args.seen c.requires.may.2 (gone_out c.args.seen out.0) refl refl refl space c.move_out.new.desk c.move_out.new.pool c.move_out.new.ready c.move_out.ensures.desk c.move_out.ensures.pool c.move_out.ensures.larger.0 covers in
     let place : c.len-place.result ≡ suc (length i.journal.items) = search rules in
-    let Stands : List Entry → ℕ → Type 0 = λ j p. JobStands g.S.Stage.stands i.net j c.args.strand p c.args.seen c.send_out-stage.result in
+    let Stands : List Entry → ℕ → Type 0 = λ j p. JobStands g.S.Stage.stands i.net j (record { strand = c.args.strand; place = p; seen = c.args.seen; stage = c.send_out-stage.result }) in
     subst (λ j. Stands j c.len-place.result) (sym c.push_reserved.ensures.items)
     (subst (λ p. Stands (i.journal.items ++ (record { strand = c.args.strand; stream = c.args.stream }) ∷ []) p) (sym place) job)
 

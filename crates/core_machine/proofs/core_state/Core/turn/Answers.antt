@@ -83,7 +83,10 @@ returns-clause-turned g c =
     let bytes : c.bytes_seen.result.now ≡ bytes_with (looks_at c.args.self.now.net c.args.strand) some.0 =
     c.bytes_seen.ensures some.0 (past (play i.net i.journal.items) c.args.strand) after (goes_on g.S.Stage.stands i.net i.budget i.journal.items i.out.items i.actors.items i.desk i.pool i.ready c.self.invariant.0 c.args.strand c.args.stream some.0 some.1) some.2
     ∙ ap (λ n. bytes_with (looks_at n c.args.strand) some.0) nets in
-    (whole, subst (λ (z : Machine). length z.journal < z.budget) v space, c.go_out-job.ensures.after, c.go_out-job.ensures.strand, c.go_out-job.ensures.job, (some.0, may, c.fill.ensures ∙ bytes))
+    let fits : c.size_of_look-size.result ≤ vec_capacity c.args.room.now = (let l = c.capacity.ensures in let f = c.if-size-capacity.false in search (rules, l, f)) in
+    let long : length c.fill.new.room.items ≡ c.size_of_look-size.result = ap length (c.fill.ensures.items ∙ bytes) ∙ sym size in
+    let within : length c.fill.new.room.items ≤ vec_capacity c.args.room.now = omega (arith, fits, long) in
+    (whole, subst (λ (z : Machine). length z.journal < z.budget) v space, c.go_out-job.ensures.after, c.go_out-job.ensures.strand, within, c.go_out-job.ensures.job, (some.0, may, c.fill.ensures.items ∙ bytes))
 
 pub returns-clause-lawful : goal.returns-clause-lawful
 returns-clause-lawful g c =

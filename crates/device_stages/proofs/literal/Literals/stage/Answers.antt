@@ -10,4 +10,4 @@ pub returns : goal.returns
 returns c =
     let text = c.args.text.now in
     IfOk-weaker c.new.result _ _ (λ x fresh. stage_of LiteralsStand literals_look (Literal text) (λ outputs. literal text) _ _ c.args.outputs.now false x fresh
-    (λ s. refl) refl (λ keeps. keeps) (ap literal (sym c.in_ok-copy.ensures), refl)) c.new.ensures
+    (λ s. refl) refl (λ keeps. keeps) (ap literal (sym c.in_ok-copy.ensures), refl, tt)) c.new.ensures

@@ -17,4 +17,4 @@ by_times All = refl
 pub returns : goal.returns
 returns c =
     IfOk-weaker c.new.result _ _ (λ x fresh. stage_of (EachStand DuplicatesStand) (each_look duplicates_look) (Duplicate c.args.copies) (λ outputs. duplicate c.args.copies) _ _ c.args.outputs.now false x fresh
-    (λ s. refl) refl (λ keeps. keeps) ((duplicate c.args.copies).outs, by_times c.args.copies, (refl, refl))) c.new.ensures
+    (λ s. refl) refl (λ keeps. keeps) ((duplicate c.args.copies).outs, by_times c.args.copies, (refl, refl, tt))) c.new.ensures

@@ -1,5 +1,5 @@
 use Rattle.record_pool.specs.Places.{one_less}
-use Rattle.record_pool.proofs.Places.{written_held}
+use Rattle.record_pool.proofs.Records.{written_held}
 use Rattle.record_pool.proofs.Keeps.{keeps_given, keeps_freed}
 use Rattle.record_pool.proofs.pool.Pool.give.Goals as goal
 

@@ -1,5 +1,5 @@
 use Rattle.record_pool.specs.Places.{one_more}
-use Rattle.record_pool.proofs.Places.{written_held}
+use Rattle.record_pool.proofs.Records.{written_held}
 use Rattle.record_pool.proofs.Keeps.{keeps_shared}
 use Rattle.record_pool.proofs.pool.Pool.share.Goals as goal
 

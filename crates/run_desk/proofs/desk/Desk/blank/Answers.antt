@@ -1,7 +1,8 @@
 -- The desk that was laid out may begin a run.
-use Rattle.std.proofs.Common.{◌≡◌, [], length, sym, subst}
+use Rattle.std.proofs.Common.{◌≡◌, length, sym, subst}
 use Rattle.std.proofs.lemmas.Result.{IfOk-weaker}
 use Rattle.pipe_model.specs.State.{nothing_yet}
+use Rattle.record_pool.specs.PoolState.{empty_pool}
 use Rattle.run_desk.specs.Desk.{DeskState}
 use Rattle.run_desk.specs.Blank.{blank_desk}
 use Rattle.run_desk.specs.Order.{IsRun, out_from}
@@ -12,5 +13,5 @@ pub returns : goal.returns
 returns c =
     let net = c.args.net.now in
     let left = out_from 0 (length net.strands) in
-    IfOk-weaker c.lay_out.result (λ (desk : DeskState). desk ≡ blank_desk net) (λ (desk : DeskState). IsRun net nothing_yet left desk [])
-    (λ (desk : DeskState) is. subst (λ (z : DeskState). IsRun net nothing_yet left z []) (sym is) (blank_run net c.requires.formed c.requires.rendezvous)) c.lay_out.ensures
+    IfOk-weaker c.lay_out.result (λ (desk : DeskState). desk ≡ blank_desk net) (λ (desk : DeskState). IsRun net nothing_yet left desk empty_pool)
+    (λ (desk : DeskState) is. subst (λ (z : DeskState). IsRun net nothing_yet left z empty_pool) (sym is) (blank_run net c.requires.formed c.requires.rendezvous)) c.lay_out.ensures

@@ -9,4 +9,4 @@ use Rattle.select_stages.proofs.picks.Picked.stage.Goals as goal
 pub returns : goal.returns
 returns g c =
     IfOk-weaker c.new.result _ _ (λ x fresh kind choice is stood. stage_of (PickedStand g.P.Picks.stands) (picked_look g.P.Picks.is_looking) kind (λ outputs. chosen choice) _ _ c.args.outputs.now false x fresh
-    (λ s. ap (lists_of s) is.0) is.1 (λ keeps. cc) (choice, refl, stood, refl)) c.new.ensures
+    (λ s. ap (lists_of s) is.0) is.1 (λ keeps. cc) (choice, refl, stood, refl, tt)) c.new.ensures

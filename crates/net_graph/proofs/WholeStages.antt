@@ -1,0 +1,179 @@
+-- Where every stage has one strand, the strands of a net are its stages and the links its joins.
+use Rattle.std.proofs.Common.{◌≡◌, ℕ, zero, suc, ◌+◌, ◌≤◌, false, List, [], ◌∷◌, ◌++◌, refl, sym, ◌∙◌, ap, ap₂, subst, arith, Option, Some, None, length, length-append, map, take, append-nil}
+use Rattle.std.specs.Prelude.{Ok, ⊤}
+use Rattle.std.specs.List.{range_with_len}
+use Rattle.std.specs.Option.{option_map}
+use Rattle.std.proofs.lemmas.List.Elements.{filter-append}
+use Rattle.std.proofs.lemmas.List.Sums.{sum_by-cons}
+use Rattle.std.proofs.lemmas.Option.{slice_get_within}
+use Rattle.pipe_model.specs.declared.kind.Kind.{Kind}
+use Rattle.pipe_model.specs.declared.net.Link.{Link}
+use Rattle.pipe_model.specs.declared.net.Net.{Net}
+use Rattle.pipe_model.specs.declared.net.Strand.{Strand}
+use Rattle.pipe_model.specs.Form.{parting_by}
+use Rattle.pipe_model.specs.Form.Parting.{Whole}
+use Rattle.pipe_model.specs.Table.{line_of}
+use Rattle.pipe_model.specs.WellFormed.{places_of, strands_of}
+use Rattle.stage_syntax.proofs.TypedKinds.{typed_kind}
+use Rattle.spec_scanner.specs.declared.piece.Piece.{Piece}
+use Rattle.spec_scanner.specs.declared.piece.PieceKind.{PieceKind}
+use Rattle.spec_scanner.specs.declared.piece.PieceKind.TheVariants.{Stage, Reference, Connector}
+use Rattle.net_graph.specs.Faults.{IsGraph}
+use Rattle.net_graph.specs.Nets.{AreOutcomes, StageSize, first_number, inputs_of, joins_of, link_of, links_of, net_of, outputs_of, part_in, part_out, parting_at, parting_of, stream_place, ports_of, queue_of, queues_from, sizes_of, strand_of, strands_from, width_of}
+use Rattle.net_graph.specs.Stands.{Spot, Stand, is_label, is_stage, stage_of, stages_of, stands_of, streams_of}
+use Rattle.net_graph.proofs.WholeNets.{whole_net, whole_strand, whole_strands}
+use Rattle.net_graph.proofs.FormedLinks.{AreLeads, leads_of}
+use Rattle.net_graph.proofs.FormedPositions.{position_finds}
+use Rattle.net_graph.proofs.FormedSpots.{StandsFor, spot_at}
+
+-- each stage has one strand
+abbrev AreWhole : List StageSize → Type 0
+AreWhole [] = ⊤
+AreWhole (size ∷ sizes) = (parting_of size ≡ Whole) × AreWhole sizes
+
+-- so it is where the kinds were read
+kinds_whole : (stands stages : List Stand) (kinds : List Kind) → AreOutcomes stages (map (λ kind. Ok kind) kinds) → AreWhole (sizes_of stands stages kinds)
+kinds_whole stands [] kinds read = tt
+kinds_whole stands (stand ∷ stages) [] read = tt
+kinds_whole stands (stand ∷ stages) (kind ∷ kinds) read =
+    ((typed_kind stand.piece.name stand.piece.arg stand.first kind read.0).plain.whole, kinds_whole stands stages kinds read.1)
+
+sizes_count : (stands stages : List Stand) (kinds : List Kind) → AreOutcomes stages (map (λ kind. Ok kind) kinds) → length (sizes_of stands stages kinds) ≡ length stages
+sizes_count stands [] kinds read = refl
+sizes_count stands (stand ∷ stages) [] read = absurd read
+sizes_count stands (stand ∷ stages) (kind ∷ kinds) read = ap suc (sizes_count stands stages kinds read.1)
+
+one_wide : (size : StageSize) → parting_of size ≡ Whole → width_of size ≡ 1
+one_wide size whole = ap (λ parting. strands_of parting size.streams) whole
+
+-- the first strand of a stage has its number
+first_whole : (sizes : List StageSize) → AreWhole sizes → (stage : ℕ) → stage ≤ length sizes → first_number sizes stage ≡ stage
+first_whole [] whole zero within = refl
+first_whole [] whole (suc stage) within = absurd (omega (arith, within))
+first_whole (size ∷ sizes) whole zero within = refl
+first_whole (size ∷ sizes) whole (suc stage) within =
+    let more : first_number (size ∷ sizes) (suc stage) ≡ width_of size + first_number sizes stage = sum_by-cons width_of size (take stage sizes) in
+    omega (arith, more, one_wide size whole.0, first_whole sizes whole.1 stage (omega (arith, within)))
+
+parting_whole : (sizes : List StageSize) → AreWhole sizes → (stage : ℕ) → parting_at sizes stage ≡ Whole
+parting_whole [] whole stage = refl
+parting_whole (size ∷ sizes) whole zero = whole.0
+parting_whole (size ∷ sizes) whole (suc stage) = parting_whole sizes whole.1 stage
+
+no_queues : (sizes : List StageSize) (stage : ℕ) (more : List StageSize) → AreWhole more → queues_from sizes stage more ≡ []
+no_queues sizes stage [] whole = refl
+no_queues sizes stage (size ∷ more) whole = ap (λ parting. queue_of parting (first_number sizes stage) ++ queues_from sizes (suc stage) more) whole.0 ∙ no_queues sizes (suc stage) more whole.1
+
+-- Links
+
+-- the numbers of a join are those of stages
+abbrev IsWithin : ℕ → Link → Type 0
+IsWithin count join = (join.from ≤ count) × (join.to ≤ count) × (join.queue ≡ false)
+
+abbrev AreWithin : ℕ → List Link → Type 0
+AreWithin count [] = ⊤
+AreWithin count (join ∷ joins) = IsWithin count join × AreWithin count joins
+
+module _ (sizes : List StageSize) (whole : AreWhole sizes) where
+  link_same : (join : Link) → IsWithin (length sizes) join → link_of sizes join ≡ join
+  link_same join within =
+      let from : first_number sizes join.from + 0 ≡ join.from = omega (arith, first_whole sizes whole join.from within.0) in
+      let to : first_number sizes join.to + 0 ≡ join.to = omega (arith, first_whole sizes whole join.to within.1) in
+      ap₂ (λ parting other. let link : Link = record {
+        from = first_number sizes join.from + part_out parting join.output;
+        output = stream_place parting join.output;
+        to = first_number sizes join.to + part_in other join.input;
+        input = stream_place other join.input;
+        queue = false;
+      } in link) (parting_whole sizes whole join.from) (parting_whole sizes whole join.to)
+      ∙ ap₂ (λ from to. let link : Link = record { from = from; output = join.output; to = to; input = join.input; queue = false } in link) from to
+      ∙ ap (λ queue. let link : Link = record { from = join.from; output = join.output; to = join.to; input = join.input; queue = queue } in link) (sym within.2)
+
+  links_same : (joins : List Link) → AreWithin (length sizes) joins → map (link_of sizes) joins ≡ joins
+  links_same [] within = refl
+  links_same (join ∷ joins) within = ap₂ (λ (link : Link) (links : List Link). link ∷ links) (link_same join within.0) (links_same joins within.1)
+
+abbrev used : Piece → ℕ → Spot
+used piece stage = record { stage = stage; stream = piece.uses }
+
+-- the stand of a stream is of a stage that is there
+spot_within : (whole : List Stand) (at : ℕ) (stand : Stand) (spot : Spot) → StandsFor whole at stand spot → spot.stage ≤ length (stages_of whole)
+spot_within whole at stand spot stands = by_kind stand.piece.kind refl
+  where
+    before : length (stages_of stands.done) ≤ length (stages_of whole)
+    before = omega (arith, ap length (ap stages_of stands.cut ∙ filter-append is_stage stands.done (stand ∷ stands.rest)), length-append (stages_of stands.done) (stages_of (stand ∷ stands.rest)))
+
+    by_label : (found : Option ℕ) → stage_of whole stand.piece.label ≡ found → option_map (used stand.piece) found ≡ Some spot → spot.stage ≤ length (stages_of whole)
+    by_label None found is = cc
+    by_label (Some stage) found is =
+        let same : used stand.piece stage ≡ spot = cc in
+        let there = position_finds (λ (s : Stand). is_label stand.piece.label s.piece.label) (stages_of whole) stage found in
+        omega (arith, ap (λ (s : Spot). s.stage) same, slice_get_within (stages_of whole) stage there.0 there.1)
+
+    by_kind : (kind : PieceKind) → stand.piece.kind ≡ kind → spot.stage ≤ length (stages_of whole)
+    by_kind Stage kind =
+        let found : Some (record { stage = length (stages_of stands.done); stream = 0 }) ≡ Some spot = sym (spot_at whole (length (stages_of stands.done)) stand.piece Stage kind) ∙ stands.spot_is in
+        let same : record { stage = length (stages_of stands.done); stream = 0 } ≡ spot = cc in
+        omega (arith, ap (λ (s : Spot). s.stage) same, before)
+    by_kind Reference kind = by_label (stage_of whole stand.piece.label) refl (sym (spot_at whole (length (stages_of stands.done)) stand.piece Reference kind) ∙ stands.spot_is)
+    by_kind Connector kind = let none : None ≡ Some spot = sym (spot_at whole (length (stages_of stands.done)) stand.piece Connector kind) ∙ stands.spot_is in cc
+
+leads_within : (whole : List Stand) (from : ℕ) (joins : List Link) → AreLeads whole from joins → AreWithin (length (stages_of whole)) joins
+leads_within whole from [] leads = tt
+leads_within whole from (join ∷ joins) leads =
+    let lead = leads.0 in (
+      (
+        spot_within whole lead.at lead.source (record { stage = join.from; stream = join.output }) lead.source_for,
+        spot_within whole (suc lead.at) lead.target (record { stage = join.to; stream = join.input }) lead.target_for,
+        lead.no_queue,
+      ),
+      leads_within whole (suc lead.at) joins leads.1,
+    )
+
+-- Strands
+
+module _ (stands : List Stand) (links : List Link) where
+  strand_same : (stage first : ℕ) (stand : Stand) (kind : Kind) → parting_by (line_of kind).shape ≡ Whole → first ≡ stage →
+      let size : StageSize = record { kind = kind; streams = streams_of stands stand.piece.label } in
+      map (strand_of links stage first size) (range_with_len 0 (width_of size)) ≡ whole_strand stands links stage stand kind ∷ []
+  strand_same stage first stand kind whole is =
+      let size : StageSize = record { kind = kind; streams = streams_of stands stand.piece.label } in
+      let number : first + 0 ≡ stage = omega (arith, is) in
+      ap (λ n. map (strand_of links stage first size) (range_with_len 0 n)) (one_wide size whole)
+      ∙ ap₂ (λ number parting. let strand : Strand = record {
+        name = stage ∷ [];
+        kind = kind;
+        part = 0;
+        unit = 0;
+        ports = ports_of links number (places_of parting (inputs_of kind) size.streams) (places_of parting (outputs_of kind) size.streams);
+      } in strand ∷ []) number whole
+
+  module _ (sizes : List StageSize) (whole : AreWhole sizes) where
+    strands_same : (stage : ℕ) (stages : List Stand) (kinds : List Kind) → AreWhole (sizes_of stands stages kinds) → stage + length (sizes_of stands stages kinds) ≤ length sizes
+        → strands_from sizes links stage (sizes_of stands stages kinds) ≡ whole_strands stands links stage stages kinds
+    strands_same stage [] kinds each within = refl
+    strands_same stage (stand ∷ stages) [] each within = refl
+    strands_same stage (stand ∷ stages) (kind ∷ kinds) each within =
+        ap₂ (λ (here more : List Strand). here ++ more)
+        (strand_same stage (first_number sizes stage) stand kind each.0 (first_whole sizes whole stage (omega (arith, within))))
+        (strands_same (suc stage) stages kinds each.1 (omega (arith, within)))
+
+-- The net
+
+-- where the kinds were read, each stage has one strand, so the net is that of its stages and joins
+pub whole_same : (pipelines : List (List Piece)) (kinds : List Kind) → AreOutcomes (stages_of (stands_of pipelines)) (map (λ kind. Ok kind) kinds) → net_of pipelines kinds ≡ whole_net pipelines kinds
+whole_same pipelines kinds read =
+    let stands = stands_of pipelines in
+    let sizes = sizes_of stands (stages_of stands) kinds in
+    let whole = kinds_whole stands (stages_of stands) kinds read in
+    let count = sizes_count stands (stages_of stands) kinds read in
+    let within : AreWithin (length sizes) (joins_of pipelines) = subst (λ n. AreWithin n (joins_of pipelines)) (sym count) (leads_within stands 0 (joins_of pipelines) (leads_of pipelines)) in
+    let links : links_of sizes (joins_of pipelines) ≡ joins_of pipelines =
+    ap₂ (λ (links queues : List Link). links ++ queues) (links_same sizes whole (joins_of pipelines) within) (no_queues sizes 0 sizes whole) ∙ append-nil (joins_of pipelines) in
+    let strands : strands_from sizes (links_of sizes (joins_of pipelines)) 0 sizes ≡ whole_strands stands (joins_of pipelines) 0 (stages_of stands) kinds =
+    ap (λ links. strands_from sizes links 0 sizes) links ∙ strands_same stands (joins_of pipelines) sizes whole 0 (stages_of stands) kinds whole (omega arith) in
+    ap₂ (λ (strands : List Strand) (links : List Link). let net : Net = record { strands = strands; links = links } in net) strands links
+
+-- the net of a specification without a fault
+pub graph_whole : (pipelines : List (List Piece)) (net : Net) → (graph : IsGraph pipelines net) → net ≡ whole_net pipelines graph.kinds
+graph_whole pipelines net graph = graph.net_is ∙ whole_same pipelines graph.kinds graph.read

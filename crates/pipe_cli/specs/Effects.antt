@@ -1,0 +1,48 @@
+-- What a call finds, and what it does.
+use Rattle.std.specs.Prelude.{◌≡◌, ℕ, if◌then◌else◌, List, [], ◌∷◌, ◌++◌}
+use Rattle.std.specs.Str.{bytes_eq}
+use Rattle.std.specs.declared.option.Option.{Option}
+use Rattle.std.specs.declared.option.Option.TheVariants.{Some, None}
+use Rattle.outside.specs.Files.{Files}
+use Rattle.pipe_model.specs.Reply.{FileText, Reply}
+
+-- the bytes of standard input, and the files by their names
+pub record Before : Type 0 where
+  pub input : List ℕ
+  pub files : Files
+
+-- the bytes for standard output, the files that are replaced, and the journal's file, which is replaced last where it is asked for
+pub record Effect : Type 0 where
+  pub output : List ℕ
+  pub files : List FileText
+  pub trace : Option FileText
+
+-- nothing is written
+abbrev pub no_effect : Effect
+no_effect = record { output = []; files = []; trace = None }
+
+-- these bytes are written on standard output, and nothing else is
+abbrev pub output_of : List ℕ → Effect
+output_of bytes = record no_effect { output = bytes }
+
+-- the effect of a run with this reply
+abbrev pub effect_of : Reply → Effect
+effect_of answer = record { output = answer.console; files = answer.files; trace = None }
+
+-- all files that are replaced, in their order
+abbrev pub replaced_by : Effect → List FileText
+replaced_by effect = effect.files ++ as_list effect.trace where
+  as_list : Option FileText → List FileText
+  as_list None = []
+  as_list (Some file) = file ∷ []
+
+-- the files after these replacements, one after the other
+abbrev pub files_after : List FileText → Files → Files
+files_after [] files = files
+files_after (file ∷ later) files = files_after later (λ name. if bytes_eq name file.0 then Some file.1 else files name)
+
+-- these files were replaced and no others, where the files are told
+abbrev pub AreReplaced : List FileText → Option Files → Option Files → Type 0
+AreReplaced replaced None new = new ≡ None
+AreReplaced replaced (Some old) None = ⊥
+AreReplaced replaced (Some old) (Some new) = (name : List ℕ) → new name ≡ files_after replaced old name

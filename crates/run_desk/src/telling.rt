@@ -1,0 +1,218 @@
+//! What a desk tells of the event that a strand may have.
+ghost use Rattle.std.specs.Prelude.{◌≡◌, ◌&&◌, ◌||◌, ◌==◌, slice_get, true, is_some};
+ghost use Rattle.run_desk.specs.Pure as Pure;
+
+use crate::desk::Desk;
+use crate::looks::{
+    can_put, can_refuse, is_over, on_stream, primed_seen, shows, stream_of, up_seen,
+};
+use crate::seat::Ask;
+use pipe_model::Seen;
+
+impl Desk {
+    /// What a strand would be told on a stream, and None where it may not go on there. The cost is constant, but for a
+    /// look at all inputs of a strand that asks for any.
+    pub fn seen_at(&self, strand: u32, stream: u16) -> Option<Seen>
+        ensures { result ≡ Pure.seen_at self.now strand stream }
+    {
+        self.seen_by(strand, stream, self.ask_of(strand))
+    }
+
+    /// The least stream on which a strand may go on.
+    pub fn ready_stream(&self, strand: u32) -> Option<u16>
+        ensures { Pure.IsFirst self.now strand result }
+    {
+        let (stream, _) = self.ready_event(strand)?;
+        Some(stream)
+    }
+
+    /// The least stream on which a strand may go on, with what it would be told there.
+    #[inline(always)]
+    pub fn ready_event(&self, strand: u32) -> Option<(u16, Seen)>
+        ensures { Pure.IsFirstEvent self.now strand result }
+    {
+        match self.ask_of(strand) {
+            Ask::Read(i) => on_stream(i, self.read_seen(strand, i)),
+            Ask::Take(i) => Some((i, Seen::Took(i))),
+            Ask::Write(o) => on_stream(o, self.write_seen(strand, o)),
+            Ask::Any | Ask::Gate => self.wide_event(strand),
+            ask => on_stream(stream_of(ask), self.seen_by(strand, stream_of(ask), ask)),
+        }
+    }
+
+    // The same for a strand that may go on on several.
+    #[tactic(auto, using(crate::proofs::Streams::wide_none, crate::proofs::Streams::next_none))]
+    #[inline(never)]
+    fn wide_event(&self, strand: u32) -> Option<(u16, Seen)>
+        requires { Pure.is_wide (Pure.ask_at self.now strand) ≡ true }
+        ensures { Pure.IsFirstEvent self.now strand result }
+    {
+        let count = self.input_count(strand);
+        if let Some(seen) = self.seen_at(strand, 0) {
+            return Some((0, seen));
+        }
+        let mut k = 1;
+        while k < count {
+            if let Some(seen) = self.seen_at(strand, k) {
+                return Some((k, seen));
+            }
+            k += 1;
+        }
+        None
+    }
+
+    fn seen_by(&self, strand: u32, stream: u16, ask: Ask) -> Option<Seen>
+        ensures { result ≡ Pure.seen_by self.now strand stream ask }
+    {
+        match ask {
+            Ask::Nothing | Ask::Issue | Ask::Join(_) => None,
+            Ask::Commit(level) if stream == 0 => up_seen(level, self.level_code(level)),
+            Ask::Read(i) if stream == i => self.read_seen(strand, i),
+            Ask::Any => self.any_seen(strand, stream),
+            Ask::Gate => self.gate_seen(strand, stream),
+            Ask::Take(i) if stream == i => Some(Seen::Took(i)),
+            Ask::Write(o) if stream == o => self.write_seen(strand, o),
+            Ask::Primed if stream == 0 => primed_seen(self.primed(strand)),
+            Ask::Cut(i) if stream == i => Some(Seen::Cut(i)),
+            Ask::Done(code) if stream == 0 => Some(Seen::Ended(code)),
+            _ => None,
+        }
+    }
+
+    fn read_seen(&self, strand: u32, i: u16) -> Option<Seen>
+        ensures { result ≡ Pure.read_seen i (Pure.shows (Pure.wire_in self.now strand i)) (Pure.is_over (Pure.wire_in self.now strand i)) }
+    {
+        let door = self.in_door(strand, i);
+        if self.shows(door) {
+            Some(Seen::Saw(i))
+        } else if self.is_over(door) {
+            Some(Seen::SawEnd(i))
+        } else {
+            None
+        }
+    }
+
+    fn any_seen(&self, strand: u32, i: u16) -> Option<Seen>
+        ensures { result ≡ Pure.any_seen i (Pure.shows (Pure.wire_in self.now strand i)) ((i == 0) && Pure.all_over self.now strand) }
+    {
+        if self.shows(self.in_door(strand, i)) {
+            Some(Seen::Saw(i))
+        } else if i == 0 && self.all_over(strand) {
+            Some(Seen::SawAllEnd)
+        } else {
+            None
+        }
+    }
+
+    fn gate_seen(&self, strand: u32, i: u16) -> Option<Seen>
+        ensures { result ≡ Pure.read_seen i (Pure.shows (Pure.wire_in self.now strand i)) ((i == 0) && Pure.is_over (Pure.wire_in self.now strand i)) }
+    {
+        let door = self.in_door(strand, i);
+        if self.shows(door) {
+            Some(Seen::Saw(i))
+        } else if i == 0 && self.is_over(door) {
+            Some(Seen::SawEnd(i))
+        } else {
+            None
+        }
+    }
+
+    fn write_seen(&self, strand: u32, o: u16) -> Option<Seen>
+        ensures { result ≡ Pure.write_seen o (Pure.can_put (Pure.wire_out self.now strand o)) (Pure.can_refuse (Pure.wire_out self.now strand o)) }
+    {
+        let door = self.out_door(strand, o);
+        if self.can_put(door) {
+            Some(Seen::Put(o))
+        } else if self.can_refuse(door) {
+            Some(Seen::Refused(o))
+        } else {
+            None
+        }
+    }
+
+    /// Whether what is offered behind a door may be put, or refused.
+    pub fn may_write(&self, door: Option<u32>) -> bool
+        ensures { result ≡ (Pure.can_put (Pure.through self.now.wires door) || Pure.can_refuse (Pure.through self.now.wires door)) }
+    {
+        self.can_put(door) || self.can_refuse(door)
+    }
+
+    fn shows(&self, door: Option<u32>) -> bool
+        ensures { result ≡ Pure.shows (Pure.through self.now.wires door) }
+    {
+        shows(&self.wires, door)
+    }
+
+    fn is_over(&self, door: Option<u32>) -> bool
+        ensures { result ≡ Pure.is_over (Pure.through self.now.wires door) }
+    {
+        is_over(&self.wires, door)
+    }
+
+    fn can_put(&self, door: Option<u32>) -> bool
+        ensures { result ≡ Pure.can_put (Pure.through self.now.wires door) }
+    {
+        can_put(&self.wires, door)
+    }
+
+    fn can_refuse(&self, door: Option<u32>) -> bool
+        ensures { result ≡ Pure.can_refuse (Pure.through self.now.wires door) }
+    {
+        can_refuse(&self.wires, door)
+    }
+
+    fn all_over(&self, strand: u32) -> bool
+        ensures { result ≡ Pure.all_over self.now strand }
+    {
+        match self.doors.get(strand as usize) {
+            None => true,
+            Some(doors) => doors.all_over(&self.wires),
+        }
+    }
+
+    // Whether the first strand of the strand's stage has seen a record, once that is settled.
+    fn primed(&self, strand: u32) -> Option<bool>
+        ensures { result ≡ Pure.primed_at self.now strand }
+    {
+        let seat = self.seat(self.first_of(strand))?;
+        if seat.has_seen {
+            Some(true)
+        } else if seat.has_ended {
+            Some(false)
+        } else {
+            None
+        }
+    }
+
+    /// The answer of a commit level, once all strands stand there: a return code, the worst of the strands that ended
+    /// before they reached it, and 0 where none ended with another. None where the number is no level, which is -1 to
+    /// 1,000.
+    pub fn level_code(&self, level: i32) -> Option<i32>
+        ensures { result ≡ Pure.level_code self.now level }
+    {
+        if -1 <= level && level <= 1_000 {
+            self.unit.answer(level)
+        } else {
+            None
+        }
+    }
+
+    /// Whether a strand has seen a record, or ended without one. Then it is settled what those are told that wait for it.
+    pub fn is_primer(&self, strand: u32) -> bool
+        ensures { result ≡ is_some (Pure.primed_of (slice_get self.now.seats strand)) }
+    {
+        match self.seat(strand) {
+            None => false,
+            Some(seat) => seat.has_seen || seat.has_ended,
+        }
+    }
+
+    pub(crate) fn ask_of(&self, strand: u32) -> Ask
+        ensures { result ≡ Pure.ask_at self.now strand }
+    {
+        match self.seat(strand) {
+            None => Ask::Nothing,
+            Some(seat) => seat.ask,
+        }
+    }
+}

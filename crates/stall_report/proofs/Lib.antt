@@ -1,0 +1,5 @@
+pub mod Examples
+pub mod Shown
+pub mod Stalls
+pub mod Told
+pub mod Wanting
