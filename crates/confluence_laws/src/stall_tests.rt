@@ -2,8 +2,8 @@ ghost use Rattle.std.specs.Prelude.{◌≡◌, IfOk};
 ghost use Rattle.confluence_laws.specs.Examples.{stalling};
 
 use crate::stall;
-use crate::tests::{dispatch_of, reader, rendezvous, strand, writer};
-use pipe_model::{Kind, Links, Net, NoMemory, Strands};
+use crate::tests::{dispatch_of, reader, writer};
+use pipe_model::{Kind, Link, Net, NoMemory, Strand};
 use std::alloc::Global;
 use std::test::Fail;
 
@@ -13,20 +13,17 @@ fn stalling_net(alloc: Global) -> Result<Net, NoMemory>
     ensures { IfOk result (λ net. net ≡ stalling) }
 {
     let first = reader(alloc, b"x\n")?;
-    let second = strand(alloc, 1, Kind::FanOut, &[true], &[true, true])?;
-    let third = strand(alloc, 2, Kind::FanIn, &[true, true], &[true])?;
+    let second = Strand::of_stage(alloc, 1, Kind::FanOut, &[true], &[true, true])?;
+    let third = Strand::of_stage(alloc, 2, Kind::FanIn, &[true, true], &[true])?;
     let last = writer(alloc, 3)?;
     let strands = vec![in alloc; first, second, third, last]?;
     let links = vec![in alloc;
-        rendezvous(0, 0, 1, 0),
-        rendezvous(1, 0, 2, 0),
-        rendezvous(2, 0, 3, 0),
-        rendezvous(1, 1, 2, 1),
+        Link::rendezvous(0, 0, 1, 0),
+        Link::rendezvous(1, 0, 2, 0),
+        Link::rendezvous(2, 0, 3, 0),
+        Link::rendezvous(1, 1, 2, 1),
     ]?;
-    Ok(Net {
-        strands: Strands::from_vec(strands),
-        links: Links::from_vec(links),
-    })
+    Ok(Net::new(strands, links))
 }
 
 const STALLING: [(u32, u16); 15] = [

@@ -1,7 +1,7 @@
 //! The net of the tests, with stages that note the records that they are told of.
-ghost use Rattle.std.specs.Prelude.{◌≡◌, ◌<◌, ◌≤◌, ◌^◌, ◌∷◌, [], true, false, length, IfOk};
+ghost use Rattle.std.specs.Prelude.{◌≡◌, ◌≤◌, ◌∷◌, [], true, IfOk};
 ghost use Rattle.pipe_model.specs.declared.kind.Kind.TheVariants.{ConsoleIn, ConsoleOut};
-ghost use Rattle.confluence_laws.specs.Examples.{strand, passing, link};
+ghost use Rattle.confluence_laws.specs.Examples.{passing};
 ghost use Rattle.core_machine.specs.Machine.{started};
 ghost use Rattle.stage_steps.specs.Drivers.{IsStageOf};
 ghost use Rattle.stage_steps.specs.Each.{EachStand, each_look};
@@ -9,9 +9,7 @@ ghost use Rattle.stage_steps.specs.SharedLists.{LinesStand, lines_look, CopiesSt
 
 use crate::Core;
 use outside::Gate;
-use pipe_model::{
-    Flags, Kind, Link, Links, Net, NoMemory, Ports, Rec, Seen, StageName, Strand, Strands, Want,
-};
+use pipe_model::{Kind, Link, Net, NoMemory, Rec, Seen, Strand, Want};
 use stage_steps::{Copies, Each, Listed, Order, Stage, TextLines};
 use std::alloc::Global;
 use std::cell::RefCell;
@@ -150,83 +148,17 @@ fn writing(alloc: Global, is_linked: bool) -> Result<Listed<Each<Copies>>, NoMem
     Listed::new(alloc, copies, Order::WritesFirst, &[is_linked], true)
 }
 
-// The name and the ports of a strand whose stage has one strand, by its number.
-fn place(
-    alloc: Global,
-    number: u32,
-    inputs: &[bool],
-    outputs: &[bool],
-) -> Result<(StageName, Ports), NoMemory>
-    requires few_inputs { length inputs.now < 2 ^ 16 }
-    requires few_outputs { length outputs.now < 2 ^ 16 }
-    ensures name { IfOk result (λ made. made.0 ≡ number ∷ []) }
-    ensures ports { IfOk result (λ made. made.1 ≡ record { inputs = length inputs.now; outputs = length outputs.now; has_input = inputs.now; has_output = outputs.now }) }
-{
-    let mut path = Vec::new(alloc);
-    path.push(number)?;
-    let ports = Ports {
-        inputs: inputs.len() as u16,
-        outputs: outputs.len() as u16,
-        has_input: Flags::from_vec(Vec::from_slice(alloc, inputs)?),
-        has_output: Flags::from_vec(Vec::from_slice(alloc, outputs)?),
-    };
-    Ok((StageName::from_vec(path), ports))
-}
-
-// The strand of a CONSOLE that is first, with its bytes.
-fn reader(alloc: Global, bytes: &[u8]) -> Result<Strand, NoMemory>
-    ensures { IfOk result (λ made. made ≡ strand 0 (ConsoleIn bytes.now) [] (true ∷ [])) }
-{
-    let (name, ports) = place(alloc, 0, &[], &[true])?;
-    let bytes = Rec::from_slice(alloc, bytes)?;
-    Ok(Strand {
-        name,
-        kind: Kind::ConsoleIn { bytes },
-        part: 0,
-        unit: 0,
-        ports,
-    })
-}
-
-// The strand of a CONSOLE that isn't first, with its output connected or not.
-fn writer(alloc: Global, number: u32, is_linked: bool) -> Result<Strand, NoMemory>
-    ensures { IfOk result (λ made. made ≡ strand number ConsoleOut (true ∷ []) (is_linked ∷ [])) }
-{
-    let (name, ports) = place(alloc, number, &[true], &[is_linked])?;
-    Ok(Strand {
-        name,
-        kind: Kind::ConsoleOut,
-        part: 0,
-        unit: 0,
-        ports,
-    })
-}
-
-const fn rendezvous(from: u32, to: u32) -> Link
-    ensures { result ≡ link from 0 to 0 }
-{
-    Link {
-        from,
-        output: 0,
-        to,
-        input: 0,
-        queue: false,
-    }
-}
-
 // `console | console | console` on three records.
 fn passing_net(alloc: Global) -> Result<Net, NoMemory>
     ensures { IfOk result (λ net. net ≡ passing) }
 {
-    let links = vec![in alloc; rendezvous(0, 1), rendezvous(1, 2)]?;
-    let mut strands = Vec::new(alloc);
-    strands.push(reader(alloc, b"ab\ncd\nb")?)?;
-    strands.push(writer(alloc, 1, true)?)?;
-    strands.push(writer(alloc, 2, false)?)?;
-    Ok(Net {
-        strands: Strands::from_vec(strands),
-        links: Links::from_vec(links),
-    })
+    let bytes = Rec::from_slice(alloc, b"ab\ncd\nb")?;
+    let first = Strand::of_stage(alloc, 0, Kind::ConsoleIn { bytes }, &[], &[true])?;
+    let second = Strand::of_stage(alloc, 1, Kind::ConsoleOut, &[true], &[true])?;
+    let last = Strand::of_stage(alloc, 2, Kind::ConsoleOut, &[true], &[false])?;
+    let strands = vec![in alloc; first, second, last]?;
+    let links = vec![in alloc; Link::rendezvous(0, 0, 1, 0), Link::rendezvous(1, 0, 2, 0)]?;
+    Ok(Net::new(strands, links))
 }
 
 /// Its core before its first step.

@@ -107,11 +107,14 @@ few_inputs kind = few_by (line_of kind).shape
 few_outputs : (kind : Kind) → outputs_of kind ≤ 64
 few_outputs kind = min-le_right (line_of kind).outputs 64
 
+row_size : (flags : List Bool) (count : ℕ) → length flags ≡ 64 * count → (stage places : ℕ) → stage < count → places ≤ 64 → length (row_by flags stage places) ≡ places
+row_size flags count size stage places below few = length-take-le places (drop (64 * stage) flags) (omega (arith, length-drop (64 * stage) flags, size))
+
 row_same : (flags : List Bool) (count : ℕ) (is_linked : ℕ → ℕ → Bool) → AreFlags flags count is_linked → (stage places : ℕ) → stage < count → places ≤ 64 →
     row_by flags stage places ≡ map (is_linked stage) (range_with_len 0 places)
 row_same flags count is_linked are stage places below few =
     fill_by_all (is_linked stage) (row_by flags stage places) places false
-    (length-take-le places (drop (64 * stage) flags) (omega (arith, length-drop (64 * stage) flags, are.size)))
+    (row_size flags count are.size stage places below few)
     (λ k within. get_or-take places (drop (64 * stage) flags) k false within ∙ (get_or-drop (64 * stage) flags k false ∙ are.told stage k below (omega arith)))
 
 module _ (stands : List Stand) (links : List Link) (count : ℕ) (inputs outputs : List Bool) (are_in : AreFlags inputs count (is_linked_in links)) (are_out : AreFlags outputs count (is_linked_out links)) where
@@ -121,7 +124,9 @@ module _ (stands : List Stand) (links : List Link) (count : ℕ) (inputs outputs
       let places_out = min (suc (more_streams stands s)) (outputs_of kind) in
       let row_in = row_same inputs count (is_linked_in links) are_in stage places_in below (omega (arith, few_inputs kind, min-le_right (suc (more_streams stands s)) (inputs_of kind))) in
       let row_out = row_same outputs count (is_linked_out links) are_out stage places_out below (omega (arith, few_outputs kind, min-le_right (suc (more_streams stands s)) (outputs_of kind))) in
-      rw (row_in, row_out) refl
+      let size_in : length (row_by inputs stage places_in) ≡ places_in = row_size inputs count are_in.size stage places_in below (omega (arith, few_inputs kind, min-le_right (suc (more_streams stands s)) (inputs_of kind))) in
+      let size_out : length (row_by outputs stage places_out) ≡ places_out = row_size outputs count are_out.size stage places_out below (omega (arith, few_outputs kind, min-le_right (suc (more_streams stands s)) (outputs_of kind))) in
+      rw (size_in, size_out, row_in, row_out) refl
 
   pub strands_same : (stage : ℕ) (stages : List Stand) (kinds : List Kind) → stage + length stages ≤ count →
       strands_by inputs outputs stage (map (more_streams stands) stages) kinds ≡ whole_strands stands links stage stages kinds

@@ -7,6 +7,7 @@ use Rattle.pipe_model.specs.declared.net.Link.{Link}
 use Rattle.pipe_model.specs.declared.net.Net.{Net}
 use Rattle.pipe_model.specs.declared.net.Ports.{Ports}
 use Rattle.pipe_model.specs.declared.net.Strand.{Strand}
+use Rattle.pipe_model.specs.Nets.{rendezvous}
 use Rattle.stage_syntax.specs.Arg.{ArgText}
 use Rattle.stage_syntax.specs.declared.fault.KindFault.TheVariants.{Unknown}
 use Rattle.spec_scanner.specs.declared.piece.Piece.{Piece}
@@ -62,10 +63,7 @@ kinds_in_two = refl
 names_in_two : map (λ (strand : Strand). strand.name) net_of_two.strands ≡ (0 ∷ []) ∷ ((1 ∷ []) ∷ ((2 ∷ []) ∷ ((3 ∷ []) ∷ [])))
 names_in_two = refl
 
-abbrev joins : ℕ → ℕ → ℕ → ℕ → Link
-joins from output to input = record { from = from; output = output; to = to; input = input; queue = false }
-
-links_in_two : net_of_two.links ≡ joins 0 0 1 0 ∷ (joins 1 0 2 0 ∷ (joins 1 1 3 0 ∷ []))
+links_in_two : net_of_two.links ≡ rendezvous 0 0 1 0 ∷ (rendezvous 1 0 2 0 ∷ (rendezvous 1 1 3 0 ∷ []))
 links_in_two = refl
 
 ports_in_two : option_map (λ (strand : Strand). strand.ports) (slice_get net_of_two.strands 1)
@@ -92,7 +90,7 @@ parts_in_buffered : map (λ (strand : Strand). strand.part) net_of_buffered.stra
 parts_in_buffered = refl
 
 links_in_buffered : net_of_buffered.links
-    ≡ joins 0 0 1 0 ∷ (joins 1 0 2 0 ∷ (joins 2 0 3 0 ∷ (joins 1 1 4 0 ∷ (joins 5 0 2 1 ∷ (record { from = 4; output = 0; to = 5; input = 0; queue = true } ∷ [])))))
+    ≡ rendezvous 0 0 1 0 ∷ (rendezvous 1 0 2 0 ∷ (rendezvous 2 0 3 0 ∷ (rendezvous 1 1 4 0 ∷ (rendezvous 5 0 2 1 ∷ (record { from = 4; output = 0; to = 5; input = 0; queue = true } ∷ [])))))
 links_in_buffered = refl
 
 abbrev one_each : Ports
@@ -116,7 +114,7 @@ names_in_dammed = refl
 parts_in_dammed : map (λ (strand : Strand). strand.part) net_of_dammed.strands ≡ 0 ∷ (0 ∷ (0 ∷ (1 ∷ (0 ∷ (0 ∷ (0 ∷ []))))))
 parts_in_dammed = refl
 
-links_in_dammed : net_of_dammed.links ≡ joins 0 0 1 0 ∷ (joins 1 0 2 0 ∷ (joins 2 0 4 0 ∷ (joins 5 0 3 0 ∷ (joins 3 0 6 0 ∷ []))))
+links_in_dammed : net_of_dammed.links ≡ rendezvous 0 0 1 0 ∷ (rendezvous 1 0 2 0 ∷ (rendezvous 2 0 4 0 ∷ (rendezvous 5 0 3 0 ∷ (rendezvous 3 0 6 0 ∷ []))))
 links_in_dammed = refl
 
 ports_in_dammed : map (λ (strand : Strand). strand.ports) (take 2 (drop 2 net_of_dammed.strands)) ≡ one_each ∷ (one_each ∷ [])

@@ -1,6 +1,7 @@
 -- The links of a chain: which strands have a link to their input and which from their output.
 use Rattle.std.proofs.Common.{◌≡◌, ◌≢◌, ℕ, zero, suc, ◌+◌, ◌<◌, ◌≤◌, true, false, List, [], ◌∷◌, length, refl, ap, arith, eq-eqb, ne_eqb, inl, inr}
 use Rattle.std.proofs.lemmas.Bool.{cases_eq}
+use Rattle.pipe_model.specs.Nets.{rendezvous}
 use Rattle.pipe_model.specs.Straight.{chain}
 use Rattle.spec_scanner.proofs.StraightStages.{AreLater}
 use Rattle.spec_scanner.proofs.StraightWords.{Spelled}
@@ -39,4 +40,4 @@ links_later stands before (stage ∷ []) [] later = refl
 links_later stands before (stage ∷ []) (string ∷ strings) later = absurd later
 links_later stands before (stage ∷ (next ∷ stages)) [] later = absurd later
 links_later stands before (stage ∷ (next ∷ stages)) (string ∷ strings) later =
-    ap (λ links. record { from = before; output = 0; to = suc before; input = 0; queue = false } ∷ links) (links_later stands (suc before) (next ∷ stages) strings later.1)
+    ap (λ links. rendezvous before 0 (suc before) 0 ∷ links) (links_later stands (suc before) (next ∷ stages) strings later.1)

@@ -5,6 +5,7 @@ use Rattle.pipe_model.specs.declared.kind.Kind.TheVariants.{ConsoleIn}
 use Rattle.pipe_model.specs.declared.net.Link.{Link}
 use Rattle.pipe_model.specs.declared.net.Net.{Net}
 use Rattle.pipe_model.specs.declared.net.Strand.{Strand}
+use Rattle.pipe_model.specs.Nets.{rendezvous}
 use Rattle.pipe_model.specs.Straight.{chain}
 use Rattle.spec_scanner.proofs.StraightReads.{line_read}
 use Rattle.spec_scanner.proofs.StraightStages.{AreLater, IsConsoleStage}
@@ -36,7 +37,7 @@ module _ (first : Spelled) (stages : List Spelled) (strings : List (List ℕ)) (
     from_first : (stages : List Spelled) (strings : List (List ℕ)) → AreLater stages strings → joins_in stands 0 (pieces_of (first ∷ stages)) ≡ chain 0 (suc (length strings))
     from_first [] strings later = absurd later
     from_first (stage ∷ stages) strings later =
-        ap (λ links. record { from = 0; output = 0; to = 1; input = 0; queue = false } ∷ links) (links_later stands 1 (stage ∷ stages) strings later)
+        ap (λ links. rendezvous 0 0 1 0 ∷ links) (links_later stands 1 (stage ∷ stages) strings later)
 
   -- the strands are those of the line
   strands_are : (stands : List Stand) → stands ≡ stands_in true (pieces_of (first ∷ stages))

@@ -12,6 +12,7 @@ use Rattle.pipe_model.specs.declared.net.Net.{Net}
 use Rattle.pipe_model.specs.declared.net.Strand.{Strand}
 use Rattle.pipe_model.specs.Form.{parting_by}
 use Rattle.pipe_model.specs.Form.Parting.{Whole}
+use Rattle.pipe_model.specs.Nets.{rendezvous}
 use Rattle.pipe_model.specs.Table.{line_of}
 use Rattle.pipe_model.specs.WellFormed.{places_of, strands_of}
 use Rattle.stage_syntax.proofs.TypedKinds.{typed_kind}
@@ -79,14 +80,8 @@ module _ (sizes : List StageSize) (whole : AreWhole sizes) where
   link_same join within =
       let from : first_number sizes join.from + 0 ≡ join.from = omega (arith, first_whole sizes whole join.from within.0) in
       let to : first_number sizes join.to + 0 ≡ join.to = omega (arith, first_whole sizes whole join.to within.1) in
-      ap₂ (λ parting other. let link : Link = record {
-        from = first_number sizes join.from + part_out parting join.output;
-        output = stream_place parting join.output;
-        to = first_number sizes join.to + part_in other join.input;
-        input = stream_place other join.input;
-        queue = false;
-      } in link) (parting_whole sizes whole join.from) (parting_whole sizes whole join.to)
-      ∙ ap₂ (λ from to. let link : Link = record { from = from; output = join.output; to = to; input = join.input; queue = false } in link) from to
+      ap₂ (λ parting other. rendezvous (first_number sizes join.from + part_out parting join.output) (stream_place parting join.output) (first_number sizes join.to + part_in other join.input) (stream_place other join.input)) (parting_whole sizes whole join.from) (parting_whole sizes whole join.to)
+      ∙ ap₂ (λ from to. rendezvous from join.output to join.input) from to
       ∙ ap (λ queue. let link : Link = record { from = join.from; output = join.output; to = join.to; input = join.input; queue = queue } in link) (sym within.2)
 
   links_same : (joins : List Link) → AreWithin (length sizes) joins → map (link_of sizes) joins ≡ joins

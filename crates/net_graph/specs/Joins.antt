@@ -1,8 +1,9 @@
 -- The links of pieces one after another, where a table tells the stages that the labels define.
-use Rattle.std.specs.Prelude.{ℕ, ◌<◌, false, List, [], ◌∷◌, ◌++◌, get_or, slice_get, option_and_then, option_map}
+use Rattle.std.specs.Prelude.{ℕ, ◌<◌, List, [], ◌∷◌, ◌++◌, get_or, slice_get, option_and_then, option_map}
 use Rattle.std.specs.declared.option.Option.{Option}
 use Rattle.std.specs.declared.option.Option.TheVariants.{Some, None}
 use Rattle.pipe_model.specs.declared.net.Link.{Link}
+use Rattle.pipe_model.specs.Nets.{rendezvous}
 use Rattle.spec_scanner.specs.declared.piece.Piece.{Piece}
 use Rattle.spec_scanner.specs.declared.piece.PieceKind.{PieceKind}
 use Rattle.spec_scanner.specs.declared.piece.PieceKind.TheVariants.{Stage, Reference, Connector}
@@ -20,7 +21,7 @@ spot_by table before piece Reference = option_map (λ stage. record { stage = st
 spot_by table before piece Connector = None
 
 abbrev pub link_by : Option Spot → Option Spot → List Link
-link_by (Some a) (Some b) = record { from = a.stage; output = a.stream; to = b.stage; input = b.stream; queue = false } ∷ []
+link_by (Some a) (Some b) = rendezvous a.stage a.stream b.stage b.stream ∷ []
 link_by (Some a) None = []
 link_by None b = []
 

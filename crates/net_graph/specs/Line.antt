@@ -1,21 +1,11 @@
 -- The net of a straight line: CONSOLE, a LOCATE for each string, CONSOLE.
-use Rattle.std.specs.Prelude.{ℕ, suc, ◌+◌, Bool, true, false, List, [], ◌∷◌, length}
+use Rattle.std.specs.Prelude.{ℕ, suc, ◌+◌, true, false, List, [], ◌∷◌, length}
 use Rattle.std.specs.declared.option.Option.TheVariants.{Some}
 use Rattle.pipe_model.specs.declared.net.Net.{Net}
 use Rattle.pipe_model.specs.declared.net.Strand.{Strand}
-use Rattle.pipe_model.specs.declared.kind.Kind.{Kind}
 use Rattle.pipe_model.specs.declared.kind.Kind.TheVariants.{ConsoleIn, ConsoleOut, Locate}
+use Rattle.pipe_model.specs.Nets.{strand}
 use Rattle.pipe_model.specs.Straight.{all_columns, chain}
-
--- the k-th stage of the main specification, which has one strand and these places, connected or not
-abbrev pub strand : ℕ → Kind → List Bool → List Bool → Strand
-strand k kind ins outs = record {
-  name = k ∷ [];
-  kind = kind;
-  part = 0;
-  unit = 0;
-  ports = record { inputs = length ins; outputs = length outs; has_input = ins; has_output = outs };
-}
 
 -- the CONSOLE that reads
 abbrev pub first_strand : List ℕ → Strand

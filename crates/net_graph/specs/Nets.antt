@@ -12,6 +12,7 @@ use Rattle.pipe_model.specs.declared.net.Ports.{Ports}
 use Rattle.pipe_model.specs.declared.net.Strand.{Strand}
 use Rattle.pipe_model.specs.Form.{Parting, inputs_by, parting_by}
 use Rattle.pipe_model.specs.Form.Parting.{Whole, Queued, Streamed}
+use Rattle.pipe_model.specs.Nets.{rendezvous}
 use Rattle.pipe_model.specs.Table.{line_of, outputs_by}
 use Rattle.pipe_model.specs.WellFormed.{places_of, strands_of}
 use Rattle.stage_syntax.specs.declared.fault.KindFault.{KindFault}
@@ -36,7 +37,7 @@ AreOutcomes (stand ∷ stands) (outcome ∷ outcomes) = IsOutcome stand outcome 
 
 -- from one piece to the next in a pipeline, where neither is a connector
 abbrev pub join_from : Option Spot → Option Spot → List Link
-join_from (Some a) (Some b) = record { from = a.stage; output = a.stream; to = b.stage; input = b.stream; queue = false } ∷ []
+join_from (Some a) (Some b) = rendezvous a.stage a.stream b.stage b.stream ∷ []
 join_from (Some a) None = []
 join_from None b = []
 
@@ -116,13 +117,12 @@ stream_place Streamed stream = 0
 
 -- the link of a join, between strands
 abbrev pub link_of : List StageSize → Link → Link
-link_of sizes join = record {
-  from = first_number sizes join.from + part_out (parting_at sizes join.from) join.output;
-  output = stream_place (parting_at sizes join.from) join.output;
-  to = first_number sizes join.to + part_in (parting_at sizes join.to) join.input;
-  input = stream_place (parting_at sizes join.to) join.input;
-  queue = false;
-}
+link_of sizes join =
+    rendezvous
+    (first_number sizes join.from + part_out (parting_at sizes join.from) join.output)
+    (stream_place (parting_at sizes join.from) join.output)
+    (first_number sizes join.to + part_in (parting_at sizes join.to) join.input)
+    (stream_place (parting_at sizes join.to) join.input)
 
 -- the queue of a stage of two strands, which leads from the first to the second
 abbrev pub queue_of : Parting → ℕ → List Link

@@ -2,6 +2,7 @@
 use Rattle.std.specs.Prelude.{ℕ, suc, ◌*◌, min, Bool, List, [], ◌∷◌, take, drop}
 use Rattle.pipe_model.specs.declared.kind.Kind.{Kind}
 use Rattle.pipe_model.specs.declared.net.Strand.{Strand}
+use Rattle.pipe_model.specs.Nets.{strand}
 use Rattle.net_graph.specs.Nets.{inputs_of, outputs_of}
 
 -- the flags of the first places of a stage
@@ -10,18 +11,7 @@ row_by flags stage places = take places (drop (64 * stage) flags)
 
 -- the strand of a stage with so many later uses
 abbrev pub strand_by : List Bool → List Bool → ℕ → Kind → ℕ → Strand
-strand_by inputs outputs stage kind later = record {
-  name = stage ∷ [];
-  kind = kind;
-  part = 0;
-  unit = 0;
-  ports = record {
-    inputs = min (suc later) (inputs_of kind);
-    outputs = min (suc later) (outputs_of kind);
-    has_input = row_by inputs stage (min (suc later) (inputs_of kind));
-    has_output = row_by outputs stage (min (suc later) (outputs_of kind));
-  };
-}
+strand_by inputs outputs stage kind later = strand stage kind (row_by inputs stage (min (suc later) (inputs_of kind))) (row_by outputs stage (min (suc later) (outputs_of kind)))
 
 -- the strands of the stages from a number on
 abbrev pub strands_by : List Bool → List Bool → ℕ → List ℕ → List Kind → List Strand

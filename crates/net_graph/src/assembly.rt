@@ -8,7 +8,7 @@ use crate::flags::{linked_inputs, linked_outputs};
 use crate::joins::links_of;
 use crate::strands::strands_of;
 use crate::uses::later_uses;
-use pipe_model::{Kind, Links, Net, NoMemory, Strands};
+use pipe_model::{Kind, Net, NoMemory};
 use spec_scanner::Pieces;
 use std::alloc::Global;
 
@@ -31,8 +31,5 @@ pub(crate) fn assemble(
     let inputs = linked_inputs(alloc, &links, stages)?;
     let outputs = linked_outputs(alloc, &links, stages)?;
     let strands = strands_of(alloc, &inputs, &outputs, &later, kinds)?;
-    Ok(Net {
-        strands: Strands::from_vec(strands),
-        links: Links::from_vec(links),
-    })
+    Ok(Net::new(strands, links))
 }

@@ -2,7 +2,7 @@ ghost use Rattle.std.specs.Prelude.{◌≡◌, ◌≤◌, ◌<◌, ◌+◌, ◌*
 ghost use Rattle.net_graph.specs.Flags.{AreFlags};
 ghost use Rattle.net_graph.specs.Nets.{is_linked_in, is_linked_out};
 
-use pipe_model::{Flags, Link, NoMemory};
+use pipe_model::{Link, NoMemory};
 use std::alloc::Global;
 
 // Marks a place of a stage.
@@ -50,17 +50,11 @@ pub(crate) fn linked_outputs(
 }
 
 // The flags of the first places of a stage.
-pub(crate) fn row(
-    alloc: Global,
-    flags: &[bool],
-    stage: usize,
-    places: u16,
-) -> Result<Flags, NoMemory>
+pub(crate) fn row(flags: &[bool], stage: usize, places: u16) -> &[bool]
     requires few { stage < 65536 }
     requires within { 64 * stage + places ≤ length flags.now }
-    ensures { IfOk result (λ row. row ≡ take places (drop (64 * stage) flags.now)) }
+    ensures { result.now ≡ take places (drop (64 * stage) flags.now) }
 {
     let first = 64 * stage;
-    let places = usize::from(places);
-    Ok(Flags::from_vec(Vec::from_slice(alloc, &flags[first..first + places])?))
+    &flags[first..first + usize::from(places)]
 }

@@ -51,13 +51,7 @@ fn join(links: &mut Vec<Link>, previous: Option<Spot>, next: Option<Spot>) -> Re
     ensures { OnOk result (links.new.items ≡ links.old.items ++ link_by previous next) }
 {
     if let (Some(from), Some(to)) = (previous, next) {
-        links.push(Link {
-            from: from.stage,
-            output: from.stream,
-            to: to.stage,
-            input: to.stream,
-            queue: false,
-        })?;
+        links.push(Link::rendezvous(from.stage, from.stream, to.stage, to.stream))?;
     }
     Ok(())
 }

@@ -2,7 +2,7 @@ ghost use Rattle.std.specs.Prelude.{◌≡◌, ◌≤◌, ◌<◌, ◌+◌, ◌*
 ghost use Rattle.net_graph.specs.Strands.{strand_by, strands_by};
 
 use crate::flags::row;
-use pipe_model::{Kind, NoMemory, Ports, StageName, Strand, most_inputs, most_outputs};
+use pipe_model::{Kind, NoMemory, Strand, most_inputs, most_outputs};
 use std::alloc::Global;
 
 // How many places a stage of so many later uses has, where the kind allows so many.
@@ -26,20 +26,9 @@ fn strand(
     requires outputs { 64 * stage + 64 ≤ length outputs.now }
     ensures { IfOk result (λ strand. strand ≡ strand_by inputs.now outputs.now stage kind later) }
 {
-    let input_count = places(later, most_inputs(&kind));
-    let output_count = places(later, most_outputs(&kind));
-    Ok(Strand {
-        name: StageName::from_vec(vec![in alloc; stage as u32]?),
-        kind,
-        part: 0,
-        unit: 0,
-        ports: Ports {
-            inputs: input_count,
-            outputs: output_count,
-            has_input: row(alloc, inputs, stage, input_count)?,
-            has_output: row(alloc, outputs, stage, output_count)?,
-        },
-    })
+    let has_input = row(inputs, stage, places(later, most_inputs(&kind)));
+    let has_output = row(outputs, stage, places(later, most_outputs(&kind)));
+    Strand::of_stage(alloc, stage as u32, kind, has_input, has_output)
 }
 
 /// The strands of stages of these kinds, whose labels have so many later uses each, and whose linked places these flags tell.

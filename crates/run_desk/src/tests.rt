@@ -1,14 +1,9 @@
-ghost use Rattle.std.specs.Prelude.{◌≡◌, ◌<◌, ◌^◌, ◌∷◌, [], length, IfOk, MatchResult, true, false};
-ghost use Rattle.pipe_model.specs.declared.kind.Kind.TheVariants.{ConsoleIn, ConsoleOut};
-ghost use Rattle.confluence_laws.specs.Examples.{strand, filtering, link, locate};
+ghost use Rattle.std.specs.Prelude.{◌≡◌, ◌∷◌, [], MatchResult};
 
 use crate::{Ask, Desk, Doors, Seat, tells_the_licence, wants_early_levels};
 use commit_levels::Unit;
 use connectors::Wire;
-use pipe_model::{
-    Flags, Kind, Link, Links, Net, NoMemory, Ports, Range, Rec, Seen, Span, StageName, Strand,
-    Strands, Want,
-};
+use pipe_model::{Kind, Link, Net, NoMemory, Seen, Strand, Want};
 use record_pool::Pool;
 use std::alloc::Global;
 use std::test::Fail;
@@ -165,106 +160,19 @@ fn a_strand_goes_out_and_comes_home(rt: HostRuntime) -> Result<(), Fail> {
     Ok(())
 }
 
-// A strand whose stage has one strand, named by its number.
-fn strand(
-    alloc: Global,
-    number: u32,
-    kind: Kind,
-    inputs: &[bool],
-    outputs: &[bool],
-) -> Result<Strand, NoMemory>
-    requires few_inputs { length inputs.now < 2 ^ 16 }
-    requires few_outputs { length outputs.now < 2 ^ 16 }
-    ensures { IfOk result (λ made. made ≡ strand number kind inputs.now outputs.now) }
-{
-    let mut path = Vec::new(alloc);
-    path.push(number)?;
-    Ok(Strand {
-        name: StageName::from_vec(path),
-        kind,
-        part: 0,
-        unit: 0,
-        ports: Ports {
-            inputs: inputs.len() as u16,
-            outputs: outputs.len() as u16,
-            has_input: Flags::from_vec(Vec::from_slice(alloc, inputs)?),
-            has_output: Flags::from_vec(Vec::from_slice(alloc, outputs)?),
-        },
-    })
-}
-
-// CONSOLE at the front, with its bytes.
-fn reader(alloc: Global, bytes: &[u8]) -> Result<Strand, NoMemory>
-    ensures { IfOk result (λ made. made ≡ strand 0 (ConsoleIn bytes.now) [] (true ∷ [])) }
-{
-    let bytes = Rec::from_slice(alloc, bytes)?;
-    strand(alloc, 0, Kind::ConsoleIn { bytes }, &[], &[true])
-}
-
-// LOCATE of a string, in the whole record.
-fn selector(alloc: Global, number: u32, string: &[u8]) -> Result<Strand, NoMemory>
-    ensures { IfOk result (λ made. made ≡ strand number (locate string.now) (true ∷ []) (true ∷ [])) }
-{
-    let range = Range {
-        span: Span::Columns,
-        first: 1,
-        last: None,
-    };
-    let text = Some(Rec::from_slice(alloc, string)?);
-    strand(
-        alloc,
-        number,
-        Kind::Locate { range, text },
-        &[true],
-        &[true],
-    )
-}
-
-// CONSOLE at the end.
-fn writer(alloc: Global, number: u32) -> Result<Strand, NoMemory>
-    ensures { IfOk result (λ made. made ≡ strand number ConsoleOut (true ∷ []) (false ∷ [])) }
-{
-    strand(alloc, number, Kind::ConsoleOut, &[true], &[false])
-}
-
-const fn rendezvous(from: u32, to: u32) -> Link
-    ensures { result ≡ link from 0 to 0 }
-{
-    Link {
-        from,
-        output: 0,
-        to,
-        input: 0,
-        queue: false,
-    }
-}
-
-// `console | locate /b/ | console`.
-fn filtering_net(alloc: Global) -> Result<Net, NoMemory>
-    ensures { IfOk result (λ net. net ≡ filtering) }
-{
-    let first = reader(alloc, b"ab\ncd\nb")?;
-    let second = selector(alloc, 1, b"b")?;
-    let last = writer(alloc, 2)?;
-    let strands = vec![in alloc; first, second, last]?;
-    let links = vec![in alloc; rendezvous(0, 1), rendezvous(1, 2)]?;
-    Ok(Net {
-        strands: Strands::from_vec(strands),
-        links: Links::from_vec(links),
-    })
-}
-
 // Before the first step nobody asks for anything, nothing is at hand or was seen, and nothing is to be given back.
 #[test]
 fn a_run_begins_with_nothing(rt: HostRuntime) -> Result<(), Fail> {
     let alloc = rt.alloc();
-    let net = filtering_net(alloc)?;
+    let console = Strand::of_stage(alloc, 0, Kind::ConsoleOut, &[true], &[true])?;
+    let back = Link::rendezvous(0, 0, 0, 0);
+    let net = Net::new(vec![in alloc; console]?, vec![in alloc; back]?);
     let desk = Desk::blank(alloc, &net)?;
     let mut pool = Pool::new(alloc);
-    let size = desk.size_at_hand(&pool, 1, 0);
-    let seen = desk.seen_bytes(&pool, 1, 0).len();
-    let told = [desk.asks_nothing(2), desk.has_ended(2)];
-    let end = desk.end_of(2);
+    let size = desk.size_at_hand(&pool, 0, 0);
+    let seen = desk.seen_bytes(&pool, 0, 0).len();
+    let told = [desk.asks_nothing(0), desk.has_ended(0)];
+    let end = desk.end_of(0);
     desk.drain(&mut pool);
     assert_eq!(rt; [size, seen], [0, 0]);
     assert_eq!(rt; told, [true, false]);

@@ -9,7 +9,7 @@ ghost use Rattle.confluence_laws.specs.Examples.{ring};
 use crate::{WaitLine, WaitWant, Waits, report, text};
 use core_machine::Core;
 use outside::OpenGate;
-use pipe_model::{Flags, Kind, Link, Links, Net, NoMemory, Ports, StageName, Strand, Strands};
+use pipe_model::{Kind, Link, Net, NoMemory, Strand};
 use stage_steps::{Copies, Each, Listed, Order};
 use std::alloc::Global;
 use std::test::Fail;
@@ -18,29 +18,9 @@ use std::test::Fail;
 fn ring_net(alloc: Global) -> Result<Net, NoMemory>
     ensures { IfOk result (λ net. net ≡ ring) }
 {
-    let console = Strand {
-        name: StageName::from_vec(vec![in alloc; 0u32]?),
-        kind: Kind::ConsoleOut,
-        part: 0,
-        unit: 0,
-        ports: Ports {
-            inputs: 1,
-            outputs: 1,
-            has_input: Flags::from_vec(vec![in alloc; true]?),
-            has_output: Flags::from_vec(vec![in alloc; true]?),
-        },
-    };
-    let back = Link {
-        from: 0,
-        output: 0,
-        to: 0,
-        input: 0,
-        queue: false,
-    };
-    Ok(Net {
-        strands: Strands::from_vec(vec![in alloc; console]?),
-        links: Links::from_vec(vec![in alloc; back]?),
-    })
+    let console = Strand::of_stage(alloc, 0, Kind::ConsoleOut, &[true], &[true])?;
+    let back = Link::rendezvous(0, 0, 0, 0);
+    Ok(Net::new(vec![in alloc; console]?, vec![in alloc; back]?))
 }
 
 // The stage of that CONSOLE before its first event.

@@ -5,7 +5,8 @@ use Rattle.pipe_model.specs.declared.net.Net.{Net}
 use Rattle.pipe_model.specs.declared.net.Strand.{Strand}
 use Rattle.pipe_model.specs.Event.{Event}
 use Rattle.pipe_model.specs.WellFormed.{IsWellFormed}
-use Rattle.confluence_laws.specs.Examples.{passing, link as rendezvous}
+use Rattle.pipe_model.specs.Nets.{rendezvous}
+use Rattle.confluence_laws.specs.Examples.{passing}
 use Rattle.confluence_laws.proofs.Formed.{passing_formed}
 use Rattle.core_machine.specs.declared.passing.Console.TheVariants.{Reads, Writes}
 use Rattle.core_machine.specs.Machine.{started}

@@ -2,21 +2,21 @@
 use Rattle.std.proofs.Common.{[], sym, subst}
 use Rattle.pipe_model.specs.declared.net.Net.{Net}
 use Rattle.pipe_model.specs.WellFormed.{IsWellFormed}
-use Rattle.confluence_laws.proofs.Formed.{filtering_formed}
+use Rattle.confluence_laws.proofs.Formed.{ring_formed}
 use Rattle.record_pool.specs.PoolState.{empty_pool}
 use Rattle.run_desk.specs.Pure.{in_door, sight_door}
 use Rattle.run_desk.proofs.Limits.{hands_held, sights_held}
 use Rattle.run_desk.proofs.tests.a_run_begins_with_nothing.Goals as goal
 
 pub blank-requires-clause-formed : goal.blank-requires-clause-formed
-blank-requires-clause-formed g c = subst (λ (n : Net). IsWellFormed n) (sym c.in_ok-net.ensures) filtering_formed
+blank-requires-clause-formed g c = subst (λ (n : Net). IsWellFormed n) (sym c.in_ok-net.ensures) ring_formed
 
 pub size_at_hand-size-requires : goal.size_at_hand-size-requires
 size_at_hand-size-requires g c =
     let d = c.in_ok-desk.desk in
-    rw c.new-pool.ensures (hands_held d.wires d.sights empty_pool c.in_ok-desk.ensures.pooled (in_door d 1 0))
+    rw c.new-pool.ensures (hands_held d.wires d.sights empty_pool c.in_ok-desk.ensures.pooled (in_door d 0 0))
 
 pub seen_bytes-seen-requires : goal.seen_bytes-seen-requires
 seen_bytes-seen-requires g c =
     let d = c.in_ok-desk.desk in
-    rw c.new-pool.ensures (sights_held d.wires d.sights empty_pool c.in_ok-desk.ensures.pooled (sight_door d 1 0))
+    rw c.new-pool.ensures (sights_held d.wires d.sights empty_pool c.in_ok-desk.ensures.pooled (sight_door d 0 0))

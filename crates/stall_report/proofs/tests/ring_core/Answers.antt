@@ -4,7 +4,8 @@ use Rattle.pipe_model.specs.declared.net.Net.{Net}
 use Rattle.pipe_model.specs.declared.net.Strand.{Strand}
 use Rattle.pipe_model.specs.Event.{Event}
 use Rattle.pipe_model.specs.WellFormed.{IsWellFormed}
-use Rattle.confluence_laws.specs.Examples.{link as rendezvous, ring}
+use Rattle.pipe_model.specs.Nets.{rendezvous}
+use Rattle.confluence_laws.specs.Examples.{ring}
 use Rattle.confluence_laws.proofs.Formed.{ring_formed}
 use Rattle.core_machine.specs.Machine.{started}
 use Rattle.core_machine.specs.Start.{AreFresh, HasNoQueue}
