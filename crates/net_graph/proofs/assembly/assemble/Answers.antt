@@ -46,12 +46,12 @@ strands_of-requires-clause-each c =
 
 pub returns : goal.returns
 returns c =
-    let strands : c.from_vec.result ≡ strands_by c.in_ok-inputs.inputs.items c.in_ok-outputs.outputs.items 0 c.in_ok-later.later.items c.args.kinds.items =
-    c.from_vec.ensures ∙ (c.in_ok-strands.ensures ∙ rw (c.deref-3.ensures.value, c.deref-4.ensures.value, c.deref-5.ensures.value) refl) in
+    let strands : c.in_ok-strands.strands.items ≡ strands_by c.in_ok-inputs.inputs.items c.in_ok-outputs.outputs.items 0 c.in_ok-later.later.items c.args.kinds.items =
+    c.in_ok-strands.ensures ∙ rw (c.deref-3.ensures.value, c.deref-4.ensures.value, c.deref-5.ensures.value) refl in
     let size : c.len-stages.result ≡ length c.in_ok-later.later.items = omega arith in
-    let both = assembled c.args.pipelines.now c.args.kinds.items c.args.table.now c.requires.labelled c.from_vec.result c.from_vec-2.result c.deref.result.now c.deref-2.result.now
+    let both = assembled c.args.pipelines.now c.args.kinds.items c.args.table.now c.requires.labelled c.in_ok-strands.strands.items c.in_ok-links.links.items c.deref.result.now c.deref-2.result.now
     c.in_ok-later.later.items c.in_ok-inputs.inputs.items c.in_ok-outputs.outputs.items c.len-stages.result
-    (c.from_vec-2.ensures ∙ c.in_ok-links.ensures) (c.deref.ensures.value ∙ sym c.from_vec-2.ensures) (c.deref-2.ensures.value ∙ sym c.from_vec-2.ensures)
+    c.in_ok-links.ensures c.deref.ensures.value c.deref-2.ensures.value
     c.in_ok-later.ensures size c.in_ok-inputs.ensures c.in_ok-outputs.ensures strands in
-    same_net c.from_vec.result c.from_vec-2.result (whole_net c.args.pipelines.now c.args.kinds.items) both.0 both.1
+    same_net c.new.result.strands c.new.result.links (whole_net c.args.pipelines.now c.args.kinds.items) (c.new.ensures.strands ∙ both.0) (c.new.ensures.links ∙ both.1)
     ∙ sym (whole_same c.args.pipelines.now c.args.kinds.items c.requires.read)

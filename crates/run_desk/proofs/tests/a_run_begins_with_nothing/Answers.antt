@@ -1,6 +1,10 @@
 -- The net is a well-formed one, and what its desk holds is held in the pool.
-use Rattle.std.proofs.Common.{[], sym, subst}
+use Rattle.std.proofs.Common.{rules, ◌≡◌, [], ◌∷◌, true, List, refl, sym, subst}
+use Rattle.pipe_model.specs.declared.kind.Kind.TheVariants.{ConsoleOut}
+use Rattle.pipe_model.specs.declared.net.Link.{Link}
 use Rattle.pipe_model.specs.declared.net.Net.{Net}
+use Rattle.pipe_model.specs.declared.net.Strand.{Strand}
+use Rattle.pipe_model.specs.Nets.{strand, rendezvous}
 use Rattle.pipe_model.specs.WellFormed.{IsWellFormed}
 use Rattle.confluence_laws.proofs.Formed.{ring_formed}
 use Rattle.record_pool.specs.PoolState.{empty_pool}
@@ -8,8 +12,13 @@ use Rattle.run_desk.specs.Pure.{in_door, sight_door}
 use Rattle.run_desk.proofs.Limits.{hands_held, sights_held}
 use Rattle.run_desk.proofs.tests.a_run_begins_with_nothing.Goals as goal
 
+formed : (net : Net) → net.strands ≡ strand 0 ConsoleOut (true ∷ []) (true ∷ []) ∷ [] → net.links ≡ rendezvous 0 0 0 0 ∷ [] → IsWellFormed net
+formed net strands links =
+    let ring : net ≡ record { strands = strand 0 ConsoleOut (true ∷ []) (true ∷ []) ∷ []; links = rendezvous 0 0 0 0 ∷ [] } = rw (sym strands, sym links) refl in
+    subst (λ (n : Net). IsWellFormed n) (sym ring) ring_formed
+
 pub blank-requires-clause-formed : goal.blank-requires-clause-formed
-blank-requires-clause-formed g c = subst (λ (n : Net). IsWellFormed n) (sym c.in_ok-net.ensures) ring_formed
+blank-requires-clause-formed g c = formed c.new-net.result (search rules) (search rules)
 
 pub size_at_hand-size-requires : goal.size_at_hand-size-requires
 size_at_hand-size-requires g c =
