@@ -114,7 +114,6 @@ module _ {S : Type 0} (stands : S → Strand → List Event → Type 0) (net : N
   pub sound_ready : (ready' : Members) → ready'.size ≡ ready.size → IsCovering d ready' → IsSound stands net budget journal out actors d pool ready'
   sound_ready ready' size covers = record {
     formed = sound.formed;
-    few = sound.few;
     legal = sound.legal;
     within = sound.within;
     bounded = sound.bounded;
@@ -285,7 +284,7 @@ module _ {S : Type 0} (stands : S → Strand → List Event → Type 0) (net : N
     }
 
     pub can_turn : (seen : Seen) → told e ≡ seen → CanMove d pool s seen
-    can_turn seen at = subst (CanMove d pool s) at (run_can net st left d pool sound.formed own sound.few sound.run short s k e may)
+    can_turn seen at = subst (CanMove d pool s) at (run_can net st left d pool sound.formed own sound.run short s k e may)
 
     module _ (a : Actor S) (stage : S) (there : slice_get actors s ≡ Some a) (was : a.stage ≡ Some stage) (seen : Seen) (seen_at : told e ≡ seen) (b : Actor S) (b_out : b.stage ≡ None) (b_looks : b.looks ≡ a.looks) (b_end : b.saw_end ≡ (a.saw_end || is_end seen))
         (space : length journal < budget) (d' : DeskState) (pool' : PoolState) (ready' : Members)
@@ -350,7 +349,6 @@ module _ {S : Type 0} (stands : S → Strand → List Event → Type 0) (net : N
       pub sound_turned : IsSound stands net budget longer out' (slice_set actors s b) d' pool' ready'
       sound_turned = record {
         formed = sound.formed;
-        few = sound.few;
         legal = legal_last net nothing_yet journal entry sound.legal (ap is_some may_all);
         within = let a = length_more journal entry in omega (arith, a, space);
         bounded = sound.bounded;
@@ -361,7 +359,7 @@ module _ {S : Type 0} (stands : S → Strand → List Event → Type 0) (net : N
             (subst (λ y. IsRun net (with_event st s e) (left_out left s) y pool') (sym desk_is ∙ refl)
             (subst (λ y. IsRun net (with_event st s e) (left_out left s) (made d s seen) y) (sym pool_is)
             (subst (λ y. IsRun net (with_event st s e) (left_out left s) (made d s y) (pool_moved d pool s y)) seen_at
-            (run_made net st left d pool sound.formed own sound.few sound.run short s k e may)))));
+            (run_made net st left d pool sound.formed own sound.run short s k e may)))));
         strands = actors_turned;
         size = size ∙ sound.size;
         covers = covers;
@@ -423,12 +421,12 @@ module _ {S : Type 0} (stands : S → Strand → List Event → Type 0) (net : N
     ended_is = ended_here s place
 
     pub can_home : Pure.ended_at d s ≡ false → CanCome d pool s want
-    can_home not_ended = run_can_come net st left d pool sound.formed own sound.few sound.run s strand.0 want away strand.1 (sym ended_is ∙ not_ended) (asks (sym ended_is ∙ not_ended)) seen
+    can_home not_ended = run_can_come net st left d pool sound.formed own sound.run s strand.0 want away strand.1 (sym ended_is ∙ not_ended) (asks (sym ended_is ∙ not_ended)) seen
 
     pub came : (d' : DeskState) (pool' : PoolState) → HasReturned d pool s want d' pool' → IsRun net st (left_in left s) d' pool'
     came d' pool' returned = elim returned [
-      | inl gone ↦ subst (λ x. IsRun net st (left_in left s) x pool') (sym gone.1) (subst (IsRun net st (left_in left s) d) (sym gone.2) (run_gone net st left d pool sound.formed own sound.few sound.run s (sym ended_is ∙ gone.0)))
-      | inr come ↦ run_home net st left d pool sound.formed own sound.few sound.run s strand.0 want away strand.1 (sym ended_is ∙ come.0) (asks (sym ended_is ∙ come.0)) seen d' pool' come.1
+      | inl gone ↦ subst (λ x. IsRun net st (left_in left s) x pool') (sym gone.1) (subst (IsRun net st (left_in left s) d) (sym gone.2) (run_gone net st left d pool sound.formed own sound.run s (sym ended_is ∙ gone.0)))
+      | inr come ↦ run_home net st left d pool sound.formed own sound.run s strand.0 want away strand.1 (sym ended_is ∙ come.0) (asks (sym ended_is ∙ come.0)) seen d' pool' come.1
     ]
 
     pub came_early : (d' : DeskState) (pool' : PoolState) → HasReturned d pool s want d' pool' → AsksEarly d'
@@ -499,7 +497,6 @@ module _ {S : Type 0} (stands : S → Strand → List Event → Type 0) (net : N
       pub sound_home : IsSound stands net budget journal (without p out) (slice_set actors s new) d' pool' ready'
       sound_home = record {
         formed = sound.formed;
-        few = sound.few;
         legal = sound.legal;
         within = sound.within;
         bounded = sound.bounded;

@@ -133,11 +133,11 @@ module _ {S : Type 0} (stands : S → Strand → List Event → Type 0) (net : N
       seen = first_is_plain its_strand.0 want means
 
       pub can_call : CanCome d pool s want
-      can_call = run_can_come net nothing_yet (out_from s n) d pool formed (own_first net) called.few called.run s its_strand.0 want (still_out s n within) its_strand.1 refl means seen
+      can_call = run_can_come net nothing_yet (out_from s n) d pool formed (own_first net) called.run s its_strand.0 want (still_out s n within) its_strand.1 refl means seen
 
       pub called_run : (d' : DeskState) (pool' : PoolState) → HasCome d pool s want d' pool' → IsRun net nothing_yet (out_from (suc s) n) d' pool'
       called_run d' pool' come = subst (λ l. IsRun net nothing_yet l d' pool') (next_in s n)
-          (run_home net nothing_yet (out_from s n) d pool formed (own_first net) called.few called.run s its_strand.0 want (still_out s n within) its_strand.1 refl means seen d' pool' come)
+          (run_home net nothing_yet (out_from s n) d pool formed (own_first net) called.run s its_strand.0 want (still_out s n within) its_strand.1 refl means seen d' pool' come)
 
       pub called_early : (d' : DeskState) (pool' : PoolState) → HasCome d pool s want d' pool' → AsksEarly d'
       called_early d' pool' come = early_on net nothing_yet formed (own_first net) (bytes_at pool') (out_from (suc s) n) d' (called_run d' pool' come).kept
@@ -145,7 +145,6 @@ module _ {S : Type 0} (stands : S → Strand → List Event → Type 0) (net : N
       pub called_next : (d' : DeskState) (pool' : PoolState) (ready' : Members) (a : Actor S) → slice_get actors s ≡ Some a → HasCome d pool s want d' pool' → ready'.size ≡ ready.size → IsCovering d' ready' →
           IsCalled stands net (suc s) (slice_set actors s (asking_for (bare want) a)) d' pool' ready'
       called_next d' pool' ready' a there come size covers = record {
-        few = called.few;
         run = called_run d' pool' come;
         count = length-set actors s (asking_for (bare want) a) ∙ called.count;
         each = λ t p x is at. elim (equal_or_not t s) [
@@ -200,10 +199,9 @@ module _ {S : Type 0} (stands : S → Strand → List Event → Type 0) (net : N
       go None is = ap (λ y. cond (out_from 0 n t) None (want_after y [])) is ∙ nothing (out_from 0 n t)
       go (Some p) is = ap (λ b. cond b None (want_after (strand_at net nothing_yet t) [])) (all_out t n (slice_get_within net.strands t _ is))
 
-  pub none_called : (stages : List S) (actors : List (Actor S)) (d : DeskState) (ready : Members) → length net.links < 2147483648 → AreFresh stands net.strands stages → AreNew stands stages actors → IsRun net nothing_yet (out_from 0 n) d empty_pool → ready.size ≡ n →
+  pub none_called : (stages : List S) (actors : List (Actor S)) (d : DeskState) (ready : Members) → AreFresh stands net.strands stages → AreNew stands stages actors → IsRun net nothing_yet (out_from 0 n) d empty_pool → ready.size ≡ n →
       IsCalled stands net 0 actors d empty_pool ready
-  none_called stages actors d ready few fresh new run size = record {
-    few = few;
+  none_called stages actors d ready fresh new run size = record {
     run = run;
     count = new_length stages actors new ∙ fresh.count;
     each = λ t p x is at.
@@ -245,7 +243,6 @@ module _ {S : Type 0} (stands : S → Strand → List Event → Type 0) (net : N
       IsSound stands net budget [] [] actors d pool ready
   all_called actors d pool ready budget bounded called = record {
     formed = formed;
-    few = called.few;
     legal = tt;
     within = omega arith;
     bounded = bounded;

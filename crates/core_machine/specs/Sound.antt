@@ -51,7 +51,6 @@ pub record AreActors {S : Type 0} (stands : S → Strand → List Event → Type
 -- all that a core keeps
 pub record IsSound {S : Type 0} (stands : S → Strand → List Event → Type 0) (net : Net) (budget : ℕ) (journal : List Entry) (out : List ℕ) (actors : List (Actor S)) (d : DeskState) (pool : PoolState) (ready : Members) : Type 0 where
   pub formed : IsWellFormed net
-  pub few : length net.links < 2147483648
   pub legal : IsLegal net journal
   pub within : length journal ≤ budget
   pub bounded : budget ≤ 50000000

@@ -38,7 +38,6 @@ AreNew stands _ _ = ⊥
 
 -- the strands below a number have asked for what they want first, and the others are out
 pub record IsCalled {S : Type 0} (stands : S → Strand → List Event → Type 0) (net : Net) (s : Who) (actors : List (Actor S)) (d : DeskState) (pool : PoolState) (ready : Members) : Type 0 where
-  pub few : length net.links < 2147483648
   pub run : IsRun net nothing_yet (out_from s (length net.strands)) d pool
   pub count : length actors ≡ length net.strands
   pub each : (t : Who) (p : Strand) (actor : Actor S) → strand_at net nothing_yet t ≡ Some p → slice_get actors t ≡ Some actor →

@@ -27,8 +27,7 @@ impl<S: Stage> Core<S> {
     ghost use Rattle.core_machine.specs.Start.{AreFresh, HasNoQueue};
 
     /// A core before the first step: each strand asks for what its fresh coroutine asks for first. The journal is
-    /// reserved to the budget, which is at most fifty million entries. It wants memory too for a net of 2^31 links or
-    /// more.
+    /// reserved to the budget, which is at most fifty million entries.
     pub fn start(alloc: Global, net: Net, stages: Vec<S>, budget: u64) -> Result<Core<S>, NoMemory>
         requires formed { IsWellFormed net }
         requires rendezvous { HasNoQueue net }
@@ -37,9 +36,6 @@ impl<S: Stage> Core<S> {
         ensures { IfOk result (λ core. core ≡ started net budget) }
     {
         let strands = net.strands.as_slice().len();
-        if net.links.as_slice().len() >= 2_147_483_648 {
-            return Err(NoMemory);
-        }
         let journal = Vec::with_capacity(alloc, budget as usize)?;
         let out = Vec::with_capacity(alloc, strands)?;
         let mut actors = new_actors(alloc, stages)?;

@@ -1,4 +1,4 @@
-use Rattle.std.proofs.Common.{rules, ◌≡◌, ◌<◌, ℕ, false, length, List, [], sym, ◌∙◌, ap, subst}
+use Rattle.std.proofs.Common.{rules, ◌≡◌, ℕ, false, length, List, [], sym, ◌∙◌, ap, subst}
 use Rattle.pipe_model.specs.declared.step.Entry.{Entry}
 use Rattle.core_machine.specs.Machine.{Machine}
 use Rattle.core_machine.specs.Sound.{IsSound}
@@ -8,10 +8,9 @@ use Rattle.core_machine.proofs.core_state.Core.start.Goals as goal
 
 pub call_all-called-requires-clause-called : goal.call_all-called-requires-clause-called
 call_all-called-requires-clause-called g c =
-    let few : length c.args.net.links < 2147483648 = search rules in
     let size : c.in_ok-ready.ready.size ≡ length c.args.net.strands = search rules in
     let actors = c.in_ok-actors.actors.items in
-    let called = none_called g.S.Stage.stands c.args.net c.requires.formed c.args.stages.items actors c.in_ok-desk.desk c.in_ok-ready.ready few c.requires.fresh c.in_ok-actors.ensures c.in_ok-desk.ensures size in
+    let called = none_called g.S.Stage.stands c.args.net c.requires.formed c.args.stages.items actors c.in_ok-desk.desk c.in_ok-ready.ready c.requires.fresh c.in_ok-actors.ensures c.in_ok-desk.ensures size in
     subst (λ p. IsCalled g.S.Stage.stands c.args.net 0 actors c.in_ok-desk.desk p c.in_ok-ready.ready) (sym c.new-pool.ensures) called
 
 pub drain-requires : goal.drain-requires
