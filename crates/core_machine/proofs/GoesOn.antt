@@ -1,5 +1,5 @@
 -- A strand that is told an event goes on in place: its turn and its coming home in one.
-use Rattle.std.proofs.Common.{◌≡◌, ℕ, zero, suc, ◌<◌, true, false, cond, ◌||◌, not, List, [], ◌∷◌, ◌++◌, length, refl, sym, ◌∙◌, ap, subst, Option, Some, None, slice_get, slice_set}
+use Rattle.std.proofs.Common.{◌≡◌, ℕ, zero, suc, ◌<◌, true, false, cond, ◌||◌, not, List, [], ◌∷◌, ◌++◌, length, refl, sym, ◌∙◌, ap, subst, Some, None, slice_get, slice_set}
 use Rattle.std.specs.Prelude.{take}
 use Rattle.pipe_model.specs.declared.net.Net.{Net}
 use Rattle.pipe_model.specs.declared.net.Strand.{Strand}
@@ -22,13 +22,13 @@ use Rattle.run_desk.specs.Pure as Pure
 use Rattle.connectors.specs.WireState.{IsHeldIn}
 use Rattle.core_machine.specs.declared.actor.Actor.{Actor}
 use Rattle.core_machine.specs.Actors.{is_end, gone_out, gone_on, given_up, asking_for, bytes_told}
+use Rattle.core_machine.specs.Floor.{IsInUse, StaysEarly}
 use Rattle.core_machine.specs.Jobs.{JobState, JobStands, HasGoneOn}
 use Rattle.core_machine.specs.Machine.{left_by, without, is_among, looks_at}
-use Rattle.core_machine.specs.Members.{Members}
 use Rattle.core_machine.specs.Sound.{IsSound}
-use Rattle.core_machine.specs.Woken.{IsCovering, AsksEarly, HasReturned}
+use Rattle.core_machine.specs.Woken.{HasReturned}
 use Rattle.core_machine.proofs.Jobs.{can_run, done_take}
-use Rattle.core_machine.proofs.Sounds.{sight_held, told_are, can_home, ended_is, came, came_early, sound_home, turned_past, goes_on, sound_turned, job_turned, job_event}
+use Rattle.core_machine.proofs.Sounds.{sight_held, told_are, can_home, ended_is, came, came_early, in_use, sound_home, turned_past, goes_on, sound_turned, job_turned, job_event}
 
 -- what is set twice is set once
 pub set_set : {A : Type 0} (xs : List A) (i : ℕ) (x y : A) → slice_set (slice_set xs i x) i y ≡ slice_set xs i y
@@ -58,12 +58,11 @@ end_told (Opened k) h going = going
 end_told (Joined k c) h going = going
 end_told (Severed s) h going = going
 
-module _ {S : Type 0} (stands : S → Strand → List Event → Type 0) (net : Net) (budget : ℕ) (journal : List Entry) (out : List ℕ) (actors : List (Actor S)) (d : DeskState) (pool : PoolState) (ready : Members)
-    (sound : IsSound stands net budget journal out actors d pool ready)
+module _ {S : Type 0} (stands : S → Strand → List Event → Type 0) (net : Net) (budget : ℕ) (journal : List Entry) (out : List ℕ) (actors : List (Actor S)) (d : DeskState) (pool : PoolState)
+    (sound : IsSound stands net budget journal out actors d pool)
     (s : Who) (k : ℕ) (e : Event) (may : licence net (play net journal) (left_by journal out) s k ≡ Some e)
     (a : Actor S) (stage : S) (there : slice_get actors s ≡ Some a) (was : a.stage ≡ Some stage) (seen : Seen) (seen_at : told e ≡ seen)
-    (space : length journal < budget) (d' : DeskState) (pool' : PoolState) (ready' : Members)
-    (desk_is : d' ≡ made d s seen) (pool_is : pool' ≡ pool_moved d pool s seen) (size : ready'.size ≡ ready.size) (covers : IsCovering d' ready') where
+    (space : length journal < budget) (d' : DeskState) (pool' : PoolState) (desk_is : d' ≡ made d s seen) (pool_is : pool' ≡ pool_moved d pool s seen) where
   abbrev pub longer : List Entry
   longer = journal ++ (record { strand = s; stream = k }) ∷ []
 
@@ -72,28 +71,28 @@ module _ {S : Type 0} (stands : S → Strand → List Event → Type 0) (net : N
 
   -- After the turn
 
-  was_out : IsSound stands net budget longer (out ++ here ∷ []) (slice_set actors s (gone_out seen a)) d' pool' ready'
-  was_out = sound_turned stands net budget journal out actors d pool ready sound s k e may a stage there was seen seen_at (gone_out seen a) refl refl refl space d' pool' ready' desk_is pool_is size covers
+  was_out : IsSound stands net budget longer (out ++ here ∷ []) (slice_set actors s (gone_out seen a)) d' pool'
+  was_out = sound_turned stands net budget journal out actors d pool sound s k e may a stage there was seen seen_at (gone_out seen a) refl refl refl space d' pool' desk_is pool_is
 
   pub sights : (i : ℕ) → IsHeldIn pool' (sight_through d'.sights (Pure.sight_door d' s i))
-  sights i = sight_held stands net budget longer (out ++ here ∷ []) (slice_set actors s (gone_out seen a)) d' pool' ready' was_out s i
+  sights i = sight_held stands net budget longer (out ++ here ∷ []) (slice_set actors s (gone_out seen a)) d' pool' was_out s i
 
   -- the bytes at hand are those of the event
   pub right_bytes : bytes_with (looks_at net s) e ≡ bytes_told (looks_at net s) d' pool' s seen
   right_bytes =
-      sym (told_are stands net budget longer (out ++ here ∷ []) (slice_set actors s (gone_out seen a)) d' pool' ready' was_out (looks_at net s) s e (past (play net journal) s) seen
-      (turned_past stands net budget journal out actors d pool ready sound s k e may) (goes_on stands net budget journal out actors d pool ready sound s k e may) seen_at)
+      sym (told_are stands net budget longer (out ++ here ∷ []) (slice_set actors s (gone_out seen a)) d' pool' was_out (looks_at net s) s e (past (play net journal) s) seen
+      (turned_past stands net budget journal out actors d pool sound s k e may) (goes_on stands net budget journal out actors d pool sound s k e may) seen_at)
 
   abbrev its : JobState S
   its = record { strand = s; place = here; seen = seen; stage = stage }
 
   abbrev job : (b : Actor S) → b.stage ≡ None → b.looks ≡ a.looks → b.saw_end ≡ (a.saw_end || is_end seen) → JobStands stands net longer its
-  job b b_out b_looks b_end = job_turned stands net budget journal out actors d pool ready sound s k e may a stage there was seen seen_at b b_out b_looks b_end space d' pool' ready' desk_is pool_is size covers
+  job b b_out b_looks b_end = job_turned stands net budget journal out actors d pool sound s k e may a stage there was seen seen_at b b_out b_looks b_end space d' pool' desk_is pool_is
 
   job_bytes : (b : Actor S) (b_out : b.stage ≡ None) (b_looks : b.looks ≡ a.looks) (b_end : b.saw_end ≡ (a.saw_end || is_end seen)) (bytes : List ℕ) → bytes ≡ bytes_told (looks_at net s) d' pool' s seen →
       bytes_with (looks_at net s) (job b b_out b_looks b_end).event ≡ bytes
   job_bytes b b_out b_looks b_end bytes is =
-      ap (bytes_with (looks_at net s)) (job_event stands net budget journal out actors d pool ready sound s k e may a stage there was seen seen_at b b_out b_looks b_end space d' pool' ready' desk_is pool_is size covers)
+      ap (bytes_with (looks_at net s)) (job_event stands net budget journal out actors d pool sound s k e may a stage there was seen seen_at b b_out b_looks b_end space d' pool' desk_is pool_is)
       ∙ right_bytes ∙ sym is
 
   pub can_go : (bytes : List ℕ) → bytes ≡ bytes_told (looks_at net s) d' pool' s seen → CanResume stands stage seen bytes
@@ -111,16 +110,19 @@ module _ {S : Type 0} (stands : S → Strand → List Event → Type 0) (net : N
     abbrev pub stayed : List (Actor S)
     stayed = slice_set actors s on
 
-    pub lost : IsSound stands net budget longer (out ++ here ∷ []) (slice_set actors s off) d' pool' ready'
-    lost = sound_turned stands net budget journal out actors d pool ready sound s k e may a stage there was seen seen_at off refl refl refl space d' pool' ready' desk_is pool_is size covers
+    pub lost : IsSound stands net budget longer (out ++ here ∷ []) (slice_set actors s off) d' pool'
+    lost = sound_turned stands net budget journal out actors d pool sound s k e may a stage there was seen seen_at off refl refl refl space d' pool' desk_is pool_is
+
+    pub went_out : IsInUse net d'
+    went_out = in_use stands net budget longer (out ++ here ∷ []) (slice_set actors s off) d' pool' lost
 
     -- the coroutine is given up
-    pub gave_up : (b : Actor S) → slice_get stayed s ≡ Some b → IsSound stands net budget longer (out ++ here ∷ []) (slice_set stayed s (given_up b)) d' pool' ready'
+    pub gave_up : (b : Actor S) → slice_get stayed s ≡ Some b → IsSound stands net budget longer (out ++ here ∷ []) (slice_set stayed s (given_up b)) d' pool'
     gave_up b at =
         let one : Some on ≡ Some b = sym (get_set_same actors s on a there) ∙ at in
         let b_is : on ≡ b = cc in
-        subst (λ (x : Actor S). IsSound stands net budget longer (out ++ here ∷ []) (slice_set stayed s (given_up x)) d' pool' ready') b_is
-        (subst (λ (l : List (Actor S)). IsSound stands net budget longer (out ++ here ∷ []) l d' pool' ready') (sym (set_set actors s on off)) lost)
+        subst (λ (x : Actor S). IsSound stands net budget longer (out ++ here ∷ []) (slice_set stayed s (given_up x)) d' pool') b_is
+        (subst (λ (l : List (Actor S)). IsSound stands net budget longer (out ++ here ∷ []) l d' pool') (sym (set_set actors s on off)) lost)
 
     -- what is kept of it where it asks for something else
     pub asking : (b : Actor S) → slice_get stayed s ≡ Some b → (shown : Asked) → slice_set stayed s (asking_for shown b) ≡ slice_set actors s (gone_on seen next shown a)
@@ -151,24 +153,24 @@ module _ {S : Type 0} (stands : S → Strand → List Event → Type 0) (net : N
       -- it has ended just where that is what it was told
       pub home_ended : ends seen ≡ Pure.ended_at d' s
       home_ended =
-          sym (ended_is stands net budget longer out' (slice_set actors s off) d' pool' ready' lost s here next asked among done
-          ∙ ap has_ended (turned_past stands net budget journal out actors d pool ready sound s k e may)
-          ∙ end_told e (past (play net journal) s) (goes_on stands net budget journal out actors d pool ready sound s k e may) ∙ ap ends seen_at)
+          sym (ended_is stands net budget longer out' (slice_set actors s off) d' pool' lost s here next asked among done
+          ∙ ap has_ended (turned_past stands net budget journal out actors d pool sound s k e may)
+          ∙ end_told e (past (play net journal) s) (goes_on stands net budget journal out actors d pool sound s k e may) ∙ ap ends seen_at)
 
       pub home_can : Pure.ended_at d' s ≡ false → CanCome d' pool' s asked
-      home_can = can_home stands net budget longer out' (slice_set actors s off) d' pool' ready' lost s here next asked among done
+      home_can = can_home stands net budget longer out' (slice_set actors s off) d' pool' lost s here next asked among done
 
-      pub home_early : (d2 : DeskState) (pool2 : PoolState) → HasReturned d' pool' s asked d2 pool2 → AsksEarly d2
-      home_early = came_early stands net budget longer out' (slice_set actors s off) d' pool' ready' lost s here next asked among done
+      pub home_early : Pure.ended_at d' s ≡ false → StaysEarly d' pool' s asked
+      home_early = came_early stands net budget longer out' (slice_set actors s off) d' pool' lost s here next asked among done
 
       -- and its strand came home
       pub went_home : (shown : Asked) → (Pure.ended_at d' s ≡ false → shown ≡ bare asked) →
-          (d2 : DeskState) (pool2 : PoolState) (ready2 : Members) → HasReturned d' pool' s asked d2 pool2 → ready2.size ≡ ready'.size → IsCovering d2 ready2 →
-          IsSound stands net budget longer [] (slice_set actors s (gone_on seen next shown a)) d2 pool2 ready2
-      went_home shown bared d2 pool2 ready2 returned size2 covers2 =
+          (d2 : DeskState) (pool2 : PoolState) → HasReturned d' pool' s asked d2 pool2 →
+          IsSound stands net budget longer [] (slice_set actors s (gone_on seen next shown a)) d2 pool2
+      went_home shown bared d2 pool2 returned =
           let new : Actor S = gone_on seen next shown a in
-          let home = sound_home stands net budget longer out' (slice_set actors s off) d' pool' ready' lost s here next asked among done d2 pool2 ready2 off (get_set_same actors s off a there)
-          (came stands net budget longer out' (slice_set actors s off) d' pool' ready' lost s here next asked among done d2 pool2 returned) size2 covers2 shown bared in
+          let home = sound_home stands net budget longer out' (slice_set actors s off) d' pool' lost s here next asked among done d2 pool2 off (get_set_same actors s off a there)
+          (came stands net budget longer out' (slice_set actors s off) d' pool' lost s here next asked among done d2 pool2 returned) shown bared in
           let none : without here out' ≡ [] = ap (without here) out_is ∙ none_without here in
-          subst (λ (l : List (Actor S)). IsSound stands net budget longer [] l d2 pool2 ready2) (set_set actors s off new)
-          (subst (λ o. IsSound stands net budget longer o (slice_set (slice_set actors s off) s new) d2 pool2 ready2) none home)
+          subst (λ (l : List (Actor S)). IsSound stands net budget longer [] l d2 pool2) (set_set actors s off new)
+          (subst (λ o. IsSound stands net budget longer o (slice_set (slice_set actors s off) s new) d2 pool2) none home)

@@ -6,18 +6,17 @@ use Rattle.pipe_model.specs.declared.net.Link.{Link}
 use Rattle.pipe_model.specs.declared.step.Out.{Out}
 use Rattle.pipe_model.specs.declared.step.Want.{Want}
 use Rattle.pipe_model.specs.declared.step.Want.TheVariants as want
-use Rattle.pipe_model.specs.State.{State}
-use Rattle.pipe_model.specs.Licence.{Left}
 use Rattle.pipe_model.specs.WellFormed.{IsWellFormed}
 use Rattle.record_pool.specs.PoolState.{PoolState}
 use Rattle.run_desk.specs.declared.seat.Ask.{Ask}
 use Rattle.run_desk.specs.declared.seat.Ask.TheVariants as Now
 use Rattle.run_desk.specs.declared.seat.Seat.{Seat}
 use Rattle.run_desk.specs.Desk.{DeskState}
-use Rattle.run_desk.specs.Kept.{IsKept, link_through}
+use Rattle.run_desk.specs.Kept.{link_through}
 use Rattle.run_desk.specs.Moves.{HasCome, home, home_writing, asking, changed, offers}
 use Rattle.run_desk.specs.Pure as Pure
 use Rattle.run_desk.proofs.Lists.{changed_here, changed_there}
+use Rattle.core_machine.specs.Floor.{IsInUse}
 use Rattle.core_machine.specs.Members.{Members, is_member}
 use Rattle.core_machine.specs.Woken.{IsCovering, AsksEarly, IsWhole, IsLarger, IsReaderIn, commits}
 use Rattle.core_machine.proofs.Fulls.{same_code}
@@ -114,20 +113,20 @@ no_commit (want.Cut i) other = refl
 no_commit (want.Done code) other = refl
 
 -- after a strand came home the set covers the strands that may go on, where it, who reads what it writes and those for whom it settled something were woken
-pub covers_home : (net : Net) (texts : ℕ → List ℕ) (st : State) (left : Left) (d n : DeskState) (links : List Link) → net.links ≡ links → IsWellFormed net → IsKept net texts st left d → AsksEarly n →
-    (pool after : PoolState) (s : ℕ) (w : Want) (old set new : Members) (low zero : Bool) → length net.strands ≡ old.size → HasCome d pool s w n after →
-    IsLarger old set → is_member set s ≡ true → IsReaderIn d links s w set → IsLarger set new →
+pub covers_home : (net : Net) (d n : DeskState) → IsWellFormed net → IsInUse net d → AsksEarly n →
+    (pool after : PoolState) (s : ℕ) (w : Want) (old set new : Members) (low zero : Bool) → old.size ≡ length net.strands → HasCome d pool s w n after →
+    IsLarger old set → is_member set s ≡ true → IsReaderIn d net.links s w set → IsLarger set new →
     low ≡ (not (commits w) || is_some (Pure.level_code d (negsuc 0))) → zero ≡ (not (commits w) || is_some (Pure.level_code d (pos 0))) →
     (low ≡ false → is_some (Pure.level_code n (negsuc 0)) ≡ true → IsWhole new) → (zero ≡ false → is_some (Pure.level_code n (pos 0)) ≡ true → IsWhole new) →
     IsCovering d old → IsCovering n new
-covers_home net texts st left d n links same formed kept early pool after s w old set new low zero size come larger here reader larger' low_is zero_is fills_low fills_zero covers =
-    covers_on net st formed d n kept.laid s new (larger'.0 ∙ larger.0 ∙ sym size) around
+covers_home net d n formed used early pool after s w old set new low zero size come larger here reader larger' low_is zero_is fills_low fills_zero covers =
+    covers_on net used.st formed d n used.kept.laid s new (larger'.0 ∙ larger.0 ∙ size) around
     old (λ t held. larger'.1 t (larger.1 t held)) covers
     (λ u apart level asks. early u level (ap Pure.ask_of (around.seats u apart) ∙ asks))
   where
     around : IsAround net d n s new
     around = around_want net d n s new low zero (larger'.1 s here) fills_low fills_zero pool after w come
-        (more_readers d net.links s w set new larger'.1 (subst (λ z. IsReaderIn d z s w set) (sym same) reader)) low_is zero_is
+        (more_readers d net.links s w set new larger'.1 reader) low_is zero_is
 
 -- who came home to write may go on only where the record that it offered may be put, or refused
 pub may_write : (d : DeskState) (s o grip : ℕ) (n : DeskState) → n ≡ home_writing d s o grip → (door : Option ℕ) → door ≡ Pure.out_door d s o →

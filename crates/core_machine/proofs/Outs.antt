@@ -20,8 +20,9 @@ use Rattle.run_desk.specs.Kept.{IsKept, link_through}
 use Rattle.run_desk.specs.Moves.{made, CanMove, seat_after, out_shut, in_shut, ends, sees}
 use Rattle.run_desk.specs.Pure as Pure
 use Rattle.run_desk.proofs.Lists.{changed_here, changed_there}
+use Rattle.core_machine.specs.Floor.{IsInUse}
 use Rattle.core_machine.specs.Members.{Members, is_member}
-use Rattle.core_machine.specs.Woken.{IsCovering, AsksEarly, IsWhole, IsLarger, IsStageIn, AreEndsIn, may_settle}
+use Rattle.core_machine.specs.Woken.{IsCovering, IsWhole, IsLarger, IsStageIn, AreEndsIn, may_settle}
 use Rattle.core_machine.proofs.Fulls.{reached_code, same_code}
 use Rattle.core_machine.proofs.Stills.{IsStill, Reads, still_same, still_changed, still_closed, leads_from}
 use Rattle.core_machine.proofs.Wakes.{IsAround, clash, covers_on, full_levels}
@@ -207,15 +208,15 @@ more_ends d links s (Opened k) set more larger woken = woken
 more_ends d links s (Joined k c) set more larger woken = woken
 
 -- after a turn the set covers the strands that may go on, where those next to it and those for whom it settled something were woken
-pub covers_out : (net : Net) (texts : ℕ → List ℕ) (st : State) (left : Left) (d : DeskState) (links : List Link) → net.links ≡ links → IsWellFormed net → IsKept net texts st left d → AsksEarly d →
-    (pool : PoolState) (s : ℕ) (seen : Seen) (old set new : Members) (low zero : Bool) → length net.strands ≡ old.size → CanMove d pool s seen → Pure.ended_at d s ≡ false →
-    IsLarger old set → AreEndsIn d links s seen set → IsLarger set new →
+pub covers_out : (net : Net) (d : DeskState) → IsWellFormed net → IsInUse net d →
+    (pool : PoolState) (s : ℕ) (seen : Seen) (old set new : Members) (low zero : Bool) → old.size ≡ length net.strands → CanMove d pool s seen → Pure.ended_at d s ≡ false →
+    IsLarger old set → AreEndsIn d net.links s seen set → IsLarger set new →
     low ≡ (not (ends seen) || is_some (Pure.level_code d (negsuc 0))) → zero ≡ (not (ends seen) || is_some (Pure.level_code d (pos 0))) →
     (is_some (Pure.primed_of (slice_get (made d s seen).seats s)) ≡ true → (is_some (Pure.primed_of (slice_get d.seats s)) ≡ true) ⊎ IsStageIn (made d s seen) s new) →
     (low ≡ false → is_some (Pure.level_code (made d s seen) (negsuc 0)) ≡ true → IsWhole new) → (zero ≡ false → is_some (Pure.level_code (made d s seen) (pos 0)) ≡ true → IsWhole new) →
     IsCovering d old → IsCovering (made d s seen) new
-covers_out net texts st left d links same formed kept early pool s seen old set new low zero size can live larger woken larger' low_is zero_is stage fills_low fills_zero covers =
-    covers_on net st formed d (made d s seen) kept.laid s new (larger'.0 ∙ larger.0 ∙ sym size)
-    (around_made net texts st left d kept pool s live new low zero seen can (more_ends d net.links s seen set new larger'.1 (subst (λ z. AreEndsIn d z s seen set) (sym same) woken))
+covers_out net d formed used pool s seen old set new low zero size can live larger woken larger' low_is zero_is stage fills_low fills_zero covers =
+    covers_on net used.st formed d (made d s seen) used.kept.laid s new (larger'.0 ∙ larger.0 ∙ size)
+    (around_made net used.texts used.st used.left d used.kept pool s live new low zero seen can (more_ends d net.links s seen set new larger'.1 woken)
     low_is zero_is stage fills_low fills_zero)
-    old (λ t held. larger'.1 t (larger.1 t held)) covers (λ u apart level asks. early u level asks)
+    old (λ t held. larger'.1 t (larger.1 t held)) covers (λ u apart level asks. used.early u level asks)

@@ -43,16 +43,20 @@ use Rattle.confluence_laws.proofs.Lengths.{play_last, legal_last}
 use Rattle.core_machine.specs.declared.actor.Actor.{Actor}
 use Rattle.core_machine.specs.Actors.{is_end, come_back, looks_in, bytes_told}
 use Rattle.core_machine.specs.Answered.{LeastReady, LeastEvent, Shows}
+use Rattle.core_machine.specs.Floor.{FloorState, IsInUse, StaysEarly}
 use Rattle.core_machine.specs.Jobs.{JobStands, HasGoneOn}
 use Rattle.core_machine.specs.Machine.{is_of, is_at, left_by, without, is_among, looks_at, IsLawful}
-use Rattle.core_machine.specs.Members.{Members}
 use Rattle.core_machine.specs.Sound.{IsLast, IsActor, AreActors, IsSound}
-use Rattle.core_machine.specs.Woken.{IsCovering, AsksEarly, AreInside, HasReturned, LeastAwake, LeastEventAwake}
+use Rattle.core_machine.specs.Woken.{AsksEarly, HasReturned, LeastAwake, LeastEventAwake}
 use Rattle.core_machine.proofs.Away.{left_turned, last_turned, apart_turned, left_home, apart_home, last_home, among_last, among_left, one_strand, fewer_out}
-use Rattle.core_machine.proofs.Plays.{get_take, looks_here, looks_nowhere, play_length, end_seen, shows_bare, early_on, links_inside}
+use Rattle.core_machine.proofs.Plays.{get_take, looks_here, looks_nowhere, play_length, end_seen, shows_bare, early_on}
 
-module _ {S : Type 0} (stands : S → Strand → List Event → Type 0) (net : Net) (budget : ℕ) (journal : List Entry) (out : List ℕ) (actors : List (Actor S)) (d : DeskState) (pool : PoolState) (ready : Members)
-    (sound : IsSound stands net budget journal out actors d pool ready) where
+-- what holds on a floor holds on another that differs by the set alone
+pub on_floor : (P : Net → DeskState → PoolState → Type 0) (f h : FloorState) → h.net ≡ f.net → h.desk ≡ f.desk → h.pool ≡ f.pool → P f.net f.desk f.pool → P h.net h.desk h.pool
+on_floor P f h net desk pool holds = subst (λ n. P n h.desk h.pool) (sym net) (subst (λ d. P f.net d h.pool) (sym desk) (subst (λ p. P f.net f.desk p) (sym pool) holds))
+
+module _ {S : Type 0} (stands : S → Strand → List Event → Type 0) (net : Net) (budget : ℕ) (journal : List Entry) (out : List ℕ) (actors : List (Actor S)) (d : DeskState) (pool : PoolState)
+    (sound : IsSound stands net budget journal out actors d pool) where
   abbrev pub st : State
   st = play net journal
 
@@ -94,37 +98,24 @@ module _ {S : Type 0} (stands : S → Strand → List Event → Type 0) (net : N
   pub seen_back : (s : Who) (k : ℕ) (e : Event) → licence net st left s k ≡ Some e → Pure.seen_at d s k ≡ Some (told e)
   seen_back s k e is = desk_sees s k ∙ ap (option_map told) is
 
-  least_is : (b : Bool) (r : Option (ℕ × ℕ)) → LeastAwake d ready r → LeastReady (record { net = net; budget = budget; journal = journal; out = out; is_broken = b }) r
-  least_is b None is = λ s k. none_is s k (is sound.covers s k)
-  least_is b (Some r) is = (sym (ready_is r.0 r.1) ∙ is.0.0, λ k p. none_is r.0 k (is.0.1 k p), λ t k p. none_is t k (is.1 sound.covers t k p))
+  least_is : (b : Bool) (r : Option (ℕ × ℕ)) → LeastAwake d r → LeastReady (record { net = net; budget = budget; journal = journal; out = out; is_broken = b }) r
+  least_is b None is = λ s k. none_is s k (is s k)
+  least_is b (Some r) is = (sym (ready_is r.0 r.1) ∙ is.0.0, λ k p. none_is r.0 k (is.0.1 k p), λ t k p. none_is t k (is.1 t k p))
 
-  pub event_is : (b : Bool) (r : Option (ℕ × ℕ × Seen)) → LeastEventAwake d ready r → LeastEvent (record { net = net; budget = budget; journal = journal; out = out; is_broken = b }) r
+  pub event_is : (b : Bool) (r : Option (ℕ × ℕ × Seen)) → LeastEventAwake d r → LeastEvent (record { net = net; budget = budget; journal = journal; out = out; is_broken = b }) r
   event_is b None is = least_is b None is
   event_is b (Some r) is = (least_is b (Some (r.0, r.1)) is.0, some_is r.0 r.1 r.2 is.1)
 
-  pub asks_early : AsksEarly d
+  asks_early : AsksEarly d
   asks_early = early_on net st sound.formed own (bytes_at pool) left d sound.run.kept
+
+  pub in_use : IsInUse net d
+  in_use = record { texts = bytes_at pool; st = st; left = left; kept = sound.run.kept; early = asks_early }
 
   pub ended_here : (s : Who) → s < length net.strands → Pure.ended_at d s ≡ has_ended (past st s)
   ended_here s place =
       let a = at_some d.seats s (subst (λ n. s < n) (sym sound.run.kept.laid.seat_count) place) in
       ap Pure.ended_of a.1 ∙ (sound.run.kept.seats s a.0 a.1).ended
-
-  -- the same with another set of strands that may be ready
-  pub sound_ready : (ready' : Members) → ready'.size ≡ ready.size → IsCovering d ready' → IsSound stands net budget journal out actors d pool ready'
-  sound_ready ready' size covers = record {
-    formed = sound.formed;
-    few = sound.few;
-    legal = sound.legal;
-    within = sound.within;
-    bounded = sound.bounded;
-    last = sound.last;
-    apart = sound.apart;
-    run = sound.run;
-    strands = sound.strands;
-    size = size ∙ sound.size;
-    covers = covers;
-  }
 
   pub lawful : (b : Bool) → IsLawful (record { net = net; budget = budget; journal = journal; out = out; is_broken = b })
   lawful b = record { legal = sound.legal; within = sound.within; bounded = sound.bounded }
@@ -217,10 +208,6 @@ module _ {S : Type 0} (stands : S → Strand → List Event → Type 0) (net : N
       go (Some a) at None out = let n = slice_get_within actors s _ at in let c = sound.strands.count in absurd (none_some net.strands (omega (arith, n, c)) out)
       go (Some a) at (Some p) is = looks_here actors s a at ∙ (sound.strands.each s p a is at).looks ∙ ap (λ y. option_map_or (λ (p : Strand). (form p).looks) y false) (sym is)
 
-  -- the links join strands of the set
-  pub inside : AreInside net.links ready.size
-  inside = links_inside net ready.size sound.formed sound.size
-
   -- A turn
 
   module _ (s : Who) (k : ℕ) (e : Event) (may : licence net st left s k ≡ Some e) where
@@ -285,11 +272,10 @@ module _ {S : Type 0} (stands : S → Strand → List Event → Type 0) (net : N
     }
 
     pub can_turn : (seen : Seen) → told e ≡ seen → CanMove d pool s seen
-    can_turn seen at = subst (CanMove d pool s) at (run_can net st left d pool sound.formed own sound.few sound.run short s k e may)
+    can_turn seen at = subst (CanMove d pool s) at (run_can net st left d pool sound.formed own sound.run short s k e may)
 
     module _ (a : Actor S) (stage : S) (there : slice_get actors s ≡ Some a) (was : a.stage ≡ Some stage) (seen : Seen) (seen_at : told e ≡ seen) (b : Actor S) (b_out : b.stage ≡ None) (b_looks : b.looks ≡ a.looks) (b_end : b.saw_end ≡ (a.saw_end || is_end seen))
-        (space : length journal < budget) (d' : DeskState) (pool' : PoolState) (ready' : Members)
-        (desk_is : d' ≡ made d s seen) (pool_is : pool' ≡ pool_moved d pool s seen) (size : ready'.size ≡ ready.size) (covers : IsCovering d' ready') where
+        (space : length journal < budget) (d' : DeskState) (pool' : PoolState) (desk_is : d' ≡ made d s seen) (pool_is : pool' ≡ pool_moved d pool s seen) where
       abbrev longer : List Entry
       longer = journal ++ entry ∷ []
 
@@ -347,10 +333,9 @@ module _ {S : Type 0} (stands : S → Strand → List Event → Type 0) (net : N
               } in
               subst (λ h. P h (want_at net (play net longer) (left_by longer out') u) x) (sym h_is) (subst (λ w. P (e ∷ past st s) w x) (sym w_is) (subst (P (e ∷ past st s) None) x_is new))
 
-      pub sound_turned : IsSound stands net budget longer out' (slice_set actors s b) d' pool' ready'
+      pub sound_turned : IsSound stands net budget longer out' (slice_set actors s b) d' pool'
       sound_turned = record {
         formed = sound.formed;
-        few = sound.few;
         legal = legal_last net nothing_yet journal entry sound.legal (ap is_some may_all);
         within = let a = length_more journal entry in omega (arith, a, space);
         bounded = sound.bounded;
@@ -361,10 +346,8 @@ module _ {S : Type 0} (stands : S → Strand → List Event → Type 0) (net : N
             (subst (λ y. IsRun net (with_event st s e) (left_out left s) y pool') (sym desk_is ∙ refl)
             (subst (λ y. IsRun net (with_event st s e) (left_out left s) (made d s seen) y) (sym pool_is)
             (subst (λ y. IsRun net (with_event st s e) (left_out left s) (made d s y) (pool_moved d pool s y)) seen_at
-            (run_made net st left d pool sound.formed own sound.few sound.run short s k e may)))));
+            (run_made net st left d pool sound.formed own sound.run short s k e may)))));
         strands = actors_turned;
-        size = size ∙ sound.size;
-        covers = covers;
       }
 
       pub job_turned : JobStands stands net longer (record { strand = s; place = suc (length journal); seen = seen; stage = stage })
@@ -423,21 +406,21 @@ module _ {S : Type 0} (stands : S → Strand → List Event → Type 0) (net : N
     ended_is = ended_here s place
 
     pub can_home : Pure.ended_at d s ≡ false → CanCome d pool s want
-    can_home not_ended = run_can_come net st left d pool sound.formed own sound.few sound.run s strand.0 want away strand.1 (sym ended_is ∙ not_ended) (asks (sym ended_is ∙ not_ended)) seen
+    can_home not_ended = run_can_come net st left d pool sound.formed own sound.run s strand.0 want away strand.1 (sym ended_is ∙ not_ended) (asks (sym ended_is ∙ not_ended)) seen
 
     pub came : (d' : DeskState) (pool' : PoolState) → HasReturned d pool s want d' pool' → IsRun net st (left_in left s) d' pool'
     came d' pool' returned = elim returned [
-      | inl gone ↦ subst (λ x. IsRun net st (left_in left s) x pool') (sym gone.1) (subst (IsRun net st (left_in left s) d) (sym gone.2) (run_gone net st left d pool sound.formed own sound.few sound.run s (sym ended_is ∙ gone.0)))
-      | inr come ↦ run_home net st left d pool sound.formed own sound.few sound.run s strand.0 want away strand.1 (sym ended_is ∙ come.0) (asks (sym ended_is ∙ come.0)) seen d' pool' come.1
+      | inl gone ↦ subst (λ x. IsRun net st (left_in left s) x pool') (sym gone.1) (subst (IsRun net st (left_in left s) d) (sym gone.2) (run_gone net st left d pool sound.formed own sound.run s (sym ended_is ∙ gone.0)))
+      | inr come ↦ run_home net st left d pool sound.formed own sound.run s strand.0 want away strand.1 (sym ended_is ∙ come.0) (asks (sym ended_is ∙ come.0)) seen d' pool' come.1
     ]
 
-    pub came_early : (d' : DeskState) (pool' : PoolState) → HasReturned d pool s want d' pool' → AsksEarly d'
-    came_early d' pool' returned = early_on net st sound.formed own (bytes_at pool') (left_in left s) d' (came d' pool' returned).kept
+    pub came_early : Pure.ended_at d s ≡ false → StaysEarly d pool s want
+    came_early not_ended d' pool' come = early_on net st sound.formed own (bytes_at pool') (left_in left s) d' (came d' pool' (inr (not_ended, come))).kept
 
     left_now : left_by journal (without p out) ≡ left_in left s
     left_now = left_home net journal s p its out sound.apart among
 
-    module _ (d' : DeskState) (pool' : PoolState) (ready' : Members) (a : Actor S) (there : slice_get actors s ≡ Some a) (run : IsRun net st (left_in left s) d' pool') (size : ready'.size ≡ ready.size) (covers : IsCovering d' ready')
+    module _ (d' : DeskState) (pool' : PoolState) (a : Actor S) (there : slice_get actors s ≡ Some a) (run : IsRun net st (left_in left s) d' pool')
         (asked : Asked) (bared : Pure.ended_at d s ≡ false → asked ≡ bare want) where
       abbrev new : Actor S
       new = come_back stage asked a
@@ -496,10 +479,9 @@ module _ {S : Type 0} (stands : S → Strand → List Event → Type 0) (net : N
               } in
               subst (λ t. P t q x) (sym z) (subst (λ r. P s r x) q_is (subst (P s strand.0) x_is fresh))
 
-      pub sound_home : IsSound stands net budget journal (without p out) (slice_set actors s new) d' pool' ready'
+      pub sound_home : IsSound stands net budget journal (without p out) (slice_set actors s new) d' pool'
       sound_home = record {
         formed = sound.formed;
-        few = sound.few;
         legal = sound.legal;
         within = sound.within;
         bounded = sound.bounded;
@@ -507,6 +489,4 @@ module _ {S : Type 0} (stands : S → Strand → List Event → Type 0) (net : N
         apart = apart_home net journal s p its out sound.apart;
         run = subst (λ l. IsRun net st l d' pool') (sym left_now) run;
         strands = actors_home;
-        size = size ∙ sound.size;
-        covers = covers;
       }

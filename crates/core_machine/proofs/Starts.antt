@@ -19,7 +19,7 @@ use Rattle.pipe_model.specs.Licence.{none_left, want_after, want_at, answer, sig
 use Rattle.pipe_model.specs.WellFormed.{IsWellFormed}
 use Rattle.pipe_model.proofs.Numbers.{equal_or_not, test_same}
 use Rattle.pipe_model.proofs.Lists.{at_some, get_set_same, get_set_other}
-use Rattle.record_pool.specs.PoolState.{PoolState, empty_pool}
+use Rattle.record_pool.specs.PoolState.{PoolState}
 use Rattle.record_pool.specs.Places.{bytes_at}
 use Rattle.stage_steps.specs.Coroutine.{told, meaning, last_seen, IsSeenBefore}
 use Rattle.run_desk.specs.Desk.{DeskState}
@@ -31,10 +31,11 @@ use Rattle.run_desk.proofs.Runs.{run_can_come, run_home}
 use Rattle.run_desk.proofs.Sees.{seen_is}
 use Rattle.core_machine.specs.declared.actor.Actor.{Actor}
 use Rattle.core_machine.specs.Actors.{asking_for}
+use Rattle.core_machine.specs.Floor.{IsInUse, StaysEarly}
 use Rattle.core_machine.specs.Members.{Members}
 use Rattle.core_machine.specs.Sound.{IsActor, IsSound}
 use Rattle.core_machine.specs.Start.{AreFresh, IsNew, AreNew, IsCalled}
-use Rattle.core_machine.specs.Woken.{IsCovering, AsksEarly}
+use Rattle.core_machine.specs.Woken.{IsCovering, HasReturned}
 use Rattle.core_machine.proofs.Plays.{shows_bare, early_on}
 
 -- before the first step every history is a strand's own
@@ -103,6 +104,27 @@ all_out t n m = ap (λ b. not b && nat_lt t n) (none t) ∙ within
     within : nat_lt t n ≡ true
     within = grind (arith, nat_tests, m)
 
+module _ (net : Net) where
+  -- before the first step nobody asks for anything
+  no_want : (t : Who) → want_at net nothing_yet (out_from 0 (length net.strands)) t ≡ None
+  no_want t = go (strand_at net nothing_yet t) refl
+    where
+      nothing : (b : Bool) → cond b None (want_after None []) ≡ None
+      nothing true = refl
+      nothing false = refl
+
+      go : (x : Option Strand) → strand_at net nothing_yet t ≡ x → want_at net nothing_yet (out_from 0 (length net.strands)) t ≡ None
+      go None is = ap (λ y. cond (out_from 0 (length net.strands) t) None (want_after y [])) is ∙ nothing (out_from 0 (length net.strands) t)
+      go (Some p) is = ap (λ b. cond b None (want_after (strand_at net nothing_yet t) [])) (all_out t (length net.strands) (slice_get_within net.strands t _ is))
+
+  -- so the empty set covers those that may go on
+  pub covers_first : IsWellFormed net → (d : DeskState) (pool : PoolState) → IsRun net nothing_yet (out_from 0 (length net.strands)) d pool → (ready : Members) → IsCovering d ready
+  covers_first formed d pool run ready t k may =
+      let seen = seen_is net (bytes_at pool) nothing_yet (out_from 0 (length net.strands)) d formed run.kept t k in
+      let none : licence net nothing_yet (out_from 0 (length net.strands)) t k ≡ None = ap (answer (sight_of net nothing_yet (out_from 0 (length net.strands)) t) k) (no_want t) in
+      let off : is_some (Pure.seen_at d t k) ≡ false = ap is_some (seen ∙ ap (option_map told) none) in
+      (let no : true ≡ false = sym may ∙ off in cc)
+
 module _ {S : Type 0} (stands : S → Strand → List Event → Type 0) (net : Net) (formed : IsWellFormed net) where
   abbrev n : ℕ
   n = length net.strands
@@ -113,7 +135,7 @@ module _ {S : Type 0} (stands : S → Strand → List Event → Type 0) (net : N
 
   -- Each strand is called
 
-  module _ (s : Who) (actors : List (Actor S)) (d : DeskState) (pool : PoolState) (ready : Members) (called : IsCalled stands net s actors d pool ready) (within : s < n) where
+  module _ (s : Who) (actors : List (Actor S)) (d : DeskState) (pool : PoolState) (called : IsCalled stands net s actors d pool) (within : s < n) where
     pub its_strand : (p : Strand) × (strand_at net nothing_yet s ≡ Some p)
     its_strand = at_some net.strands s within
 
@@ -122,6 +144,20 @@ module _ {S : Type 0} (stands : S → Strand → List Event → Type 0) (net : N
         let a = at_some actors s (let c = called.count in let w = within in omega (arith, c, w)) in
         let x = called.home s a.0 a.1 in
         (a.0, x.0, a.1, x.1)
+
+    pub called_in_use : IsInUse net d
+    called_in_use = record {
+      texts = bytes_at pool;
+      st = nothing_yet;
+      left = out_from s n;
+      kept = called.run.kept;
+      early = early_on net nothing_yet formed (own_first net) (bytes_at pool) (out_from s n) d called.run.kept;
+    }
+
+    pub called_live : false ≡ Pure.ended_at d s
+    called_live =
+        let a = at_some d.seats s (subst (λ n. s < n) (sym called.run.kept.laid.seat_count) within) in
+        sym (ap Pure.ended_of a.1 ∙ (called.run.kept.seats s a.0 a.1).ended)
 
     module _ (want : Asked) (asks : (a : Actor S) (x : S) → slice_get actors s ≡ Some a → a.stage ≡ Some x → (p : Strand) → stands x p [] → Some (meaning want (last_seen [])) ≡ next p []) where
       means : Some (meaning want (last_seen [])) ≡ next its_strand.0 []
@@ -133,19 +169,24 @@ module _ {S : Type 0} (stands : S → Strand → List Event → Type 0) (net : N
       seen = first_is_plain its_strand.0 want means
 
       pub can_call : CanCome d pool s want
-      can_call = run_can_come net nothing_yet (out_from s n) d pool formed (own_first net) called.few called.run s its_strand.0 want (still_out s n within) its_strand.1 refl means seen
+      can_call = run_can_come net nothing_yet (out_from s n) d pool formed (own_first net) called.run s its_strand.0 want (still_out s n within) its_strand.1 refl means seen
 
       pub called_run : (d' : DeskState) (pool' : PoolState) → HasCome d pool s want d' pool' → IsRun net nothing_yet (out_from (suc s) n) d' pool'
       called_run d' pool' come = subst (λ l. IsRun net nothing_yet l d' pool') (next_in s n)
-          (run_home net nothing_yet (out_from s n) d pool formed (own_first net) called.few called.run s its_strand.0 want (still_out s n within) its_strand.1 refl means seen d' pool' come)
+          (run_home net nothing_yet (out_from s n) d pool formed (own_first net) called.run s its_strand.0 want (still_out s n within) its_strand.1 refl means seen d' pool' come)
 
-      pub called_early : (d' : DeskState) (pool' : PoolState) → HasCome d pool s want d' pool' → AsksEarly d'
+      pub called_early : StaysEarly d pool s want
       called_early d' pool' come = early_on net nothing_yet formed (own_first net) (bytes_at pool') (out_from (suc s) n) d' (called_run d' pool' come).kept
 
-      pub called_next : (d' : DeskState) (pool' : PoolState) (ready' : Members) (a : Actor S) → slice_get actors s ≡ Some a → HasCome d pool s want d' pool' → ready'.size ≡ ready.size → IsCovering d' ready' →
-          IsCalled stands net (suc s) (slice_set actors s (asking_for (bare want) a)) d' pool' ready'
-      called_next d' pool' ready' a there come size covers = record {
-        few = called.few;
+      pub called_come : (d' : DeskState) (pool' : PoolState) → HasReturned d pool s want d' pool' → HasCome d pool s want d' pool'
+      called_come d' pool' returned = elim returned [
+        | inl gone ↦ (let no : true ≡ false = sym gone.0 ∙ sym called_live in absurd (let q : ⊥ = cc in q))
+        | inr come ↦ come.1
+      ]
+
+      pub called_next : (d' : DeskState) (pool' : PoolState) (a : Actor S) → slice_get actors s ≡ Some a → HasCome d pool s want d' pool' →
+          IsCalled stands net (suc s) (slice_set actors s (asking_for (bare want) a)) d' pool'
+      called_next d' pool' a there come = record {
         run = called_run d' pool' come;
         count = length-set actors s (asking_for (bare want) a) ∙ called.count;
         each = λ t p x is at. elim (equal_or_not t s) [
@@ -160,8 +201,6 @@ module _ {S : Type 0} (stands : S → Strand → List Event → Type 0) (net : N
               (old.0, ap (λ y. y.stage) (sym x_is) ∙ old.1)
           | inr z ↦ called.home t x (sym (get_set_other actors s t (asking_for (bare want) a) z) ∙ at)
         ];
-        size = size ∙ called.size;
-        covers = covers;
       }
         where
           want_same : (t : Who) → t ≢ s → want_at net nothing_yet (out_from s n) t ≡ want_at net nothing_yet (out_from (suc s) n) t
@@ -189,39 +228,21 @@ module _ {S : Type 0} (stands : S → Strand → List Event → Type 0) (net : N
 
   -- Before any
 
-  no_want : (t : Who) → want_at net nothing_yet (out_from 0 n) t ≡ None
-  no_want t = go (strand_at net nothing_yet t) refl
-    where
-      nothing : (b : Bool) → cond b None (want_after None []) ≡ None
-      nothing true = refl
-      nothing false = refl
-
-      go : (x : Option Strand) → strand_at net nothing_yet t ≡ x → want_at net nothing_yet (out_from 0 n) t ≡ None
-      go None is = ap (λ y. cond (out_from 0 n t) None (want_after y [])) is ∙ nothing (out_from 0 n t)
-      go (Some p) is = ap (λ b. cond b None (want_after (strand_at net nothing_yet t) [])) (all_out t n (slice_get_within net.strands t _ is))
-
-  pub none_called : (stages : List S) (actors : List (Actor S)) (d : DeskState) (ready : Members) → length net.links < 2147483648 → AreFresh stands net.strands stages → AreNew stands stages actors → IsRun net nothing_yet (out_from 0 n) d empty_pool → ready.size ≡ n →
-      IsCalled stands net 0 actors d empty_pool ready
-  none_called stages actors d ready few fresh new run size = record {
-    few = few;
+  pub none_called : (stages : List S) (actors : List (Actor S)) (d : DeskState) (pool : PoolState) → AreFresh stands net.strands stages → AreNew stands stages actors → IsRun net nothing_yet (out_from 0 n) d pool →
+      IsCalled stands net 0 actors d pool
+  none_called stages actors d pool fresh new run = record {
     run = run;
     count = new_length stages actors new ∙ fresh.count;
     each = λ t p x is at.
         let y = new_at stages actors new t x at in
         new_is t p y.0 x y.2 (fresh.each t p y.0 is y.1);
     home = λ t x at. (let y = new_at stages actors new t x at in (y.0, y.2.stage_is));
-    size = size;
-    covers = λ t k may.
-        let seen = seen_is net (bytes_at empty_pool) nothing_yet (out_from 0 n) d formed run.kept t k in
-        let none : licence net nothing_yet (out_from 0 n) t k ≡ None = ap (answer (sight_of net nothing_yet (out_from 0 n) t) k) (no_want t) in
-        let off : is_some (Pure.seen_at d t k) ≡ false = ap is_some (seen ∙ ap (option_map told) none) in
-        (let no : true ≡ false = sym may ∙ off in cc);
   }
     where
       new_is : (t : Who) (p : Strand) (stage : S) (x : Actor S) → IsNew stands stage x → stands stage p [] → IsActor stands [] (want_at net nothing_yet (out_from 0 n) t) p x
       new_is t p stage x new stood = record {
         saw_end = new.saw_end;
-        asked = λ w w_is. (let no : None ≡ Some w = sym (no_want t) ∙ w_is in cc);
+        asked = λ w w_is. (let no : None ≡ Some w = sym (no_want net t) ∙ w_is in cc);
         stands_for = λ z z_is. (let got : Some stage ≡ Some z = sym new.stage_is ∙ z_is in let same : stage ≡ z = cc in subst (λ v. stands v p []) same stood);
         looks = new.looks p stood;
       }
@@ -241,11 +262,10 @@ module _ {S : Type 0} (stands : S → Strand → List Event → Type 0) (net : N
 
   -- After all
 
-  pub all_called : (actors : List (Actor S)) (d : DeskState) (pool : PoolState) (ready : Members) (budget : ℕ) → budget ≤ 50000000 → IsCalled stands net n actors d pool ready →
-      IsSound stands net budget [] [] actors d pool ready
-  all_called actors d pool ready budget bounded called = record {
+  pub all_called : (actors : List (Actor S)) (d : DeskState) (pool : PoolState) (budget : ℕ) → budget ≤ 50000000 → IsCalled stands net n actors d pool →
+      IsSound stands net budget [] [] actors d pool
+  all_called actors d pool budget bounded called = record {
     formed = formed;
-    few = called.few;
     legal = tt;
     within = omega arith;
     bounded = bounded;
@@ -257,8 +277,6 @@ module _ {S : Type 0} (stands : S → Strand → List Event → Type 0) (net : N
       each = λ t p x is at. subst (λ l. IsActor stands [] (want_at net nothing_yet l t) p x) (none_out n) (called.each t p x is at);
       home = λ t x at home. (let y = called.home t x at in ap is_some y.1);
     };
-    size = called.size;
-    covers = called.covers;
   }
 
 -- Results

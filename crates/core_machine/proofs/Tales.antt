@@ -20,7 +20,6 @@ use Rattle.run_desk.proofs.Sees.{ask_is}
 use Rattle.core_machine.specs.declared.actor.Actor.{Actor}
 use Rattle.core_machine.specs.Answered.{LeastStream, Shows, end_of}
 use Rattle.core_machine.specs.Machine.{Machine, left_by, licence_of, want_of, state_of, HasStopped}
-use Rattle.core_machine.specs.Members.{Members}
 use Rattle.core_machine.specs.Sound.{AreLast, AreApart, IsSound}
 use Rattle.core_machine.proofs.Away.{fewer_out}
 use Rattle.core_machine.proofs.Sounds.{none_is, ready_is, in_range}
@@ -49,8 +48,8 @@ some_want : (w : Option Want) → Pure.asks_nothing (asked w) ≡ false → (x :
 some_want None is = cc
 some_want (Some x) is = (x, refl)
 
-module _ {S : Type 0} (stands : S → Strand → List Event → Type 0) (net : Net) (budget : ℕ) (journal : List Entry) (out : List ℕ) (actors : List (Actor S)) (d : DeskState) (pool : PoolState) (ready : Members)
-    (sound : IsSound stands net budget journal out actors d pool ready) (is_broken : Bool) where
+module _ {S : Type 0} (stands : S → Strand → List Event → Type 0) (net : Net) (budget : ℕ) (journal : List Entry) (out : List ℕ) (actors : List (Actor S)) (d : DeskState) (pool : PoolState)
+    (sound : IsSound stands net budget journal out actors d pool) (is_broken : Bool) where
   -- what the core stands for
   abbrev pub seen_as : Machine
   seen_as = record { net = net; budget = budget; journal = journal; out = out; is_broken = is_broken }
@@ -59,10 +58,10 @@ module _ {S : Type 0} (stands : S → Strand → List Event → Type 0) (net : N
 
   -- the least stream on the desk is the strand's least stream
   pub stream_is : (s : Who) (r : Option ℕ) → Pure.IsFirst d s r → LeastStream seen_as s r
-  stream_is s None is = λ k. none_is stands net budget journal out actors d pool ready sound s k (is k)
+  stream_is s None is = λ k. none_is stands net budget journal out actors d pool sound s k (is k)
   stream_is s (Some j) is = (
-    sym (ready_is stands net budget journal out actors d pool ready sound s j) ∙ is.0,
-    λ k p. none_is stands net budget journal out actors d pool ready sound s k (is.1 k p),
+    sym (ready_is stands net budget journal out actors d pool sound s j) ∙ is.0,
+    λ k p. none_is stands net budget journal out actors d pool sound s k (is.1 k p),
   )
 
   -- who is no strand may have no event
@@ -72,7 +71,7 @@ module _ {S : Type 0} (stands : S → Strand → List Event → Type 0) (net : N
       go : (x : Option Event) → licence_of seen_as s k ≡ x → licence_of seen_as s k ≡ None
       go None is = is
       go (Some e) is =
-          let a = in_range stands net budget journal out actors d pool ready sound s k e is in
+          let a = in_range stands net budget journal out actors d pool sound s k e is in
           let b = sound.strands.count in
           absurd (omega (arith, a, b, beyond))
 
@@ -81,7 +80,7 @@ module _ {S : Type 0} (stands : S → Strand → List Event → Type 0) (net : N
   stopped none each = (none, λ s k. by s k (cases_lt s (length actors)))
     where
       by : (s k : ℕ) → (s < length actors) ⊎ (length actors ≤ s) → licence_of seen_as s k ≡ None
-      by s k (inl a) = none_is stands net budget journal out actors d pool ready sound s k (each s k a)
+      by s k (inl a) = none_is stands net budget journal out actors d pool sound s k (each s k a)
       by s k (inr b) = nobody_goes s k b
 
   -- where a strand has a stream, it hasn't

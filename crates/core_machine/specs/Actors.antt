@@ -1,5 +1,5 @@
 -- How what is kept of a strand changes when its coroutine goes out, comes back, or goes on in place.
-use Rattle.std.specs.Prelude.{◌||◌, Bool, true, false, ◌==◌, ℕ, List, [], Option, Some, None, map, slice_index_or}
+use Rattle.std.specs.Prelude.{◌||◌, Bool, true, false, ◌==◌, ℕ, List, [], Some, None, map, slice_index_or}
 use Rattle.std.specs.Option.{option_map_or}
 use Rattle.pipe_model.specs.declared.step.Seen.{Seen}
 use Rattle.pipe_model.specs.declared.step.Seen.TheVariants.{Saw, SawEnd}

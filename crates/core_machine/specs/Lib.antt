@@ -1,5 +1,6 @@
 pub mod Actors
 pub mod Answered
+pub mod Floor
 pub mod Jobs
 pub mod Machine
 pub mod Members

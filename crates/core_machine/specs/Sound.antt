@@ -14,8 +14,6 @@ use Rattle.run_desk.specs.Desk.{DeskState}
 use Rattle.run_desk.specs.Order.{IsRun}
 use Rattle.core_machine.specs.declared.actor.Actor.{Actor}
 use Rattle.core_machine.specs.Machine.{is_at, left_by}
-use Rattle.core_machine.specs.Members.{Members}
-use Rattle.core_machine.specs.Woken.{IsCovering}
 use Rattle.core_machine.specs.Answered.{Shows}
 
 -- the place is of the journal, and its strand has done nothing since
@@ -49,9 +47,8 @@ pub record AreActors {S : Type 0} (stands : S → Strand → List Event → Type
   pub home : (s : Who) (actor : Actor S) → slice_get actors s ≡ Some actor → left_by journal out s ≡ false → is_some actor.stage ≡ true
 
 -- all that a core keeps
-pub record IsSound {S : Type 0} (stands : S → Strand → List Event → Type 0) (net : Net) (budget : ℕ) (journal : List Entry) (out : List ℕ) (actors : List (Actor S)) (d : DeskState) (pool : PoolState) (ready : Members) : Type 0 where
+pub record IsSound {S : Type 0} (stands : S → Strand → List Event → Type 0) (net : Net) (budget : ℕ) (journal : List Entry) (out : List ℕ) (actors : List (Actor S)) (d : DeskState) (pool : PoolState) : Type 0 where
   pub formed : IsWellFormed net
-  pub few : length net.links < 2147483648
   pub legal : IsLegal net journal
   pub within : length journal ≤ budget
   pub bounded : budget ≤ 50000000
@@ -59,5 +56,3 @@ pub record IsSound {S : Type 0} (stands : S → Strand → List Event → Type 0
   pub apart : AreApart journal out
   pub run : IsRun net (play net journal) (left_by journal out) d pool
   pub strands : AreActors stands net journal out actors
-  pub size : ready.size ≡ length net.strands
-  pub covers : IsCovering d ready

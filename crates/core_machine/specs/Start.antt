@@ -1,5 +1,5 @@
 -- What a core is started with, and how far its strands have come while it starts.
-use Rattle.std.specs.Prelude.{◌≡◌, ℕ, ◌<◌, false, List, [], ◌∷◌, length, slice_get, Option, Some}
+use Rattle.std.specs.Prelude.{◌≡◌, ℕ, false, List, [], ◌∷◌, length, slice_get, Some}
 use Rattle.pipe_model.specs.declared.net.Net.{Net}
 use Rattle.pipe_model.specs.declared.net.Link.{Link}
 use Rattle.pipe_model.specs.declared.net.Strand.{Strand}
@@ -11,9 +11,7 @@ use Rattle.record_pool.specs.PoolState.{PoolState}
 use Rattle.run_desk.specs.Desk.{DeskState}
 use Rattle.run_desk.specs.Order.{IsRun, out_from}
 use Rattle.core_machine.specs.declared.actor.Actor.{Actor}
-use Rattle.core_machine.specs.Members.{Members}
 use Rattle.core_machine.specs.Sound.{IsActor}
-use Rattle.core_machine.specs.Woken.{IsCovering}
 
 -- no link is a queue
 abbrev pub HasNoQueue : Net → Type 0
@@ -37,12 +35,9 @@ AreNew stands (stage ∷ stages) (actor ∷ actors) = IsNew stands stage actor �
 AreNew stands _ _ = ⊥
 
 -- the strands below a number have asked for what they want first, and the others are out
-pub record IsCalled {S : Type 0} (stands : S → Strand → List Event → Type 0) (net : Net) (s : Who) (actors : List (Actor S)) (d : DeskState) (pool : PoolState) (ready : Members) : Type 0 where
-  pub few : length net.links < 2147483648
+pub record IsCalled {S : Type 0} (stands : S → Strand → List Event → Type 0) (net : Net) (s : Who) (actors : List (Actor S)) (d : DeskState) (pool : PoolState) : Type 0 where
   pub run : IsRun net nothing_yet (out_from s (length net.strands)) d pool
   pub count : length actors ≡ length net.strands
   pub each : (t : Who) (p : Strand) (actor : Actor S) → strand_at net nothing_yet t ≡ Some p → slice_get actors t ≡ Some actor →
       IsActor stands [] (want_at net nothing_yet (out_from s (length net.strands)) t) p actor
   pub home : (t : Who) (actor : Actor S) → slice_get actors t ≡ Some actor → (stage : S) × (actor.stage ≡ Some stage)
-  pub size : ready.size ≡ length net.strands
-  pub covers : IsCovering d ready

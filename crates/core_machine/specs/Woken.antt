@@ -25,15 +25,15 @@ AsksEarly d = (t : ℕ) (level : ℤ) → Pure.ask_at d t ≡ Ask.Commit level �
 abbrev pub AreInside : List Link → ℕ → Type 0
 AreInside links size = (j : ℕ) (link : Link) → slice_get links j ≡ Some link → (link.from < size) × (link.to < size)
 
--- the least strand that may go on, with its least stream, or that there is none, if the set covers them
-abbrev pub LeastAwake : DeskState → Members → Option (ℕ × ℕ) → Type 0
-LeastAwake d set None = IsCovering d set → (s k : ℕ) → Pure.seen_at d s k ≡ None
-LeastAwake d set (Some r) = Pure.IsFirst d r.0 (Some r.1) × (IsCovering d set → (t k : ℕ) → t < r.0 → Pure.seen_at d t k ≡ None)
+-- the least strand that may go on, with its least stream, or that there is none
+abbrev pub LeastAwake : DeskState → Option (ℕ × ℕ) → Type 0
+LeastAwake d None = (s k : ℕ) → Pure.seen_at d s k ≡ None
+LeastAwake d (Some r) = Pure.IsFirst d r.0 (Some r.1) × ((t k : ℕ) → t < r.0 → Pure.seen_at d t k ≡ None)
 
 -- the same, with what the strand would be told there
-abbrev pub LeastEventAwake : DeskState → Members → Option (ℕ × ℕ × Seen) → Type 0
-LeastEventAwake d set None = LeastAwake d set None
-LeastEventAwake d set (Some r) = LeastAwake d set (Some (r.0, r.1)) × (Pure.seen_at d r.0 r.1 ≡ Some r.2)
+abbrev pub LeastEventAwake : DeskState → Option (ℕ × ℕ × Seen) → Type 0
+LeastEventAwake d None = LeastAwake d None
+LeastEventAwake d (Some r) = LeastAwake d (Some (r.0, r.1)) × (Pure.seen_at d r.0 r.1 ≡ Some r.2)
 
 -- the strand came home with this want, or had ended and changed nothing
 abbrev pub HasReturned : DeskState → PoolState → ℕ → Want → DeskState → PoolState → Type 0

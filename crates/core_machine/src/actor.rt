@@ -1,14 +1,10 @@
-ghost use Rattle.std.specs.Prelude.{◌≡◌, ◌<◌, ◌||◌, ◌∷◌, ◌++◌, [], ℕ, Some, None, length, slice_get, slice_set, vec_capacity, IfOk};
-ghost use Rattle.connectors.specs.WireState.{IsHeldIn};
+ghost use Rattle.std.specs.Prelude.{◌≡◌, ◌<◌, ◌||◌, ◌∷◌, ◌++◌, [], Some, None, length, slice_get, slice_set, vec_capacity, IfOk};
 ghost use Rattle.pipe_model.specs.declared.step.Want.{Want as Asked};
-ghost use Rattle.run_desk.specs.Pure.{sight_door, sight_through};
 ghost use Rattle.stage_steps.specs.Coroutine.{CanResume, Resumes};
-ghost use Rattle.core_machine.specs.Actors.{is_end, gone_out, come_back, gone_on, given_up, looks_in, bytes_told};
+ghost use Rattle.core_machine.specs.Actors.{is_end, gone_out, come_back, gone_on, given_up, looks_in};
 ghost use Rattle.core_machine.specs.declared.actor.Actor.{Actor as ActorIs};
 
 use pipe_model::{NoMemory, Seen, Want};
-use record_pool::Pool;
-use run_desk::Desk;
 use stage_steps::Stage;
 use std::alloc::Global;
 use std::mem;
@@ -103,22 +99,5 @@ pub(crate) fn looks<S: Stage>(actors: &[Actor<S>], strand: u32) -> bool
     match actors.get(strand as usize) {
         None => false,
         Some(actor) => actor.looks,
-    }
-}
-
-/// The bytes that go with what a strand was told last, where it looks.
-pub(crate) fn bytes_told<'a>(
-    looks: bool,
-    desk: &Desk,
-    pool: &'a Pool,
-    strand: u32,
-    seen: Seen,
-) -> &'a [u8]
-    requires { (i : ℕ) → IsHeldIn pool.now (sight_through desk.now.sights (sight_door desk.now strand i)) }
-    ensures { result.now ≡ bytes_told looks desk.now pool.now strand seen }
-{
-    match seen {
-        Seen::Saw(i) if looks => desk.seen_bytes(pool, strand, i),
-        _ => &[],
     }
 }

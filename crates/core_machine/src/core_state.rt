@@ -1,30 +1,21 @@
 ghost use Rattle.std.specs.Prelude.{◌≡◌, ◌≤◌, length, vec_capacity};
 ghost use Rattle.core_machine.specs.Machine.{without};
 
-use crate::actor::{Actor, bytes_told, looks, send_out, take_back};
-use crate::far_ends::wake;
-use crate::home::come_back;
+use crate::actor::{Actor, looks, send_out, take_back};
+use crate::floor::Floor;
 use crate::job::{Finished, Job, Turned};
-use crate::ready::Ready;
-use crate::wake::move_out;
-use pipe_model::{Entry, Net, NoMemory, Seen, Want};
-use record_pool::Pool;
-use run_desk::Desk;
+use pipe_model::{Entry, NoMemory, Seen, Want};
 use stage_steps::Stage;
 use std::marker::Model;
 
 /// A net, its coroutines, and how far they are: it makes one event after another, and keeps each as an entry of its
 /// journal.
 pub struct Core<S: Stage> {
-    pub(crate) net: Net,
+    pub(crate) floor: Floor,
     pub(crate) budget: u64,
     pub(crate) actors: Vec<Actor<S>>,
     // the places of the jobs that are out
     pub(crate) out: Vec<u64>,
-    pub(crate) desk: Desk,
-    pub(crate) pool: Pool,
-    // the strands that may be ready
-    pub(crate) ready: Ready,
     pub(crate) journal: Vec<Entry>,
     pub(crate) is_broken: bool,
 }
@@ -36,9 +27,9 @@ impl<S: Stage> Model for Core<S> {
 
     ghost Value = { Machine };
 
-    ghost view = { λ c. record { net = c.net; budget = c.budget; journal = c.journal.items; out = c.out.items; is_broken = c.is_broken } };
+    ghost view = { λ c. record { net = c.floor.net; budget = c.budget; journal = c.journal.items; out = c.out.items; is_broken = c.is_broken } };
 
-    ghost invariant = { λ c. IsSound S.stands c.net c.budget c.journal.items c.out.items c.actors.items c.desk c.pool c.ready × (c.budget ≤ vec_capacity c.journal) × (length c.net.strands ≤ vec_capacity c.out) };
+    ghost invariant = { λ c. IsSound S.stands c.floor.net c.budget c.journal.items c.out.items c.actors.items c.floor.desk c.floor.pool × (c.budget ≤ vec_capacity c.journal) × (length c.floor.net.strands ≤ vec_capacity c.out) };
 }
 
 impl<S: Stage> Core<S> {
@@ -54,7 +45,7 @@ impl<S: Stage> Core<S> {
     pub fn is_ready(&self, strand: u32, stream: u16) -> bool
         ensures { result ≡ is_some (licence_of self.now strand stream) }
     {
-        self.desk.seen_at(strand, stream).is_some()
+        self.floor.seen_at(strand, stream).is_some()
     }
 
     /// Makes a strand's event on a stream: its entry is appended to the journal, and the strand is out until its job
@@ -69,7 +60,7 @@ impl<S: Stage> Core<S> {
         if self.is_broken {
             return Turned::Broken;
         }
-        let Some(seen) = self.desk.seen_at(strand, stream) else {
+        let Some(seen) = self.floor.seen_at(strand, stream) else {
             return Turned::NotReady;
         };
         if self.journal.len() as u64 >= self.budget {
@@ -127,14 +118,7 @@ impl<S: Stage> Core<S> {
         ensures job { JobStands S.stands self.new.net self.new.journal result }
     {
         let stage = send_out(&mut self.actors, strand as usize, seen);
-        move_out(
-            &mut self.desk,
-            &mut self.pool,
-            &mut self.ready,
-            self.net.links.as_slice(),
-            strand,
-            seen,
-        );
+        self.floor.make(strand, seen);
         self.journal.push_reserved(Entry { strand, stream });
         let place = self.journal.len() as u64;
         self.out.push_reserved(place);
@@ -159,17 +143,9 @@ impl<S: Stage> Core<S> {
         ensures home { OnOk result (self.new ≡ came_home self.old place) }
         ensures err { OnErr result (self.new ≡ self.old) }
     {
-        let has_ended = self.desk.has_ended(strand);
-        wake(&mut self.ready, strand);
-        come_back(
-            &mut self.desk,
-            &mut self.pool,
-            &mut self.ready,
-            self.net.links.as_slice(),
-            strand,
-            has_ended,
-            &mut want,
-        )?;
+        let has_ended = self.floor.has_ended(strand);
+        self.floor.wake(strand);
+        self.floor.come_home(strand, has_ended, &mut want)?;
         take_back(&mut self.actors, strand as usize, stage, want);
         remove(&mut self.out, place);
         Ok(())
@@ -180,7 +156,7 @@ impl<S: Stage> Core<S> {
         ensures { (k : ℕ) (e : Event) → licence_of self.now strand k ≡ Some e → told e ≡ seen → result ≡ length (bytes_with (looks_at self.now.net strand) e) }
     {
         match seen {
-            Seen::Saw(i) if self.looks(strand) => self.desk.size_at_hand(&self.pool, strand, i),
+            Seen::Saw(i) if self.looks(strand) => self.floor.size_at_hand(strand, i),
             _ => 0,
         }
     }
@@ -189,7 +165,7 @@ impl<S: Stage> Core<S> {
     fn bytes_seen(&self, strand: u32, seen: Seen) -> &[u8]
         ensures { (e : Event) (h : List Event) → past (state_of self.now) strand ≡ e ∷ h → has_ended h ≡ false → told e ≡ seen → result.now ≡ bytes_with (looks_at self.now.net strand) e }
     {
-        bytes_told(self.looks(strand), &self.desk, &self.pool, strand, seen)
+        self.floor.bytes_told(self.looks(strand), strand, seen)
     }
 
     fn looks(&self, strand: u32) -> bool
@@ -217,21 +193,16 @@ fn remove(out: &mut Vec<u64>, place: u64)
 }
 
 impl<S: Stage> Drop for Core<S> {
-    /// Gives up the core. All that it holds of the pool is given back first: a pool is closed only where no block is in
-    /// use any more.
+    /// Gives up the core, with all that it holds.
     fn drop(self) {
         let Core {
-            net: _,
+            floor,
             budget: _,
             actors: _,
             out: _,
-            desk,
-            mut pool,
-            ready: _,
             journal: _,
             is_broken: _,
         } = self;
-        desk.drain(&mut pool);
-        pool.close();
+        floor.close();
     }
 }

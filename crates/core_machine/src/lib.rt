@@ -4,10 +4,9 @@
 mod actor;
 mod bits;
 mod core_state;
-mod far_ends;
+mod floor;
 #[cfg(test)]
 mod gate_tests;
-mod home;
 mod job;
 #[cfg(test)]
 mod passing;
@@ -15,12 +14,12 @@ mod ready;
 #[cfg(test)]
 mod ready_tests;
 mod run;
-mod settle;
+mod settling;
 mod start;
 mod tells;
 #[cfg(test)]
 mod tests;
-mod wake;
+mod waking;
 
 pub use actor::Actor;
 pub use core_state::Core;

@@ -1,8 +1,7 @@
-use crate::actor::{bytes_told, give_up, looks, resume_at};
+use crate::actor::{give_up, looks, resume_at};
 use crate::core_state::Core;
-use crate::home::bring_back;
 use crate::job::RunEnd;
-use crate::wake::{ends, least_awake, move_out};
+use crate::settling::ends;
 use outside::Gate;
 use pipe_model::{Entry, NoMemory, Seen};
 use stage_steps::Stage;
@@ -68,17 +67,10 @@ impl<S: Stage> Core<S> {
         ensures lawful { IsLawful self.new }
     {
         let at = strand as usize;
-        move_out(
-            &mut self.desk,
-            &mut self.pool,
-            &mut self.ready,
-            self.net.links.as_slice(),
-            strand,
-            seen,
-        );
+        self.floor.make(strand, seen);
         self.journal.push_reserved(Entry { strand, stream });
         let looks = looks(&self.actors, strand);
-        let bytes = bytes_told(looks, &self.desk, &self.pool, strand, seen);
+        let bytes = self.floor.bytes_told(looks, strand, seen);
         let Ok(()) = resume_at(&mut self.actors, at, alloc, seen, bytes) else {
             give_up(
                 &mut self.actors,
@@ -89,15 +81,8 @@ impl<S: Stage> Core<S> {
             self.is_broken = true; // its coroutine isn't resumed again
             return Err(NoMemory);
         };
-        let Ok(()) = bring_back(
-            &mut self.actors,
-            &mut self.desk,
-            &mut self.pool,
-            &mut self.ready,
-            self.net.links.as_slice(),
-            strand,
-            ends(seen),
-        ) else {
+        let asked = &mut self.actors[at].asked;
+        let Ok(()) = self.floor.come_home(strand, ends(seen), asked) else {
             give_up(
                 &mut self.actors,
                 &mut self.out,
@@ -118,6 +103,6 @@ impl<S: Stage> Core<S> {
         ensures least { LeastEvent self.old result }
         ensures lawful { IsLawful self.new }
     {
-        least_awake(&mut self.ready, &self.desk)
+        self.floor.least_event()
     }
 }

@@ -11,12 +11,8 @@ ghost use Rattle.core_machine.specs.Start.{IsNew, AreNew, IsCalled};
 
 use crate::actor::Actor;
 use crate::core_state::Core;
-use crate::far_ends::wake;
-use crate::home::move_home;
-use crate::ready::Ready;
+use crate::floor::Floor;
 use pipe_model::{Net, NoMemory, Want};
-use record_pool::Pool;
-use run_desk::Desk;
 use stage_steps::Stage;
 use std::alloc::Global;
 
@@ -27,8 +23,7 @@ impl<S: Stage> Core<S> {
     ghost use Rattle.core_machine.specs.Start.{AreFresh, HasNoQueue};
 
     /// A core before the first step: each strand asks for what its fresh coroutine asks for first. The journal is
-    /// reserved to the budget, which is at most fifty million entries. It wants memory too for a net of 2^31 links or
-    /// more.
+    /// reserved to the budget, which is at most fifty million entries.
     pub fn start(alloc: Global, net: Net, stages: Vec<S>, budget: u64) -> Result<Core<S>, NoMemory>
         requires formed { IsWellFormed net }
         requires rendezvous { HasNoQueue net }
@@ -37,29 +32,20 @@ impl<S: Stage> Core<S> {
         ensures { IfOk result (λ core. core ≡ started net budget) }
     {
         let strands = net.strands.as_slice().len();
-        if net.links.as_slice().len() >= 2_147_483_648 {
-            return Err(NoMemory);
-        }
         let journal = Vec::with_capacity(alloc, budget as usize)?;
         let out = Vec::with_capacity(alloc, strands)?;
         let mut actors = new_actors(alloc, stages)?;
-        let mut ready = Ready::new(alloc, strands as u32)?;
-        let mut desk = Desk::blank(alloc, &net)?;
-        let mut pool = Pool::new(alloc);
-        let called = call_all(&net, &mut desk, &mut pool, &mut ready, &mut actors);
+        let mut floor = Floor::new(alloc, net)?;
+        let called = call_all(&mut floor, &mut actors);
         if called.is_err() {
-            desk.drain(&mut pool);
-            pool.close();
+            floor.close();
             return Err(NoMemory);
         }
         Ok(Core {
-            net,
+            floor,
             budget,
             actors,
             out,
-            desk,
-            pool,
-            ready,
             journal,
             is_broken: false,
         })
@@ -90,22 +76,17 @@ fn new_actor<S: Stage>(stage: S) -> Actor<S>
 }
 
 // Each strand comes home with its first want.
-fn call_all<S: Stage>(
-    net: &Net,
-    desk: &mut Desk,
-    pool: &mut Pool,
-    ready: &mut Ready,
-    actors: &mut Vec<Actor<S>>,
-) -> Result<(), NoMemory>
-    requires formed { IsWellFormed net.now }
-    requires called { IsCalled S.stands net.now 0 actors.old.items desk.old pool.old ready.old }
-    ensures called { IfOk result (λ done. IsCalled S.stands net.now (length net.now.strands) actors.new.items desk.new pool.new ready.new) }
-    ensures pooled { OnErr result (IsPooled desk.new.wires desk.new.sights pool.new) }
+fn call_all<S: Stage>(floor: &mut Floor, actors: &mut Vec<Actor<S>>) -> Result<(), NoMemory>
+    requires formed { IsWellFormed floor.old.net }
+    requires called { IsCalled S.stands floor.old.net 0 actors.old.items floor.old.desk floor.old.pool }
+    ensures net { floor.new.net ≡ floor.old.net }
+    ensures called { IfOk result (λ done. IsCalled S.stands floor.old.net (length floor.old.net.strands) actors.new.items floor.new.desk floor.new.pool) }
+    ensures pooled { OnErr result (IsPooled floor.new.desk.wires floor.new.desk.sights floor.new.pool) }
 {
     let count = actors.len() as u32;
     let mut strand = 0;
     while strand < count {
-        call(net, desk, pool, ready, actors, strand)?;
+        call(floor, actors, strand)?;
         strand += 1;
     }
     Ok(())
@@ -113,22 +94,20 @@ fn call_all<S: Stage>(
 
 // A strand comes home with its first want.
 fn call<S: Stage>(
-    net: &Net,
-    desk: &mut Desk,
-    pool: &mut Pool,
-    ready: &mut Ready,
+    floor: &mut Floor,
     actors: &mut Vec<Actor<S>>,
     strand: u32,
 ) -> Result<(), NoMemory>
-    requires formed { IsWellFormed net.now }
-    requires within { strand < length net.now.strands }
-    requires called { IsCalled S.stands net.now strand actors.old.items desk.old pool.old ready.old }
-    ensures called { IfOk result (λ done. IsCalled S.stands net.now (strand + 1) actors.new.items desk.new pool.new ready.new) }
-    ensures pooled { OnErr result (IsPooled desk.new.wires desk.new.sights pool.new) }
+    requires formed { IsWellFormed floor.old.net }
+    requires within { strand < length floor.old.net.strands }
+    requires called { IsCalled S.stands floor.old.net strand actors.old.items floor.old.desk floor.old.pool }
+    ensures net { floor.new.net ≡ floor.old.net }
+    ensures called { IfOk result (λ done. IsCalled S.stands floor.old.net (strand + 1) actors.new.items floor.new.desk floor.new.pool) }
+    ensures pooled { OnErr result (IsPooled floor.new.desk.wires floor.new.desk.sights floor.new.pool) }
 {
     let mut want = first_want(actors, strand as usize);
-    wake(ready, strand);
-    move_home(desk, pool, ready, net.links.as_slice(), strand, &mut want)?;
+    floor.wake(strand);
+    floor.come_home(strand, false, &mut want)?;
     set_asked(actors, strand as usize, want);
     Ok(())
 }

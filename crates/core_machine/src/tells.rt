@@ -17,7 +17,7 @@ impl<S: Stage> Core<S> {
     pub fn ready_stream(&self, strand: u32) -> Option<u16>
         ensures { LeastStream self.now strand result }
     {
-        self.desk.ready_stream(strand)
+        self.floor.ready_stream(strand)
     }
 
     /// How many strands are out with a job.
@@ -46,7 +46,7 @@ impl<S: Stage> Core<S> {
         }
         let mut strand = 0;
         while strand < self.actors.len() as u32 {
-            if self.desk.ready_stream(strand).is_some() {
+            if self.floor.ready_stream(strand).is_some() {
                 return false;
             }
             strand += 1;
@@ -76,7 +76,7 @@ impl<S: Stage> Core<S> {
         requires { strand < length self.now.net.strands }
         ensures { MatchOption result (wanted self.now strand ≡ None) (λ want. (w : Wanted) × (wanted self.now strand ≡ Some w) × Shows (past (state_of self.now) strand) want.now w) }
     {
-        if self.desk.asks_nothing(strand) {
+        if self.floor.asks_nothing(strand) {
             return None;
         }
         let actor = self.actors.get(strand as usize)?;
@@ -88,7 +88,7 @@ impl<S: Stage> Core<S> {
         requires { strand < length self.now.net.strands }
         ensures { result ≡ ending self.now strand }
     {
-        self.desk.end_of(strand)
+        self.floor.end_of(strand)
     }
 
     /// Whether a strand has seen the end of input 0.
@@ -115,7 +115,7 @@ impl<S: Stage> Core<S> {
     pub fn net(&self) -> &Net
         ensures { result.now ≡ self.now.net }
     {
-        &self.net
+        self.floor.net()
     }
 
     /// Whether a `finish` wanted memory.

@@ -1,5 +1,5 @@
 -- What a run keeps suffices for a strand to come home with what it wants.
-use Rattle.std.proofs.Common.{◌≡◌, inl, inr, ℕ, ◌<◌, true, false, cond, not, List, length, refl, sym, ◌∙◌, ap, subst, arith, Option, Some, None, is_some, slice_get, ℤ}
+use Rattle.std.proofs.Common.{◌≡◌, inl, inr, ℕ, true, false, cond, not, List, refl, sym, ◌∙◌, ap, subst, arith, Option, Some, None, is_some, slice_get, ℤ}
 use Rattle.std.specs.Prelude.{IsSome}
 use Rattle.std.specs.Option.{option_map}
 use Rattle.std.proofs.lemmas.Option.{slice_get_within}
@@ -102,20 +102,20 @@ module _ (net : Net) (st : State) (left : Left) (d : DeskState) (pool : PoolStat
           l.is.out_closed ∙ ap (λ z. has_ended (past st z)) is.0 ∙ going
 
   -- and what it writes can be held
-  can_hold : length net.links < 2147483648 → (o : ℕ) (rec : Out) → IsSeenBefore (want.Write o rec) (past st s) → CanHold d pool s rec
-  can_hold few o (Same i) seen =
+  can_hold : (o : ℕ) (rec : Out) → IsSeenBefore (want.Write o rec) (past st s) → CanHold d pool s rec
+  can_hold o (Same i) seen =
       let there = sight_there net (bytes_at pool) st left d run.kept s going i seen in
-      (there.0, there.1, subst (IsHeldIn pool) there.1 (sight_held net st left d pool formed run (sight_door d s i)), few_held net st left d pool formed run few there.0)
-  can_hold few o (Fresh bytes) seen = tt
+      (there.0, there.1, subst (IsHeldIn pool) there.1 (sight_held net st left d pool formed run (sight_door d s i)), few_held net st left d pool formed run there.0)
+  can_hold o (Fresh bytes) seen = tt
 
 -- whoever was out can come home with what it wants
 pub can_come : (net : Net) (st : State) (left : Left) (d : DeskState) (pool : PoolState) (s : Who) (strand : Strand) (w : Asking) → IsWellFormed net →
-    ((t : Who) (q : Strand) → strand_at net st t ≡ Some q → IsOwn q (past st t)) → length net.links < 2147483648 → IsRun net st left d pool → left s ≡ true → strand_at net st s ≡ Some strand →
+    ((t : Who) (q : Strand) → strand_at net st t ≡ Some q → IsOwn q (past st t)) → IsRun net st left d pool → left s ≡ true → strand_at net st s ≡ Some strand →
     has_ended (past st s) ≡ false → Some (meaning w (last_seen (past st s))) ≡ next strand (past st s) → IsSeenBefore w (past st s) → CanCome d pool s w
-can_come net st left d pool s strand (want.Commit level) formed own few run out there going wants seen =
+can_come net st left d pool s strand (want.Commit level) formed own run out there going wants seen =
     come_to net st left d pool formed run s strand there (own s strand there) out going level (sym wants)
-can_come net st left d pool s strand (want.Write o rec) formed own few run out there going wants seen = (
+can_come net st left d pool s strand (want.Write o rec) formed own run out there going wants seen = (
   come_writing net st left d pool formed run s strand there (own s strand there) out going o (written rec (last_seen (past st s))) (sym wants),
-  can_hold net st left d pool formed run s strand there (own s strand there) out going few o rec seen,
+  can_hold net st left d pool formed run s strand there (own s strand there) out going o rec seen,
 )
-can_come net st left d pool s strand _ formed own few run out there going wants seen = tt
+can_come net st left d pool s strand _ formed own run out there going wants seen = tt

@@ -17,6 +17,7 @@ use Rattle.pipe_model.specs.WellFormed.{IsWellFormed}
 use Rattle.pipe_model.proofs.Truths.{cond_some}
 use Rattle.pipe_model.proofs.Numbers.{test_same}
 use Rattle.pipe_model.proofs.Lists.{beside}
+use Rattle.pipe_model.proofs.FewLinks.{few_links}
 use Rattle.stage_steps.specs.Coroutine.{told}
 use Rattle.record_pool.specs.PoolState.{PoolState}
 use Rattle.record_pool.specs.Places.{IsHeld, holders_at, bytes_at}
@@ -76,10 +77,9 @@ module _ (net : Net) (st : State) (left : Left) (d : DeskState) (pool : PoolStat
   pub sight_held : (door : Option ℕ) → IsHeldIn pool (sight_through d.sights door)
   sight_held door = sights_held d.wires d.sights pool run.pooled door
 
-  module _ (few : length net.links < 2147483648) where
-    -- every record can have a holder more
-    pub few_held : (grip : ℕ) → holders_at pool grip < 4294967295
-    few_held grip = omega (arith, few, formed.few, few_holders d.wires d.sights pool run.pooled grip, run.kept.laid.wire_count, run.kept.laid.sight_count)
+  -- every record can have a holder more
+  pub few_held : (grip : ℕ) → holders_at pool grip < 4294967295
+  few_held grip = omega (arith, few_links net formed, formed.few, few_holders d.wires d.sights pool run.pooled grip, run.kept.laid.wire_count, run.kept.laid.sight_count)
 
   -- Commit levels
 
@@ -170,22 +170,22 @@ module _ (net : Net) (st : State) (left : Left) (d : DeskState) (pool : PoolStat
         let w = wanting net st left s (Done code) (done_asked (want_at net st left s) code (fits net st left s k (Ended code) may)) in
         (within s w.strand w.there, live s w.going, can_forget d.wires (sights_of (slice_get d.doors s)) d.sights pool run.pooled)
 
-    can_look : length net.links < 2147483648 → (i : ℕ) (rec : List ℕ) → CanMove d pool s (told (Saw i rec))
-    can_look few i rec = (
+    can_look : (i : ℕ) (rec : List ℕ) → CanMove d pool s (told (Saw i rec))
+    can_look i rec = (
       λ grip hand. sight_of_hand net st d run.kept.laid s i grip hand,
       λ grip hand. hand_held (in_door d s i) grip hand,
-      λ grip hand. few_held few grip,
+      λ grip hand. few_held grip,
       sight_held (sight_door d s i),
     )
 
 -- whoever has a licence can move
 pub can_move : (net : Net) (st : State) (left : Left) (d : DeskState) (pool : PoolState) (s : Who) (k : ℕ) (e : Event) → IsWellFormed net →
-    ((t : Who) (q : Strand) → strand_at net st t ≡ Some q → IsOwn q (past st t)) → length net.links < 2147483648 → ((t : Who) → length (past st t) < 18446744073709551615) →
+    ((t : Who) (q : Strand) → strand_at net st t ≡ Some q → IsOwn q (past st t)) → ((t : Who) → length (past st t) < 18446744073709551615) →
     IsRun net st left d pool → licence net st left s k ≡ Some e → CanMove d pool s (told e)
-can_move net st left d pool s k (Up level code) formed own few short run may = can_rise net st left d pool formed run own s k level code may
-can_move net st left d pool s k (Saw i rec) formed own few short run may = can_look net st left d pool formed run own s k few i rec
-can_move net st left d pool s k (Took i) formed own few short run may = can_take net st left d pool formed run own s k short i may
-can_move net st left d pool s k (Put o rec) formed own few short run may = can_put net st left d pool formed run own s k o rec may
-can_move net st left d pool s k (Refused o) formed own few short run may = can_refuse net st left d pool formed run own s k o may
-can_move net st left d pool s k (Ended code) formed own few short run may = can_end net st left d pool formed run own s k code may
-can_move net st left d pool s k _ formed own few short run may = tt
+can_move net st left d pool s k (Up level code) formed own short run may = can_rise net st left d pool formed run own s k level code may
+can_move net st left d pool s k (Saw i rec) formed own short run may = can_look net st left d pool formed run own s k i rec
+can_move net st left d pool s k (Took i) formed own short run may = can_take net st left d pool formed run own s k short i may
+can_move net st left d pool s k (Put o rec) formed own short run may = can_put net st left d pool formed run own s k o rec may
+can_move net st left d pool s k (Refused o) formed own short run may = can_refuse net st left d pool formed run own s k o may
+can_move net st left d pool s k (Ended code) formed own short run may = can_end net st left d pool formed run own s k code may
+can_move net st left d pool s k _ formed own short run may = tt

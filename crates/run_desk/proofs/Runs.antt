@@ -1,5 +1,5 @@
 -- A turn and a coming home may be made on what a run keeps, and keep it.
-use Rattle.std.proofs.Common.{◌≡◌, ◌<◌, ℕ, true, false, List, length, Option, Some}
+use Rattle.std.proofs.Common.{◌≡◌, ◌<◌, ℕ, true, false, length, Some}
 use Rattle.pipe_model.specs.declared.net.Net.{Net}
 use Rattle.pipe_model.specs.declared.net.Strand.{Strand}
 use Rattle.pipe_model.specs.declared.step.Want.{Want}
@@ -23,11 +23,11 @@ use Rattle.run_desk.proofs.Pacing.{pacing_made, pacing_home}
 use Rattle.run_desk.proofs.Conditions.{can_move}
 use Rattle.run_desk.proofs.Comings.{can_come}
 
-module _ (net : Net) (st : State) (left : Left) (d : DeskState) (pool : PoolState) (formed : IsWellFormed net) (own : (t : Who) (q : Strand) → strand_at net st t ≡ Some q → IsOwn q (past st t)) (few : length net.links < 2147483648) (run : IsRun net st left d pool) where
+module _ (net : Net) (st : State) (left : Left) (d : DeskState) (pool : PoolState) (formed : IsWellFormed net) (own : (t : Who) (q : Strand) → strand_at net st t ≡ Some q → IsOwn q (past st t)) (run : IsRun net st left d pool) where
   -- an event that may be can be made, and what is kept is kept of the state after it
   module _ (short : (t : Who) → length (past st t) < 18446744073709551615) (s : Who) (k : ℕ) (e : Event) (may : licence net st left s k ≡ Some e) where
     pub run_can : CanMove d pool s (told e)
-    run_can = can_move net st left d pool s k e formed own few short run may
+    run_can = can_move net st left d pool s k e formed own short run may
 
     pub run_made : IsRun net (with_event st s e) (left_out left s) (made d s (told e)) (pool_moved d pool s (told e))
     run_made = record {
@@ -40,7 +40,7 @@ module _ (net : Net) (st : State) (left : Left) (d : DeskState) (pool : PoolStat
   -- a strand that is out and hasn't ended can come home with what it wants, and what is kept is kept of all but it out
   module _ (s : Who) (strand : Strand) (w : Want) (out : left s ≡ true) (there : strand_at net st s ≡ Some strand) (going : has_ended (past st s) ≡ false) (means : Some (meaning w (last_seen (past st s))) ≡ next strand (past st s)) (seen : IsSeenBefore w (past st s)) where
     pub run_can_come : CanCome d pool s w
-    run_can_come = can_come net st left d pool s strand w formed own few run out there going means seen
+    run_can_come = can_come net st left d pool s strand w formed own run out there going means seen
 
     pub run_home : (d' : DeskState) (after : PoolState) → HasCome d pool s w d' after → IsRun net st (left_in left s) d' after
     run_home d' after come = record {

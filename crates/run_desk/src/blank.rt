@@ -1,5 +1,5 @@
 //! The desk of a net before the first step.
-ghost use Rattle.std.specs.Prelude.{◌≡◌, ◌<◌, ◌≤◌, [], ℕ, false, length, replicate, slice_get, Some, None, IfOk};
+ghost use Rattle.std.specs.Prelude.{◌≡◌, ◌≤◌, [], ℕ, false, length, replicate, slice_get, Some, None, IfOk};
 ghost use Rattle.pipe_model.specs.declared.net.Link.{Link};
 ghost use Rattle.pipe_model.specs.State.{nothing_yet};
 ghost use Rattle.pipe_model.specs.WellFormed.{IsWellFormed};
@@ -22,7 +22,6 @@ impl Desk {
     /// for each strand and link.
     pub fn blank(alloc: Global, net: &Net) -> Result<Desk, NoMemory>
         requires formed { IsWellFormed net.now }
-        requires few { length net.now.links < 2147483648 }
         requires rendezvous { (j : ℕ) (link : Link) → slice_get net.now.links j ≡ Some link → link.queue ≡ false }
         ensures { IfOk result (λ desk. IsRun net.now nothing_yet (out_from 0 (length net.now.strands)) desk empty_pool) }
     {
@@ -32,7 +31,7 @@ impl Desk {
 
 fn lay_out(alloc: Global, net: &Net) -> Result<Desk, NoMemory>
     requires strands { length net.now.strands ≤ 65536 }
-    requires links { length net.now.links < 2147483648 }
+    requires links { length net.now.links ≤ 4194304 }
     ensures { IfOk result (λ desk. desk ≡ blank_desk net.now) }
 {
     let strands = net.strands.as_slice();
@@ -106,7 +105,7 @@ fn closed(alloc: Global, number: u32, first_sight: u32, strand: &Strand) -> Resu
 
 // Both ends of each link lead to it.
 fn lead_all(doors: &mut Vec<Doors>, links: &[Link])
-    requires { length links.now < 2147483648 }
+    requires { length links.now ≤ 4194304 }
     ensures { doors.new.items ≡ with_links doors.old.items 0 links.now }
 {
     let mut j = links.len();

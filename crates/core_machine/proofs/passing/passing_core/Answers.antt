@@ -1,5 +1,5 @@
 -- The net is a well-formed one without a queue, and each stage stands for its strand.
-use Rattle.std.proofs.Common.{rules, ◌≡◌, ℕ, zero, suc, false, List, [], ◌∷◌, length, Some, slice_get, refl, sym, ◌∙◌, ap, subst}
+use Rattle.std.proofs.Common.{rules, ◌≡◌, ℕ, zero, suc, false, List, [], ◌∷◌, Some, slice_get, refl, sym, ◌∙◌, ap, subst}
 use Rattle.pipe_model.specs.declared.net.Link.{Link}
 use Rattle.pipe_model.specs.declared.net.Net.{Net}
 use Rattle.pipe_model.specs.declared.net.Strand.{Strand}

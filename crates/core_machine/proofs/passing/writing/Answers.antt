@@ -3,7 +3,7 @@ use Rattle.std.proofs.lemmas.Result.{IfOk-weaker}
 use Rattle.pipe_model.specs.declared.kind.Kind.TheVariants.{ConsoleOut}
 use Rattle.pipe_model.specs.Shape.{each_record, copied}
 use Rattle.stage_steps.specs.Each.{EachStand, each_look}
-use Rattle.stage_steps.specs.SharedLists.{CopiesStand, copies_look, fresh_copies}
+use Rattle.stage_steps.specs.SharedLists.{CopiesStand, copies_look}
 use Rattle.stage_steps.proofs.Fitting.{stage_of, copies_begin, fresh_copies_look}
 use Rattle.core_machine.proofs.passing.writing.Goals as goal
 

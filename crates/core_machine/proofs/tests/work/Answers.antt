@@ -1,5 +1,5 @@
 -- While the job is out, a turn that isn't made changes nothing, and the job is run on the room's bytes and finished.
-use Rattle.std.proofs.Common.{◌≡◌, ℕ, true, List, ap, subst, sym}
+use Rattle.std.proofs.Common.{◌≡◌, true, subst, sym}
 use Rattle.std.specs.Prelude.{take, IfOk, vec_capacity}
 use Rattle.stage_steps.specs.Coroutine.{CanResume, Resumes}
 use Rattle.core_machine.specs.Jobs.{DoneStands}

@@ -8,12 +8,12 @@ use Rattle.core_machine.proofs.core_state.Core.bytes_seen.Goals as goal
 pub bytes_told-requires : goal.bytes_told-requires
 bytes_told-requires g c =
     let i = c.self.inside in
-    sight_held g.S.Stage.stands i.net i.budget i.journal.items i.out.items i.actors.items i.desk i.pool i.ready c.self.invariant.0 c.args.strand
+    sight_held g.S.Stage.stands i.floor.net i.budget i.journal.items i.out.items i.actors.items i.floor.desk i.floor.pool c.self.invariant.0 c.args.strand
 
 pub returns : goal.returns
 returns g c =
     let i = c.self.inside in
-    let v : ◌≡◌ {A = Machine} (record { net = i.net; budget = i.budget; journal = i.journal.items; out = i.out.items; is_broken = i.is_broken }) c.args.self.now = c.self.view_is in
+    let v : ◌≡◌ {A = Machine} (record { net = i.floor.net; budget = i.budget; journal = i.journal.items; out = i.out.items; is_broken = i.is_broken }) c.args.self.now = c.self.view_is in
     λ e h past_is going is. c.bytes_told.ensures
-    ∙ told_are g.S.Stage.stands i.net i.budget i.journal.items i.out.items i.actors.items i.desk i.pool i.ready c.self.invariant.0 c.looks.result c.args.strand e h c.args.seen (subst (λ (z : Machine). past (state_of z) c.args.strand ≡ e ∷ h) (sym v) past_is) going is
+    ∙ told_are g.S.Stage.stands i.floor.net i.budget i.journal.items i.out.items i.actors.items i.floor.desk i.floor.pool c.self.invariant.0 c.looks.result c.args.strand e h c.args.seen (subst (λ (z : Machine). past (state_of z) c.args.strand ≡ e ∷ h) (sym v) past_is) going is
     ∙ ap (λ b. bytes_with b e) c.looks.ensures

@@ -4,7 +4,7 @@ use Rattle.run_desk.specs.Pure as Pure
 use Rattle.core_machine.proofs.core_state.Core.is_complete.Given as goal
 
 abbrev pub invariant-loop-strand : goal.invariant-loop-strand
-invariant-loop-strand g l = (s k : ℕ) → s < l.strand → Pure.seen_at l.self-inside.desk s k ≡ None
+invariant-loop-strand g l = (s k : ℕ) → s < l.strand → Pure.seen_at l.self-inside.floor.desk s k ≡ None
 
 abbrev pub decreases-loop-strand : goal.decreases-loop-strand
 decreases-loop-strand g l = length l.self-inside.actors.items - l.strand

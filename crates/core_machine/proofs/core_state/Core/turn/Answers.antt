@@ -10,17 +10,17 @@ use Rattle.core_machine.proofs.core_state.Core.turn.Goals as goal
 pub returns-in_default-clause-turned : goal.returns-in_default-clause-turned
 returns-in_default-clause-turned g c =
     let i = c.self.inside in
-    let v : ◌≡◌ {A = Machine} (record { net = i.net; budget = i.budget; journal = i.journal.items; out = i.out.items; is_broken = i.is_broken }) c.args.self.now = c.self.view_is in
+    let v : ◌≡◌ {A = Machine} (record { net = i.floor.net; budget = i.budget; journal = i.journal.items; out = i.out.items; is_broken = i.is_broken }) c.args.self.now = c.self.view_is in
     let whole : c.args.self.now.is_broken ≡ false = subst (λ (z : Machine). z.is_broken ≡ false) v c.if-self.false in
-    let none = none_is g.S.Stage.stands i.net i.budget i.journal.items i.out.items i.actors.items i.desk i.pool i.ready c.self.invariant.0 c.args.strand c.args.stream (sym c.seen_at.ensures ∙ c.in_default.is) in
+    let none = none_is g.S.Stage.stands i.floor.net i.budget i.journal.items i.out.items i.actors.items i.floor.desk i.floor.pool c.self.invariant.0 c.args.strand c.args.stream (sym c.seen_at.ensures ∙ c.in_default.is) in
     (whole, subst (λ (z : Machine). licence_of z c.args.strand c.args.stream ≡ None) v none, refl)
 
 pub returns-then-len-self-clause-turned : goal.returns-then-len-self-clause-turned
 returns-then-len-self-clause-turned g c =
     let i = c.self.inside in
-    let v : ◌≡◌ {A = Machine} (record { net = i.net; budget = i.budget; journal = i.journal.items; out = i.out.items; is_broken = i.is_broken }) c.args.self.now = c.self.view_is in
+    let v : ◌≡◌ {A = Machine} (record { net = i.floor.net; budget = i.budget; journal = i.journal.items; out = i.out.items; is_broken = i.is_broken }) c.args.self.now = c.self.view_is in
     let whole : c.args.self.now.is_broken ≡ false = subst (λ (z : Machine). z.is_broken ≡ false) v c.if-self.false in
-    let some = some_is g.S.Stage.stands i.net i.budget i.journal.items i.out.items i.actors.items i.desk i.pool i.ready c.self.invariant.0 c.args.strand c.args.stream c.in-Some.seen (sym c.seen_at.ensures ∙ c.in-Some.is) in
+    let some = some_is g.S.Stage.stands i.floor.net i.budget i.journal.items i.out.items i.actors.items i.floor.desk i.floor.pool c.self.invariant.0 c.args.strand c.args.stream c.in-Some.seen (sym c.seen_at.ensures ∙ c.in-Some.is) in
     let may : licence_of c.args.self.now c.args.strand c.args.stream ≡ Some some.0 = subst (λ (z : Machine). licence_of z c.args.strand c.args.stream ≡ Some some.0) v some.1 in
     let full : length i.journal.items ≡ i.budget = (let w = c.self.invariant.0.within in search (rules, w)) in
     (whole, ap is_some may, subst (λ (z : Machine). length z.journal ≡ z.budget) v full, refl)
@@ -28,9 +28,9 @@ returns-then-len-self-clause-turned g c =
 pub returns-then-size-capacity-clause-turned : goal.returns-then-size-capacity-clause-turned
 returns-then-size-capacity-clause-turned g c =
     let i = c.self.inside in
-    let v : ◌≡◌ {A = Machine} (record { net = i.net; budget = i.budget; journal = i.journal.items; out = i.out.items; is_broken = i.is_broken }) c.args.self.now = c.self.view_is in
+    let v : ◌≡◌ {A = Machine} (record { net = i.floor.net; budget = i.budget; journal = i.journal.items; out = i.out.items; is_broken = i.is_broken }) c.args.self.now = c.self.view_is in
     let whole : c.args.self.now.is_broken ≡ false = subst (λ (z : Machine). z.is_broken ≡ false) v c.if-self.false in
-    let some = some_is g.S.Stage.stands i.net i.budget i.journal.items i.out.items i.actors.items i.desk i.pool i.ready c.self.invariant.0 c.args.strand c.args.stream c.in-Some.seen (sym c.seen_at.ensures ∙ c.in-Some.is) in
+    let some = some_is g.S.Stage.stands i.floor.net i.budget i.journal.items i.out.items i.actors.items i.floor.desk i.floor.pool c.self.invariant.0 c.args.strand c.args.stream c.in-Some.seen (sym c.seen_at.ensures ∙ c.in-Some.is) in
     let may : licence_of c.args.self.now c.args.strand c.args.stream ≡ Some some.0 = subst (λ (z : Machine). licence_of z c.args.strand c.args.stream ≡ Some some.0) v some.1 in
     let space : length i.journal.items < i.budget = (let l = c.len.ensures in let f = c.if-len-self.false in search (rules, l, f)) in
     let size = c.size_of_look-size.ensures c.args.stream some.0 may some.2 in
@@ -41,26 +41,26 @@ returns-then-size-capacity-clause-turned g c =
 pub go_out-job-requires-clause-may : goal.go_out-job-requires-clause-may
 go_out-job-requires-clause-may g c =
     let i = c.self.inside in
-    let v : ◌≡◌ {A = Machine} (record { net = i.net; budget = i.budget; journal = i.journal.items; out = i.out.items; is_broken = i.is_broken }) c.args.self.now = c.self.view_is in
-    let some = some_is g.S.Stage.stands i.net i.budget i.journal.items i.out.items i.actors.items i.desk i.pool i.ready c.self.invariant.0 c.args.strand c.args.stream c.in-Some.seen (sym c.seen_at.ensures ∙ c.in-Some.is) in
+    let v : ◌≡◌ {A = Machine} (record { net = i.floor.net; budget = i.budget; journal = i.journal.items; out = i.out.items; is_broken = i.is_broken }) c.args.self.now = c.self.view_is in
+    let some = some_is g.S.Stage.stands i.floor.net i.budget i.journal.items i.out.items i.actors.items i.floor.desk i.floor.pool c.self.invariant.0 c.args.strand c.args.stream c.in-Some.seen (sym c.seen_at.ensures ∙ c.in-Some.is) in
     let may : licence_of c.args.self.now c.args.strand c.args.stream ≡ Some some.0 = subst (λ (z : Machine). licence_of z c.args.strand c.args.stream ≡ Some some.0) v some.1 in
     (some.0, may, some.2)
 
 pub fill-requires : goal.fill-requires
 fill-requires g c =
     let i = c.self.inside in
-    let v : ◌≡◌ {A = Machine} (record { net = i.net; budget = i.budget; journal = i.journal.items; out = i.out.items; is_broken = i.is_broken }) c.args.self.now = c.self.view_is in
-    let some = some_is g.S.Stage.stands i.net i.budget i.journal.items i.out.items i.actors.items i.desk i.pool i.ready c.self.invariant.0 c.args.strand c.args.stream c.in-Some.seen (sym c.seen_at.ensures ∙ c.in-Some.is) in
+    let v : ◌≡◌ {A = Machine} (record { net = i.floor.net; budget = i.budget; journal = i.journal.items; out = i.out.items; is_broken = i.is_broken }) c.args.self.now = c.self.view_is in
+    let some = some_is g.S.Stage.stands i.floor.net i.budget i.journal.items i.out.items i.actors.items i.floor.desk i.floor.pool c.self.invariant.0 c.args.strand c.args.stream c.in-Some.seen (sym c.seen_at.ensures ∙ c.in-Some.is) in
     let may : licence_of c.args.self.now c.args.strand c.args.stream ≡ Some some.0 = subst (λ (z : Machine). licence_of z c.args.strand c.args.stream ≡ Some some.0) v some.1 in
     let space : length i.journal.items < i.budget = (let l = c.len.ensures in let f = c.if-len-self.false in search (rules, l, f)) in
     let size = c.size_of_look-size.ensures c.args.stream some.0 may some.2 in
-    let after : past (state_of c.go_out-job.new.self) c.args.strand ≡ some.0 ∷ past (play i.net i.journal.items) c.args.strand =
+    let after : past (state_of c.go_out-job.new.self) c.args.strand ≡ some.0 ∷ past (play i.floor.net i.journal.items) c.args.strand =
     ap (λ (z : Machine). past (state_of z) c.args.strand) c.go_out-job.ensures.after
     ∙ ap (λ (z : Machine). past (state_of (turned z (record { strand = c.args.strand; stream = c.args.stream }))) c.args.strand) (sym v)
-    ∙ turned_past g.S.Stage.stands i.net i.budget i.journal.items i.out.items i.actors.items i.desk i.pool i.ready c.self.invariant.0 c.args.strand c.args.stream some.0 some.1 in
+    ∙ turned_past g.S.Stage.stands i.floor.net i.budget i.journal.items i.out.items i.actors.items i.floor.desk i.floor.pool c.self.invariant.0 c.args.strand c.args.stream some.0 some.1 in
     let nets : c.go_out-job.new.self.net ≡ c.args.self.now.net = ap (λ (z : Machine). z.net) c.go_out-job.ensures.after in
     let bytes : c.bytes_seen.result.now ≡ bytes_with (looks_at c.args.self.now.net c.args.strand) some.0 =
-    c.bytes_seen.ensures some.0 (past (play i.net i.journal.items) c.args.strand) after (goes_on g.S.Stage.stands i.net i.budget i.journal.items i.out.items i.actors.items i.desk i.pool i.ready c.self.invariant.0 c.args.strand c.args.stream some.0 some.1) some.2
+    c.bytes_seen.ensures some.0 (past (play i.floor.net i.journal.items) c.args.strand) after (goes_on g.S.Stage.stands i.floor.net i.budget i.journal.items i.out.items i.actors.items i.floor.desk i.floor.pool c.self.invariant.0 c.args.strand c.args.stream some.0 some.1) some.2
     ∙ ap (λ n. bytes_with (looks_at n c.args.strand) some.0) nets in
     let room : c.size_of_look-size.result ≤ vec_capacity c.args.room.now = (let l = c.capacity.ensures in let f = c.if-size-capacity.false in search (rules, l, f)) in
     let long : length c.bytes_seen.result.now ≡ c.size_of_look-size.result = ap length bytes ∙ sym size in
@@ -69,19 +69,19 @@ fill-requires g c =
 pub returns-clause-turned : goal.returns-clause-turned
 returns-clause-turned g c =
     let i = c.self.inside in
-    let v : ◌≡◌ {A = Machine} (record { net = i.net; budget = i.budget; journal = i.journal.items; out = i.out.items; is_broken = i.is_broken }) c.args.self.now = c.self.view_is in
+    let v : ◌≡◌ {A = Machine} (record { net = i.floor.net; budget = i.budget; journal = i.journal.items; out = i.out.items; is_broken = i.is_broken }) c.args.self.now = c.self.view_is in
     let whole : c.args.self.now.is_broken ≡ false = subst (λ (z : Machine). z.is_broken ≡ false) v c.if-self.false in
-    let some = some_is g.S.Stage.stands i.net i.budget i.journal.items i.out.items i.actors.items i.desk i.pool i.ready c.self.invariant.0 c.args.strand c.args.stream c.in-Some.seen (sym c.seen_at.ensures ∙ c.in-Some.is) in
+    let some = some_is g.S.Stage.stands i.floor.net i.budget i.journal.items i.out.items i.actors.items i.floor.desk i.floor.pool c.self.invariant.0 c.args.strand c.args.stream c.in-Some.seen (sym c.seen_at.ensures ∙ c.in-Some.is) in
     let may : licence_of c.args.self.now c.args.strand c.args.stream ≡ Some some.0 = subst (λ (z : Machine). licence_of z c.args.strand c.args.stream ≡ Some some.0) v some.1 in
     let space : length i.journal.items < i.budget = (let l = c.len.ensures in let f = c.if-len-self.false in search (rules, l, f)) in
     let size = c.size_of_look-size.ensures c.args.stream some.0 may some.2 in
-    let after : past (state_of c.go_out-job.new.self) c.args.strand ≡ some.0 ∷ past (play i.net i.journal.items) c.args.strand =
+    let after : past (state_of c.go_out-job.new.self) c.args.strand ≡ some.0 ∷ past (play i.floor.net i.journal.items) c.args.strand =
     ap (λ (z : Machine). past (state_of z) c.args.strand) c.go_out-job.ensures.after
     ∙ ap (λ (z : Machine). past (state_of (turned z (record { strand = c.args.strand; stream = c.args.stream }))) c.args.strand) (sym v)
-    ∙ turned_past g.S.Stage.stands i.net i.budget i.journal.items i.out.items i.actors.items i.desk i.pool i.ready c.self.invariant.0 c.args.strand c.args.stream some.0 some.1 in
+    ∙ turned_past g.S.Stage.stands i.floor.net i.budget i.journal.items i.out.items i.actors.items i.floor.desk i.floor.pool c.self.invariant.0 c.args.strand c.args.stream some.0 some.1 in
     let nets : c.go_out-job.new.self.net ≡ c.args.self.now.net = ap (λ (z : Machine). z.net) c.go_out-job.ensures.after in
     let bytes : c.bytes_seen.result.now ≡ bytes_with (looks_at c.args.self.now.net c.args.strand) some.0 =
-    c.bytes_seen.ensures some.0 (past (play i.net i.journal.items) c.args.strand) after (goes_on g.S.Stage.stands i.net i.budget i.journal.items i.out.items i.actors.items i.desk i.pool i.ready c.self.invariant.0 c.args.strand c.args.stream some.0 some.1) some.2
+    c.bytes_seen.ensures some.0 (past (play i.floor.net i.journal.items) c.args.strand) after (goes_on g.S.Stage.stands i.floor.net i.budget i.journal.items i.out.items i.actors.items i.floor.desk i.floor.pool c.self.invariant.0 c.args.strand c.args.stream some.0 some.1) some.2
     ∙ ap (λ n. bytes_with (looks_at n c.args.strand) some.0) nets in
     let fits : c.size_of_look-size.result ≤ vec_capacity c.args.room.now = (let l = c.capacity.ensures in let f = c.if-size-capacity.false in search (rules, l, f)) in
     let long : length c.fill.new.room.items ≡ c.size_of_look-size.result = ap length (c.fill.ensures.items ∙ bytes) ∙ sym size in
@@ -91,9 +91,9 @@ returns-clause-turned g c =
 pub returns-clause-lawful : goal.returns-clause-lawful
 returns-clause-lawful g c =
     let i = c.self.inside in
-    let v : ◌≡◌ {A = Machine} (record { net = i.net; budget = i.budget; journal = i.journal.items; out = i.out.items; is_broken = i.is_broken }) c.args.self.now = c.self.view_is in
-    let some = some_is g.S.Stage.stands i.net i.budget i.journal.items i.out.items i.actors.items i.desk i.pool i.ready c.self.invariant.0 c.args.strand c.args.stream c.in-Some.seen (sym c.seen_at.ensures ∙ c.in-Some.is) in
+    let v : ◌≡◌ {A = Machine} (record { net = i.floor.net; budget = i.budget; journal = i.journal.items; out = i.out.items; is_broken = i.is_broken }) c.args.self.now = c.self.view_is in
+    let some = some_is g.S.Stage.stands i.floor.net i.budget i.journal.items i.out.items i.actors.items i.floor.desk i.floor.pool c.self.invariant.0 c.args.strand c.args.stream c.in-Some.seen (sym c.seen_at.ensures ∙ c.in-Some.is) in
     let may : licence_of c.args.self.now c.args.strand c.args.stream ≡ Some some.0 = subst (λ (z : Machine). licence_of z c.args.strand c.args.stream ≡ Some some.0) v some.1 in
     let space : length i.journal.items < i.budget = (let l = c.len.ensures in let f = c.if-len-self.false in search (rules, l, f)) in
     let size = c.size_of_look-size.ensures c.args.stream some.0 may some.2 in
-    subst IsLawful (sym c.go_out-job.ensures.after) (subst (λ (z : Machine). IsLawful (turned z (record { strand = c.args.strand; stream = c.args.stream }))) v (lawful_turned g.S.Stage.stands i.net i.budget i.journal.items i.out.items i.actors.items i.desk i.pool i.ready c.self.invariant.0 c.args.strand c.args.stream some.0 some.1 space i.is_broken))
+    subst IsLawful (sym c.go_out-job.ensures.after) (subst (λ (z : Machine). IsLawful (turned z (record { strand = c.args.strand; stream = c.args.stream }))) v (lawful_turned g.S.Stage.stands i.floor.net i.budget i.journal.items i.out.items i.actors.items i.floor.desk i.floor.pool c.self.invariant.0 c.args.strand c.args.stream some.0 some.1 space i.is_broken))

@@ -2,7 +2,7 @@
 use Rattle.std.proofs.Common.{◌<◌, ◌≡◌, ◌-◌, ℕ, true}
 use Rattle.core_machine.specs.Members.{is_member}
 use Rattle.core_machine.specs.Woken.{IsLarger}
-use Rattle.core_machine.proofs.settle.wake_followers.Given as goal
+use Rattle.core_machine.proofs.settling.wake_followers.Given as goal
 
 abbrev pub invariant-loop-next : goal.invariant-loop-next
 invariant-loop-next l = IsLarger l.initial.ready l.ready × (l.strand < l.next) × ((u : ℕ) → l.strand < u → u < l.next → is_member l.ready u ≡ true)

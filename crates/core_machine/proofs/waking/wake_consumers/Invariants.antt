@@ -1,7 +1,7 @@
 -- Nobody was taken out, and the consumers behind the doors so far are in.
 use Rattle.std.proofs.Common.{◌≡◌, ◌<◌, ℕ, Option, Some, slice_get}
 use Rattle.core_machine.specs.Woken.{IsLarger, IsConsumerIn}
-use Rattle.core_machine.proofs.far_ends.wake_consumers.Given as goal
+use Rattle.core_machine.proofs.waking.wake_consumers.Given as goal
 
 abbrev pub invariant-loop-door : goal.invariant-loop-door
 invariant-loop-door l = IsLarger l.initial.ready l.ready

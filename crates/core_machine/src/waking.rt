@@ -1,15 +1,14 @@
 //! Who is at the other ends of a strand's links is woken.
-ghost use Rattle.std.specs.Prelude.{◌≡◌, ◌<◌, true};
+ghost use Rattle.std.specs.Prelude.{◌≡◌};
 ghost use Rattle.run_desk.specs.Kept.{link_through};
-ghost use Rattle.core_machine.specs.Members.{is_member};
 ghost use Rattle.core_machine.specs.Woken.{AreInside, IsLarger, IsProducerIn, IsConsumerIn, OfDoors, AreEndsIn};
 
 use crate::ready::Ready;
 use pipe_model::{Link, Seen};
 use run_desk::Desk;
 
-// Wakes the strands at the other ends of the links that what was told concerns: of a record that was taken its
-// producer, and at an end all. Where one was put its consumer took it before, and sees nothing new.
+/// Wakes the strands at the other ends of the links that what was told concerns: of a record that was taken its
+/// producer, and at an end all. Where one was put its consumer took it before, and sees nothing new.
 #[inline(always)]
 pub(crate) fn wake_ends(ready: &mut Ready, desk: &Desk, links: &[Link], strand: u32, seen: Seen)
     requires { AreInside links.now ready.old.size }
@@ -24,15 +23,6 @@ pub(crate) fn wake_ends(ready: &mut Ready, desk: &Desk, links: &[Link], strand: 
         }
         _ => {}
     }
-}
-
-/// Wakes a strand.
-pub(crate) fn wake(ready: &mut Ready, strand: u32)
-    requires { strand < ready.old.size }
-    ensures larger { IsLarger ready.old ready.new }
-    ensures here { is_member ready.new strand ≡ true }
-{
-    ready.insert(strand);
 }
 
 fn wake_producer(ready: &mut Ready, links: &[Link], door: Option<u32>)

@@ -1,0 +1,320 @@
+//! What the strands of a net stand on: its desk, its pool and the set of those that may be ready, changed together.
+ghost use Rattle.std.specs.Prelude.{◌≡◌, ◌<◌, ◌||◌, ℕ, is_some, true};
+ghost use Rattle.run_desk.specs.Pure as Pure;
+ghost use Rattle.core_machine.specs.Woken.{IsCovering};
+
+use crate::ready::Ready;
+use crate::settling::{ends, may_settle, settled_before, wake_settled};
+use crate::waking::{wake_consumer, wake_ends};
+use pipe_model::{Net, NoMemory, Out, Seen, Want};
+use record_pool::Pool;
+use run_desk::Desk;
+use std::alloc::Global;
+use std::marker::Model;
+
+/// A net, and what is kept of a run of it besides coroutines and journal. Every strand that may go on is in the set of
+/// those that may be ready.
+pub(crate) struct Floor {
+    net: Net,
+    desk: Desk,
+    pool: Pool,
+    ready: Ready,
+}
+
+impl Model for Floor {
+    ghost use Rattle.core_machine.specs.Floor.{FloorState, IsCovered};
+
+    ghost Value = { FloorState };
+
+    ghost view = { λ floor. record { net = floor.net; desk = floor.desk; pool = floor.pool; ready = floor.ready } };
+
+    ghost invariant = { λ floor. IsCovered floor.net floor.desk floor.ready };
+}
+
+impl Floor {
+    ghost use Rattle.std.specs.Prelude.{◌≡◌, ◌<◌, [], ℕ, Some, true, false, length, slice_get, is_some, IfOk, OnErr};
+    ghost use Rattle.pipe_model.specs.declared.step.Want.TheVariants as Asks;
+    ghost use Rattle.pipe_model.specs.State.{nothing_yet};
+    ghost use Rattle.pipe_model.specs.WellFormed.{IsWellFormed};
+    ghost use Rattle.record_pool.specs.Places.{bytes_at};
+    ghost use Rattle.commit_levels.specs.UnitState.{Member};
+    ghost use Rattle.connectors.specs.WireState.{IsHeldIn};
+    ghost use Rattle.run_desk.specs.Moves.{CanMove, CanCome, HasCome, bare, bare_out, hand_on, made, pool_moved};
+    ghost use Rattle.run_desk.specs.Order.{IsRun, IsPooled, out_from};
+    ghost use Rattle.run_desk.specs.Pure as Pure;
+    ghost use Rattle.std.specs.Option.{option_map_or};
+    ghost use Rattle.core_machine.specs.Actors.{bytes_told};
+    ghost use Rattle.core_machine.specs.Floor.{IsInUse, StaysEarly};
+    ghost use Rattle.core_machine.specs.Members.{is_member};
+    ghost use Rattle.core_machine.specs.Start.{HasNoQueue};
+    ghost use Rattle.core_machine.specs.Woken.{HasReturned, LeastEventAwake, commits};
+
+    /// The floor of a net before the first step, where every strand is out and no record is held.
+    pub(crate) fn new(alloc: Global, net: Net) -> Result<Floor, NoMemory>
+        requires formed { IsWellFormed net }
+        requires rendezvous { HasNoQueue net }
+        ensures net { IfOk result (λ floor. floor.net ≡ net) }
+        ensures run { IfOk result (λ floor. IsRun net nothing_yet (out_from 0 (length net.strands)) floor.desk floor.pool) }
+    {
+        let ready = Ready::new(alloc, net.strands.as_slice().len() as u32)?;
+        let desk = Desk::blank(alloc, &net)?;
+        let pool = Pool::new(alloc);
+        Ok(Floor {
+            net,
+            desk,
+            pool,
+            ready,
+        })
+    }
+
+    /// Makes what a strand was told, and wakes whom it may concern.
+    #[inline(always)]
+    pub(crate) fn make(&mut self, strand: u32, seen: Seen)
+        requires used { IsInUse self.old.net self.old.desk }
+        requires can { CanMove self.old.desk self.old.pool strand seen }
+        requires live { Pure.ended_at self.old.desk strand ≡ false }
+        requires strand { strand < length self.old.net.strands }
+        ensures net { self.new.net ≡ self.old.net }
+        ensures desk { self.new.desk ≡ made self.old.desk strand seen }
+        ensures pool { self.new.pool ≡ pool_moved self.old.desk self.old.pool strand seen }
+        ensures awake { (k : ℕ) → is_some (Pure.seen_at self.old.desk strand k) ≡ true → is_member self.new.ready strand ≡ true }
+    {
+        if may_settle(&self.desk, strand, seen) {
+            self.make_settling(strand, seen);
+            return;
+        }
+        wake_ends(
+            &mut self.ready,
+            &self.desk,
+            self.net.links.as_slice(),
+            strand,
+            seen,
+        );
+        self.desk.make(&mut self.pool, strand, seen);
+    }
+
+    // The same where it may settle something for many strands.
+    #[cold]
+    #[inline(never)]
+    fn make_settling(&mut self, strand: u32, seen: Seen)
+        requires used { IsInUse self.old.net self.old.desk }
+        requires can { CanMove self.old.desk self.old.pool strand seen }
+        requires live { Pure.ended_at self.old.desk strand ≡ false }
+        requires strand { strand < length self.old.net.strands }
+        ensures net { self.new.net ≡ self.old.net }
+        ensures desk { self.new.desk ≡ made self.old.desk strand seen }
+        ensures pool { self.new.pool ≡ pool_moved self.old.desk self.old.pool strand seen }
+        ensures awake { (k : ℕ) → is_some (Pure.seen_at self.old.desk strand k) ≡ true → is_member self.new.ready strand ≡ true }
+    {
+        let before = settled_before(&self.desk, strand, true, ends(seen));
+        wake_ends(
+            &mut self.ready,
+            &self.desk,
+            self.net.links.as_slice(),
+            strand,
+            seen,
+        );
+        self.desk.make(&mut self.pool, strand, seen);
+        wake_settled(&mut self.ready, &self.desk, strand, before);
+    }
+
+    /// Brings a strand home with what it wants next, out of which a new record is moved, or, where it has ended, with
+    /// nothing, and wakes whom that may concern. Out of memory leaves the desk and the pool as they were.
+    #[inline(always)]
+    pub(crate) fn come_home(
+        &mut self,
+        strand: u32,
+        has_ended: bool,
+        want: &mut Want,
+    ) -> Result<(), NoMemory>
+        requires used { IsInUse self.old.net self.old.desk }
+        requires ended { has_ended ≡ Pure.ended_at self.old.desk strand }
+        requires can { has_ended ≡ false → CanCome self.old.desk self.old.pool strand want.old }
+        requires early { has_ended ≡ false → StaysEarly self.old.desk self.old.pool strand want.old }
+        requires here { is_member self.old.ready strand ≡ true }
+        requires strand { strand < length self.old.net.strands }
+        ensures net { self.new.net ≡ self.old.net }
+        ensures home { IfOk result (λ done. HasReturned self.old.desk self.old.pool strand want.old self.new.desk self.new.pool) }
+        ensures bare { has_ended ≡ false → want.new ≡ bare want.old }
+        ensures err { OnErr result (self.new.desk ≡ self.old.desk) }
+        ensures err_pool { OnErr result (self.new.pool ≡ self.old.pool) }
+    {
+        if has_ended {
+            return Ok(());
+        }
+        match want {
+            Want::Write(o, out) => self.come_writing(strand, *o, out),
+            Want::Commit(_) => self.come_settling(strand, want),
+            _ => {
+                self.desk.come_home(&mut self.pool, strand, want)?;
+                Ok(())
+            }
+        }
+    }
+
+    // The same for a strand that writes: it rests until its record is taken, or its output refuses.
+    #[inline(always)]
+    fn come_writing(&mut self, strand: u32, o: u16, out: &mut Out) -> Result<(), NoMemory>
+        requires used { IsInUse self.old.net self.old.desk }
+        requires can { CanCome self.old.desk self.old.pool strand (Asks.Write o out.old) }
+        requires early { StaysEarly self.old.desk self.old.pool strand (Asks.Write o out.old) }
+        requires here { is_member self.old.ready strand ≡ true }
+        requires strand { strand < length self.old.net.strands }
+        ensures net { self.new.net ≡ self.old.net }
+        ensures home { IfOk result (λ done. HasCome self.old.desk self.old.pool strand (Asks.Write o out.old) self.new.desk self.new.pool) }
+        ensures bare { out.new ≡ bare_out out.old }
+        ensures err { OnErr result (self.new.desk ≡ self.old.desk) }
+        ensures err_pool { OnErr result (self.new.pool ≡ self.old.pool) }
+    {
+        let door = self.desk.out_door(strand, o);
+        wake_consumer(&mut self.ready, self.net.links.as_slice(), door);
+        self.desk.write_at(&mut self.pool, strand, o, out, door)?;
+        rest(&mut self.ready, &self.desk, strand, door);
+        Ok(())
+    }
+
+    // The same for a strand that asks for a commit level.
+    #[cold]
+    fn come_settling(&mut self, strand: u32, want: &mut Want) -> Result<(), NoMemory>
+        requires used { IsInUse self.old.net self.old.desk }
+        requires can { CanCome self.old.desk self.old.pool strand want.old }
+        requires commits { commits want.old ≡ true }
+        requires early { StaysEarly self.old.desk self.old.pool strand want.old }
+        requires here { is_member self.old.ready strand ≡ true }
+        requires strand { strand < length self.old.net.strands }
+        ensures net { self.new.net ≡ self.old.net }
+        ensures home { IfOk result (λ done. HasCome self.old.desk self.old.pool strand want.old self.new.desk self.new.pool) }
+        ensures bare { want.new ≡ bare want.old }
+        ensures err { OnErr result (self.new.desk ≡ self.old.desk) }
+        ensures err_pool { OnErr result (self.new.pool ≡ self.old.pool) }
+    {
+        let before = settled_before(&self.desk, strand, false, true);
+        self.desk.come_home(&mut self.pool, strand, want)?;
+        wake_settled(&mut self.ready, &self.desk, strand, before);
+        Ok(())
+    }
+
+    /// Puts a strand among those that may be ready.
+    pub(crate) fn wake(&mut self, strand: u32)
+        requires { strand < length self.old.net.strands }
+        ensures net { self.new.net ≡ self.old.net }
+        ensures desk { self.new.desk ≡ self.old.desk }
+        ensures pool { self.new.pool ≡ self.old.pool }
+        ensures here { is_member self.new.ready strand ≡ true }
+    {
+        self.ready.insert(strand);
+    }
+
+    /// The least strand that may go on, its least stream, and what it would be told there. Whoever is found not to be
+    /// ready is taken out of the set.
+    #[inline(always)]
+    pub(crate) fn least_event(&mut self) -> Option<(u32, u16, Seen)>
+        ensures net { self.new.net ≡ self.old.net }
+        ensures desk { self.new.desk ≡ self.old.desk }
+        ensures pool { self.new.pool ≡ self.old.pool }
+        ensures least { LeastEventAwake self.old.desk result }
+    {
+        let size = self.ready.size();
+        let mut from = 0;
+        while from < size {
+            let Some(strand) = self.ready.least() else {
+                return None;
+            };
+            if let Some((stream, seen)) = self.desk.ready_event(strand) {
+                return Some((strand, stream, seen));
+            }
+            self.ready.remove(strand);
+            from = strand + 1;
+        }
+        None
+    }
+
+    /// The net.
+    pub(crate) fn net(&self) -> &Net
+        ensures { result.now ≡ self.now.net }
+    {
+        &self.net
+    }
+
+    /// What a strand would be told on a stream, where it may go on there.
+    pub(crate) fn seen_at(&self, strand: u32, stream: u16) -> Option<Seen>
+        ensures { result ≡ Pure.seen_at self.now.desk strand stream }
+    {
+        self.desk.seen_at(strand, stream)
+    }
+
+    /// The least stream on which a strand may go on.
+    pub(crate) fn ready_stream(&self, strand: u32) -> Option<u16>
+        ensures { Pure.IsFirst self.now.desk strand result }
+    {
+        self.desk.ready_stream(strand)
+    }
+
+    /// Whether a strand asks for nothing: it is out, or has ended.
+    pub(crate) fn asks_nothing(&self, strand: u32) -> bool
+        ensures { result ≡ Pure.asks_nothing (Pure.ask_at self.now.desk strand) }
+    {
+        self.desk.asks_nothing(strand)
+    }
+
+    /// Whether a strand has ended.
+    pub(crate) fn has_ended(&self, strand: u32) -> bool
+        ensures { result ≡ Pure.ended_at self.now.desk strand }
+    {
+        self.desk.has_ended(strand)
+    }
+
+    /// The code with which a strand ended, and none before.
+    pub(crate) fn end_of(&self, strand: u32) -> Option<i32>
+        requires { strand < length self.now.desk.unit }
+        ensures { (m : Member) → slice_get self.now.desk.unit strand ≡ Some m → result ≡ m.ended }
+    {
+        self.desk.end_of(strand)
+    }
+
+    /// The number of bytes of the record at hand on a strand's input, and 0 where none is.
+    pub(crate) fn size_at_hand(&self, strand: u32, i: u16) -> usize
+        requires { IsHeldIn self.now.pool (hand_on (Pure.wire_in self.now.desk strand i)) }
+        ensures { result ≡ length (option_map_or (bytes_at self.now.pool) (hand_on (Pure.wire_in self.now.desk strand i)) []) }
+    {
+        self.desk.size_at_hand(&self.pool, strand, i)
+    }
+
+    /// The bytes that go with what a strand was told last, where it looks.
+    pub(crate) fn bytes_told(&self, looks: bool, strand: u32, seen: Seen) -> &[u8]
+        requires { (i : ℕ) → IsHeldIn self.now.pool (Pure.sight_through self.now.desk.sights (Pure.sight_door self.now.desk strand i)) }
+        ensures { result.now ≡ bytes_told looks self.now.desk self.now.pool strand seen }
+    {
+        match seen {
+            Seen::Saw(i) if looks => self.desk.seen_bytes(&self.pool, strand, i),
+            _ => &[],
+        }
+    }
+
+    /// Gives up the floor. All that the desk holds of the pool is given back first: a pool is closed only where no block
+    /// is in use any more.
+    pub(crate) fn close(self)
+        requires { IsPooled self.desk.wires self.desk.sights self.pool }
+    {
+        let Floor {
+            net: _,
+            desk,
+            mut pool,
+            ready: _,
+        } = self;
+        desk.drain(&mut pool);
+        pool.close();
+    }
+}
+
+// Takes out a strand that came home to write through a door and can't go on yet.
+fn rest(ready: &mut Ready, desk: &Desk, strand: u32, door: Option<u32>)
+    requires strand { strand < ready.old.size }
+    requires writes { (k : ℕ) → is_some (Pure.seen_at desk.now strand k) ≡ true → (Pure.can_put (Pure.through desk.now.wires door) || Pure.can_refuse (Pure.through desk.now.wires door)) ≡ true }
+    ensures size { ready.new.size ≡ ready.old.size }
+    ensures covers { IsCovering desk.now ready.old → IsCovering desk.now ready.new }
+{
+    if !desk.may_write(door) {
+        ready.remove(strand);
+    }
+}
