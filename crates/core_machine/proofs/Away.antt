@@ -14,7 +14,7 @@ use Rattle.pipe_model.specs.Play.{play}
 use Rattle.pipe_model.proofs.Numbers.{equal_or_not, test_same}
 use Rattle.pipe_model.proofs.Truths.{neither, or_second}
 use Rattle.pipe_model.proofs.Lists.{get_seam, length_more}
-use Rattle.run_desk.specs.Kept.{left_out, left_in}
+use Rattle.run_desk.specs.Standing.{left_out, left_in}
 use Rattle.core_machine.specs.Machine.{is_of, is_at, left_by, without, is_among}
 use Rattle.core_machine.specs.Sound.{IsLast, AreLast, AreApart}
 

@@ -7,10 +7,10 @@ use Rattle.pipe_model.specs.Licence.{part_down}
 use Rattle.pipe_model.specs.Table.{form}
 use Rattle.pipe_model.specs.WellFormed.{IsWellFormed, strands_of}
 use Rattle.run_desk.specs.Desk.{DeskState}
-use Rattle.run_desk.specs.Kept.{IsLaid}
-use Rattle.run_desk.specs.Pure as Pure
+use Rattle.run_desk.specs.Standing.{IsLaid}
+use Rattle.run_desk.specs.Telling as Telling
 
-module _ (net : Net) (st : State) (formed : IsWellFormed net) (d : DeskState) (laid : IsLaid net st d) (s u : ℕ) (apart : u ≢ s) (first : Pure.first_of u (slice_get d.doors u) ≡ s) where
+module _ (net : Net) (st : State) (formed : IsWellFormed net) (d : DeskState) (laid : IsLaid net st d) (s u : ℕ) (apart : u ≢ s) (first : Telling.first_of u (slice_get d.doors u) ≡ s) where
   in_stage : part_down u (slice_get net.strands u) ≡ s
   in_stage = sym (laid.firsts u) ∙ first
 
@@ -19,7 +19,7 @@ module _ (net : Net) (st : State) (formed : IsWellFormed net) (d : DeskState) (l
 
   -- what is to be shown of the strand
   abbrev Follows : Type 0
-  Follows = (s < u) × ((t : ℕ) → s < t → t ≤ u → Pure.first_of t (slice_get d.doors t) ≡ s)
+  Follows = (s < u) × ((t : ℕ) → s < t → t ≤ u → Telling.first_of t (slice_get d.doors t) ≡ s)
 
   by_strand : (x : Option Strand) → slice_get net.strands u ≡ x → Follows
   by_strand None at = absurd (apart (ap (part_down u) (sym at) ∙ in_stage))
@@ -28,7 +28,7 @@ module _ (net : Net) (st : State) (formed : IsWellFormed net) (d : DeskState) (l
       down : u - p.part ≡ s
       down = ap (part_down u) (sym at) ∙ in_stage
 
-      between : (t : ℕ) → s < t → t ≤ u → Pure.first_of t (slice_get d.doors t) ≡ s
+      between : (t : ℕ) → s < t → t ≤ u → Telling.first_of t (slice_get d.doors t) ≡ s
       between t less most =
           let m = formed.staged u p at in
           let of = m.1 in

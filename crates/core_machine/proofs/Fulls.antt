@@ -8,7 +8,7 @@ use Rattle.pipe_model.proofs.Numbers.{equal_or_not}
 use Rattle.commit_levels.specs.UnitState.{Member, IsAt, worst_early, stands_at, has_asked, progress_at, place_of, moved, reached_by}
 use Rattle.commit_levels.specs.declared.member.Progress.TheVariants.{NotAsked, Asked, Reached}
 use Rattle.run_desk.specs.Desk.{DeskState}
-use Rattle.run_desk.specs.Pure as Pure
+use Rattle.run_desk.specs.Telling as Telling
 
 -- where all pass after an item was changed, and it passed before if it passes now, all passed before
 all_before : {A : Type 0} (p : A → Bool) (xs : List A) (k : ℕ) (x y : A) → slice_get xs k ≡ Some x → (p y ≡ true → p x ≡ true) → list_all p (slice_set xs k y) ≡ true → list_all p xs ≡ true
@@ -39,8 +39,8 @@ reached_all unit k level place asked all = go (slice_get unit k) refl all
 
 -- where a level has an answer, it had one before, if all stood there before
 code_up : (d n : DeskState) (level : ℤ) → (list_all (stands_at (place_of level)) n.unit ≡ true → list_all (stands_at (place_of level)) d.unit ≡ true) →
-    is_some (Pure.level_code n level) ≡ true → is_some (Pure.level_code d level) ≡ true
-code_up d n level f = by (Pure.is_level level) (list_all (stands_at (place_of level)) n.unit) (list_all (stands_at (place_of level)) d.unit) (worst_early (place_of level) n.unit) (worst_early (place_of level) d.unit) f
+    is_some (Telling.level_code n level) ≡ true → is_some (Telling.level_code d level) ≡ true
+code_up d n level f = by (Telling.is_level level) (list_all (stands_at (place_of level)) n.unit) (list_all (stands_at (place_of level)) d.unit) (worst_early (place_of level) n.unit) (worst_early (place_of level) d.unit) f
   where
     by : (a b c : Bool) (x y : ℤ) → (b ≡ true → c ≡ true) → is_some (cond a (cond b (Some x) None) None) ≡ true → is_some (cond a (cond c (Some y) None) None) ≡ true
     by false b c x y f p = cc
@@ -49,10 +49,10 @@ code_up d n level f = by (Pure.is_level level) (list_all (stands_at (place_of le
     by true false false x y f p = cc
 
 -- a strand that reached a level gave no level an answer
-pub reached_code : (d n : DeskState) (s : ℕ) (reached level : ℤ) → IsAt d.unit s reached Asked → n.unit ≡ reached_by d.unit s reached → is_some (Pure.level_code n level) ≡ true → is_some (Pure.level_code d level) ≡ true
+pub reached_code : (d n : DeskState) (s : ℕ) (reached level : ℤ) → IsAt d.unit s reached Asked → n.unit ≡ reached_by d.unit s reached → is_some (Telling.level_code n level) ≡ true → is_some (Telling.level_code d level) ≡ true
 reached_code d n s reached level asked is =
     code_up d n level (λ all. reached_all d.unit s reached (place_of level) asked (ap (list_all (stands_at (place_of level))) (sym is) ∙ all))
 
 -- nor did anything that left the unit as it was
-pub same_code : (d n : DeskState) (level : ℤ) → n.unit ≡ d.unit → is_some (Pure.level_code n level) ≡ true → is_some (Pure.level_code d level) ≡ true
+pub same_code : (d n : DeskState) (level : ℤ) → n.unit ≡ d.unit → is_some (Telling.level_code n level) ≡ true → is_some (Telling.level_code d level) ≡ true
 same_code d n level is = code_up d n level (λ all. ap (list_all (stands_at (place_of level))) (sym is) ∙ all)

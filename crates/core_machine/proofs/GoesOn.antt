@@ -16,9 +16,9 @@ use Rattle.pipe_model.proofs.Lists.{get_set_same}
 use Rattle.record_pool.specs.PoolState.{PoolState}
 use Rattle.stage_steps.specs.Coroutine.{told, bytes_with, CanResume, Resumes}
 use Rattle.run_desk.specs.Desk.{DeskState}
-use Rattle.run_desk.specs.Pure.{sight_through}
-use Rattle.run_desk.specs.Moves.{made, pool_moved, CanCome, bare, ends}
-use Rattle.run_desk.specs.Pure as Pure
+use Rattle.run_desk.specs.Telling.{sight_through}
+use Rattle.run_desk.specs.Turns.{desk_after_turn, pool_after_turn, CanCome, bare, ends}
+use Rattle.run_desk.specs.Telling as Telling
 use Rattle.connectors.specs.WireState.{IsHeldIn}
 use Rattle.core_machine.specs.declared.actor.Actor.{Actor}
 use Rattle.core_machine.specs.Actors.{is_end, gone_out, gone_on, given_up, asking_for, bytes_told}
@@ -62,7 +62,7 @@ module _ {S : Type 0} (stands : S → Strand → List Event → Type 0) (net : N
     (sound : IsSound stands net budget journal out actors d pool)
     (s : Who) (k : ℕ) (e : Event) (may : licence net (play net journal) (left_by journal out) s k ≡ Some e)
     (a : Actor S) (stage : S) (there : slice_get actors s ≡ Some a) (was : a.stage ≡ Some stage) (seen : Seen) (seen_at : told e ≡ seen)
-    (space : length journal < budget) (d' : DeskState) (pool' : PoolState) (desk_is : d' ≡ made d s seen) (pool_is : pool' ≡ pool_moved d pool s seen) where
+    (space : length journal < budget) (d' : DeskState) (pool' : PoolState) (desk_is : d' ≡ desk_after_turn d s seen) (pool_is : pool' ≡ pool_after_turn d pool s seen) where
   abbrev pub longer : List Entry
   longer = journal ++ (record { strand = s; stream = k }) ∷ []
 
@@ -74,7 +74,7 @@ module _ {S : Type 0} (stands : S → Strand → List Event → Type 0) (net : N
   was_out : IsSound stands net budget longer (out ++ here ∷ []) (slice_set actors s (gone_out seen a)) d' pool'
   was_out = sound_turned stands net budget journal out actors d pool sound s k e may a stage there was seen seen_at (gone_out seen a) refl refl refl space d' pool' desk_is pool_is
 
-  pub sights : (i : ℕ) → IsHeldIn pool' (sight_through d'.sights (Pure.sight_door d' s i))
+  pub sights : (i : ℕ) → IsHeldIn pool' (sight_through d'.sights (Telling.sight_door d' s i))
   sights i = sight_held stands net budget longer (out ++ here ∷ []) (slice_set actors s (gone_out seen a)) d' pool' was_out s i
 
   -- the bytes at hand are those of the event
@@ -151,20 +151,20 @@ module _ {S : Type 0} (stands : S → Strand → List Event → Type 0) (net : N
       done = done_take stands net longer its (job off refl refl refl) bytes (job_bytes off refl refl refl bytes bytes_are) next asked resumed
 
       -- it has ended just where that is what it was told
-      pub home_ended : ends seen ≡ Pure.ended_at d' s
+      pub home_ended : ends seen ≡ Telling.ended_at d' s
       home_ended =
           sym (ended_is stands net budget longer out' (slice_set actors s off) d' pool' lost s here next asked among done
           ∙ ap has_ended (turned_past stands net budget journal out actors d pool sound s k e may)
           ∙ end_told e (past (play net journal) s) (goes_on stands net budget journal out actors d pool sound s k e may) ∙ ap ends seen_at)
 
-      pub home_can : Pure.ended_at d' s ≡ false → CanCome d' pool' s asked
+      pub home_can : Telling.ended_at d' s ≡ false → CanCome d' pool' s asked
       home_can = can_home stands net budget longer out' (slice_set actors s off) d' pool' lost s here next asked among done
 
-      pub home_early : Pure.ended_at d' s ≡ false → StaysEarly d' pool' s asked
+      pub home_early : Telling.ended_at d' s ≡ false → StaysEarly d' pool' s asked
       home_early = came_early stands net budget longer out' (slice_set actors s off) d' pool' lost s here next asked among done
 
       -- and its strand came home
-      pub went_home : (shown : Asked) → (Pure.ended_at d' s ≡ false → shown ≡ bare asked) →
+      pub went_home : (shown : Asked) → (Telling.ended_at d' s ≡ false → shown ≡ bare asked) →
           (d2 : DeskState) (pool2 : PoolState) → HasReturned d' pool' s asked d2 pool2 →
           IsSound stands net budget longer [] (slice_set actors s (gone_on seen next shown a)) d2 pool2
       went_home shown bared d2 pool2 returned =

@@ -20,11 +20,11 @@ use Rattle.pipe_model.specs.WellFormed.{IsWellFormed}
 use Rattle.stage_steps.specs.Coroutine.{told, bytes_with, meaning, last_seen}
 use Rattle.run_desk.specs.Desk.{DeskState}
 use Rattle.run_desk.specs.declared.seat.Ask.TheVariants as Now
-use Rattle.run_desk.specs.Kept.{asked, IsKept}
+use Rattle.run_desk.specs.Standing.{asked, DeskStands}
 use Rattle.run_desk.proofs.Early.{wants_early}
 use Rattle.run_desk.proofs.Sees.{ask_is}
 use Rattle.core_machine.specs.declared.actor.Actor.{Actor}
-use Rattle.run_desk.specs.Moves.{bare}
+use Rattle.run_desk.specs.Turns.{bare}
 use Rattle.core_machine.specs.Actors.{is_end, looks_in}
 use Rattle.core_machine.specs.Answered.{Shows}
 use Rattle.core_machine.specs.Woken.{AsksEarly, AreInside}
@@ -130,7 +130,7 @@ shows_bare h (To.Cut i) want is = is
 shows_bare h (To.Done c) want is = is
 
 -- no strand of a desk that stands for a state asks for another level than the early ones
-pub early_on : (net : Net) (st : State) → IsWellFormed net → ((t : Who) (q : Strand) → strand_at net st t ≡ Some q → IsOwn q (past st t)) → (texts : ℕ → List ℕ) (l : Left) (x : DeskState) → IsKept net texts st l x → AsksEarly x
+pub early_on : (net : Net) (st : State) → IsWellFormed net → ((t : Who) (q : Strand) → strand_at net st t ≡ Some q → IsOwn q (past st t)) → (texts : ℕ → List ℕ) (l : Left) (x : DeskState) → DeskStands net texts st l x → AsksEarly x
 early_on net st formed own texts l x kept t level is = wants_early net st l own t level (commit_back (want_at net st l t) (sym (ask_is net texts st l x formed kept t) ∙ is))
   where
     commit_back : (w : Option Want) → asked w ≡ Now.Commit level → w ≡ Some (Commit level)

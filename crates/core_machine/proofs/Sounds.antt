@@ -23,12 +23,12 @@ use Rattle.record_pool.specs.PoolState.{PoolState}
 use Rattle.record_pool.specs.Places.{bytes_at}
 use Rattle.stage_steps.specs.Coroutine.{told, bytes_with, meaning, last_seen, IsSeenBefore}
 use Rattle.run_desk.specs.Desk.{DeskState}
-use Rattle.run_desk.specs.Pure.{sight_through}
-use Rattle.run_desk.specs.Kept.{left_out, left_in}
-use Rattle.run_desk.specs.Moves.{made, pool_moved, CanMove, CanCome, bare, hand_on}
+use Rattle.run_desk.specs.Telling.{sight_through}
+use Rattle.run_desk.specs.Standing.{left_out, left_in}
+use Rattle.run_desk.specs.Turns.{desk_after_turn, pool_after_turn, CanTurn, CanCome, bare, hand_on}
 use Rattle.connectors.specs.WireState.{IsHeldIn}
-use Rattle.run_desk.specs.Order.{IsRun}
-use Rattle.run_desk.specs.Pure as Pure
+use Rattle.run_desk.specs.Holding.{RunStands}
+use Rattle.run_desk.specs.Telling as Telling
 use Rattle.run_desk.proofs.Runs.{run_can, run_made, run_can_come, run_home, run_gone}
 use Rattle.run_desk.proofs.Acts.{goes}
 use Rattle.run_desk.proofs.Conditions as conditions
@@ -71,31 +71,31 @@ module _ {S : Type 0} (stands : S → Strand → List Event → Type 0) (net : N
 
   -- Readiness
 
-  pub desk_sees : (s : Who) (k : ℕ) → Pure.seen_at d s k ≡ option_map told (licence net st left s k)
+  pub desk_sees : (s : Who) (k : ℕ) → Telling.seen_at d s k ≡ option_map told (licence net st left s k)
   desk_sees s k = seen_is net (bytes_at pool) st left d sound.formed sound.run.kept s k
 
   some_map : (x : Option Event) → is_some (option_map told x) ≡ is_some x
   some_map None = refl
   some_map (Some e) = refl
 
-  pub ready_is : (s : Who) (k : ℕ) → is_some (Pure.seen_at d s k) ≡ is_some (licence net st left s k)
+  pub ready_is : (s : Who) (k : ℕ) → is_some (Telling.seen_at d s k) ≡ is_some (licence net st left s k)
   ready_is s k = ap is_some (desk_sees s k) ∙ some_map (licence net st left s k)
 
-  pub none_is : (s : Who) (k : ℕ) → Pure.seen_at d s k ≡ None → licence net st left s k ≡ None
+  pub none_is : (s : Who) (k : ℕ) → Telling.seen_at d s k ≡ None → licence net st left s k ≡ None
   none_is s k is = go (licence net st left s k) (sym (desk_sees s k) ∙ is)
     where
       go : (x : Option Event) → option_map told x ≡ None → x ≡ None
       go None e = refl
       go (Some f) e = cc
 
-  pub some_is : (s : Who) (k : ℕ) (seen : Seen) → Pure.seen_at d s k ≡ Some seen → (e : Event) × (licence net st left s k ≡ Some e) × (told e ≡ seen)
+  pub some_is : (s : Who) (k : ℕ) (seen : Seen) → Telling.seen_at d s k ≡ Some seen → (e : Event) × (licence net st left s k ≡ Some e) × (told e ≡ seen)
   some_is s k seen is = go (licence net st left s k) refl (sym (desk_sees s k) ∙ is)
     where
       go : (x : Option Event) → licence net st left s k ≡ x → option_map told x ≡ Some seen → (e : Event) × (licence net st left s k ≡ Some e) × (told e ≡ seen)
       go None at e = cc
       go (Some f) at e = (f, at, cc)
 
-  pub seen_back : (s : Who) (k : ℕ) (e : Event) → licence net st left s k ≡ Some e → Pure.seen_at d s k ≡ Some (told e)
+  pub seen_back : (s : Who) (k : ℕ) (e : Event) → licence net st left s k ≡ Some e → Telling.seen_at d s k ≡ Some (told e)
   seen_back s k e is = desk_sees s k ∙ ap (option_map told) is
 
   least_is : (b : Bool) (r : Option (ℕ × ℕ)) → LeastAwake d r → LeastReady (record { net = net; budget = budget; journal = journal; out = out; is_broken = b }) r
@@ -112,32 +112,32 @@ module _ {S : Type 0} (stands : S → Strand → List Event → Type 0) (net : N
   pub in_use : IsInUse net d
   in_use = record { texts = bytes_at pool; st = st; left = left; kept = sound.run.kept; early = asks_early }
 
-  pub ended_here : (s : Who) → s < length net.strands → Pure.ended_at d s ≡ has_ended (past st s)
+  pub ended_here : (s : Who) → s < length net.strands → Telling.ended_at d s ≡ has_ended (past st s)
   ended_here s place =
       let a = at_some d.seats s (subst (λ n. s < n) (sym sound.run.kept.laid.seat_count) place) in
-      ap Pure.ended_of a.1 ∙ (sound.run.kept.seats s a.0 a.1).ended
+      ap Telling.ended_of a.1 ∙ (sound.run.kept.seats s a.0 a.1).ended
 
   pub lawful : (b : Bool) → IsLawful (record { net = net; budget = budget; journal = journal; out = out; is_broken = b })
   lawful b = record { legal = sound.legal; within = sound.within; bounded = sound.bounded }
 
   -- Records
 
-  pub sight_held : (s i : ℕ) → IsHeldIn pool (sight_through d.sights (Pure.sight_door d s i))
-  sight_held s i = sights_held d.wires d.sights pool sound.run.pooled (Pure.sight_door d s i)
+  pub sight_held : (s i : ℕ) → IsHeldIn pool (sight_through d.sights (Telling.sight_door d s i))
+  sight_held s i = sights_held d.wires d.sights pool sound.run.pooled (Telling.sight_door d s i)
 
-  pub hand_held : (s i : ℕ) → IsHeldIn pool (hand_on (Pure.wire_in d s i))
-  hand_held s i = go (hand_on (Pure.wire_in d s i)) refl
+  pub hand_held : (s i : ℕ) → IsHeldIn pool (hand_on (Telling.wire_in d s i))
+  hand_held s i = go (hand_on (Telling.wire_in d s i)) refl
     where
-      go : (x : Option ℕ) → hand_on (Pure.wire_in d s i) ≡ x → IsHeldIn pool x
+      go : (x : Option ℕ) → hand_on (Telling.wire_in d s i) ≡ x → IsHeldIn pool x
       go None is = tt
-      go (Some grip) is = conditions.hand_held net st left d pool sound.formed sound.run (Pure.in_door d s i) grip is
+      go (Some grip) is = conditions.hand_held net st left d pool sound.formed sound.run (Telling.in_door d s i) grip is
 
   -- the record that a licensed look shows
   pub looks_long : (s k : ℕ) (e : Event) (i : ℕ) → licence net st left s k ≡ Some e → told e ≡ Told.Saw i →
-      length (option_map_or (bytes_at pool) (hand_on (Pure.wire_in d s i)) []) ≡ length (bytes_with true e)
+      length (option_map_or (bytes_at pool) (hand_on (Telling.wire_in d s i)) []) ≡ length (bytes_with true e)
   looks_long s k e i may is = go e may is
     where
-      go : (f : Event) → licence net st left s k ≡ Some f → told f ≡ Told.Saw i → length (option_map_or (bytes_at pool) (hand_on (Pure.wire_in d s i)) []) ≡ length (bytes_with true f)
+      go : (f : Event) → licence net st left s k ≡ Some f → told f ≡ Told.Saw i → length (option_map_or (bytes_at pool) (hand_on (Telling.wire_in d s i)) []) ≡ length (bytes_with true f)
       go (Saw j rec) may is =
           let same : j ≡ i = cc in
           let there = shows_it net (bytes_at pool) st left d sound.run.kept s i rec (subst (λ z. at_hand net st left (link_in net st s z) ≡ Some rec) same (saw_it net st left s k j rec may)) in
@@ -156,10 +156,10 @@ module _ {S : Type 0} (stands : S → Strand → List Event → Type 0) (net : N
 
   -- the record that a strand saw last, where that was its last event
   pub bytes_are : (s : Who) (e : Event) (h : List Event) (i : ℕ) → past st s ≡ e ∷ h → has_ended h ≡ false → told e ≡ Told.Saw i →
-      option_map_or (bytes_at pool) (sight_through d.sights (Pure.sight_door d s i)) [] ≡ bytes_with true e
+      option_map_or (bytes_at pool) (sight_through d.sights (Telling.sight_door d s i)) [] ≡ bytes_with true e
   bytes_are s e h i past_is going is = go e past_is is
     where
-      go : (f : Event) → past st s ≡ f ∷ h → told f ≡ Told.Saw i → option_map_or (bytes_at pool) (sight_through d.sights (Pure.sight_door d s i)) [] ≡ bytes_with true f
+      go : (f : Event) → past st s ≡ f ∷ h → told f ≡ Told.Saw i → option_map_or (bytes_at pool) (sight_through d.sights (Telling.sight_door d s i)) [] ≡ bytes_with true f
       go (Saw j rec) past_is is =
           let same : j ≡ i = cc in
           sight_bytes net (bytes_at pool) st left d sound.run.kept s (ap has_ended past_is ∙ going) i
@@ -261,7 +261,7 @@ module _ {S : Type 0} (stands : S → Strand → List Event → Type 0) (net : N
     pub goes_on : has_ended (past st s) ≡ false
     goes_on = goes net st left s k e may
 
-    pub is_live : Pure.ended_at d s ≡ false
+    pub is_live : Telling.ended_at d s ≡ false
     is_live = ended_here s in_range ∙ goes_on
 
     pub lawful_turned : length journal < budget → (b : Bool) → IsLawful (record { net = net; budget = budget; journal = journal ++ entry ∷ []; out = out ++ suc (length journal) ∷ []; is_broken = b })
@@ -271,11 +271,11 @@ module _ {S : Type 0} (stands : S → Strand → List Event → Type 0) (net : N
       bounded = sound.bounded;
     }
 
-    pub can_turn : (seen : Seen) → told e ≡ seen → CanMove d pool s seen
-    can_turn seen at = subst (CanMove d pool s) at (run_can net st left d pool sound.formed own sound.run short s k e may)
+    pub can_turn : (seen : Seen) → told e ≡ seen → CanTurn d pool s seen
+    can_turn seen at = subst (CanTurn d pool s) at (run_can net st left d pool sound.formed own sound.run short s k e may)
 
     module _ (a : Actor S) (stage : S) (there : slice_get actors s ≡ Some a) (was : a.stage ≡ Some stage) (seen : Seen) (seen_at : told e ≡ seen) (b : Actor S) (b_out : b.stage ≡ None) (b_looks : b.looks ≡ a.looks) (b_end : b.saw_end ≡ (a.saw_end || is_end seen))
-        (space : length journal < budget) (d' : DeskState) (pool' : PoolState) (desk_is : d' ≡ made d s seen) (pool_is : pool' ≡ pool_moved d pool s seen) where
+        (space : length journal < budget) (d' : DeskState) (pool' : PoolState) (desk_is : d' ≡ desk_after_turn d s seen) (pool_is : pool' ≡ pool_after_turn d pool s seen) where
       abbrev longer : List Entry
       longer = journal ++ entry ∷ []
 
@@ -341,11 +341,11 @@ module _ {S : Type 0} (stands : S → Strand → List Event → Type 0) (net : N
         bounded = sound.bounded;
         last = last_turned net journal entry in_range same_past out sound.last is_home;
         apart = apart_turned net journal entry out sound.last sound.apart is_home;
-        run = subst (λ y. IsRun net y (left_by longer out') d' pool') (sym now)
-            (subst (λ y. IsRun net (with_event st s e) y d' pool') (sym left_is)
-            (subst (λ y. IsRun net (with_event st s e) (left_out left s) y pool') (sym desk_is ∙ refl)
-            (subst (λ y. IsRun net (with_event st s e) (left_out left s) (made d s seen) y) (sym pool_is)
-            (subst (λ y. IsRun net (with_event st s e) (left_out left s) (made d s y) (pool_moved d pool s y)) seen_at
+        run = subst (λ y. RunStands net y (left_by longer out') d' pool') (sym now)
+            (subst (λ y. RunStands net (with_event st s e) y d' pool') (sym left_is)
+            (subst (λ y. RunStands net (with_event st s e) (left_out left s) y pool') (sym desk_is ∙ refl)
+            (subst (λ y. RunStands net (with_event st s e) (left_out left s) (desk_after_turn d s seen) y) (sym pool_is)
+            (subst (λ y. RunStands net (with_event st s e) (left_out left s) (desk_after_turn d s y) (pool_after_turn d pool s y)) seen_at
             (run_made net st left d pool sound.formed own sound.run short s k e may)))));
         strands = actors_turned;
       }
@@ -402,26 +402,26 @@ module _ {S : Type 0} (stands : S → Strand → List Event → Type 0) (net : N
     seen : IsSeenBefore want (past st s)
     seen = subst (IsSeenBefore want) (sym home_past) (done.seen strand.0 strand.1)
 
-    pub ended_is : Pure.ended_at d s ≡ has_ended (past st s)
+    pub ended_is : Telling.ended_at d s ≡ has_ended (past st s)
     ended_is = ended_here s place
 
-    pub can_home : Pure.ended_at d s ≡ false → CanCome d pool s want
+    pub can_home : Telling.ended_at d s ≡ false → CanCome d pool s want
     can_home not_ended = run_can_come net st left d pool sound.formed own sound.run s strand.0 want away strand.1 (sym ended_is ∙ not_ended) (asks (sym ended_is ∙ not_ended)) seen
 
-    pub came : (d' : DeskState) (pool' : PoolState) → HasReturned d pool s want d' pool' → IsRun net st (left_in left s) d' pool'
+    pub came : (d' : DeskState) (pool' : PoolState) → HasReturned d pool s want d' pool' → RunStands net st (left_in left s) d' pool'
     came d' pool' returned = elim returned [
-      | inl gone ↦ subst (λ x. IsRun net st (left_in left s) x pool') (sym gone.1) (subst (IsRun net st (left_in left s) d) (sym gone.2) (run_gone net st left d pool sound.formed own sound.run s (sym ended_is ∙ gone.0)))
+      | inl gone ↦ subst (λ x. RunStands net st (left_in left s) x pool') (sym gone.1) (subst (RunStands net st (left_in left s) d) (sym gone.2) (run_gone net st left d pool sound.formed own sound.run s (sym ended_is ∙ gone.0)))
       | inr come ↦ run_home net st left d pool sound.formed own sound.run s strand.0 want away strand.1 (sym ended_is ∙ come.0) (asks (sym ended_is ∙ come.0)) seen d' pool' come.1
     ]
 
-    pub came_early : Pure.ended_at d s ≡ false → StaysEarly d pool s want
+    pub came_early : Telling.ended_at d s ≡ false → StaysEarly d pool s want
     came_early not_ended d' pool' come = early_on net st sound.formed own (bytes_at pool') (left_in left s) d' (came d' pool' (inr (not_ended, come))).kept
 
     left_now : left_by journal (without p out) ≡ left_in left s
     left_now = left_home net journal s p its out sound.apart among
 
-    module _ (d' : DeskState) (pool' : PoolState) (a : Actor S) (there : slice_get actors s ≡ Some a) (run : IsRun net st (left_in left s) d' pool')
-        (asked : Asked) (bared : Pure.ended_at d s ≡ false → asked ≡ bare want) where
+    module _ (d' : DeskState) (pool' : PoolState) (a : Actor S) (there : slice_get actors s ≡ Some a) (run : RunStands net st (left_in left s) d' pool')
+        (asked : Asked) (bared : Telling.ended_at d s ≡ false → asked ≡ bare want) where
       abbrev new : Actor S
       new = come_back stage asked a
 
@@ -487,6 +487,6 @@ module _ {S : Type 0} (stands : S → Strand → List Event → Type 0) (net : N
         bounded = sound.bounded;
         last = last_home net journal s p its out sound.last;
         apart = apart_home net journal s p its out sound.apart;
-        run = subst (λ l. IsRun net st l d' pool') (sym left_now) run;
+        run = subst (λ l. RunStands net st l d' pool') (sym left_now) run;
         strands = actors_home;
       }

@@ -23,10 +23,10 @@ use Rattle.record_pool.specs.PoolState.{PoolState}
 use Rattle.record_pool.specs.Places.{bytes_at}
 use Rattle.stage_steps.specs.Coroutine.{told, meaning, last_seen, IsSeenBefore}
 use Rattle.run_desk.specs.Desk.{DeskState}
-use Rattle.run_desk.specs.Kept.{left_in}
-use Rattle.run_desk.specs.Moves.{CanCome, HasCome, bare}
-use Rattle.run_desk.specs.Order.{IsRun, out_from}
-use Rattle.run_desk.specs.Pure as Pure
+use Rattle.run_desk.specs.Standing.{left_in}
+use Rattle.run_desk.specs.Turns.{CanCome, HasCome, bare}
+use Rattle.run_desk.specs.Holding.{RunStands, out_from}
+use Rattle.run_desk.specs.Telling as Telling
 use Rattle.run_desk.proofs.Runs.{run_can_come, run_home}
 use Rattle.run_desk.proofs.Sees.{seen_is}
 use Rattle.core_machine.specs.declared.actor.Actor.{Actor}
@@ -118,11 +118,11 @@ module _ (net : Net) where
       go (Some p) is = ap (λ b. cond b None (want_after (strand_at net nothing_yet t) [])) (all_out t (length net.strands) (slice_get_within net.strands t _ is))
 
   -- so the empty set covers those that may go on
-  pub covers_first : IsWellFormed net → (d : DeskState) (pool : PoolState) → IsRun net nothing_yet (out_from 0 (length net.strands)) d pool → (ready : Members) → IsCovering d ready
+  pub covers_first : IsWellFormed net → (d : DeskState) (pool : PoolState) → RunStands net nothing_yet (out_from 0 (length net.strands)) d pool → (ready : Members) → IsCovering d ready
   covers_first formed d pool run ready t k may =
       let seen = seen_is net (bytes_at pool) nothing_yet (out_from 0 (length net.strands)) d formed run.kept t k in
       let none : licence net nothing_yet (out_from 0 (length net.strands)) t k ≡ None = ap (answer (sight_of net nothing_yet (out_from 0 (length net.strands)) t) k) (no_want t) in
-      let off : is_some (Pure.seen_at d t k) ≡ false = ap is_some (seen ∙ ap (option_map told) none) in
+      let off : is_some (Telling.seen_at d t k) ≡ false = ap is_some (seen ∙ ap (option_map told) none) in
       (let no : true ≡ false = sym may ∙ off in cc)
 
 module _ {S : Type 0} (stands : S → Strand → List Event → Type 0) (net : Net) (formed : IsWellFormed net) where
@@ -154,10 +154,10 @@ module _ {S : Type 0} (stands : S → Strand → List Event → Type 0) (net : N
       early = early_on net nothing_yet formed (own_first net) (bytes_at pool) (out_from s n) d called.run.kept;
     }
 
-    pub called_live : false ≡ Pure.ended_at d s
+    pub called_live : false ≡ Telling.ended_at d s
     called_live =
         let a = at_some d.seats s (subst (λ n. s < n) (sym called.run.kept.laid.seat_count) within) in
-        sym (ap Pure.ended_of a.1 ∙ (called.run.kept.seats s a.0 a.1).ended)
+        sym (ap Telling.ended_of a.1 ∙ (called.run.kept.seats s a.0 a.1).ended)
 
     module _ (want : Asked) (asks : (a : Actor S) (x : S) → slice_get actors s ≡ Some a → a.stage ≡ Some x → (p : Strand) → stands x p [] → Some (meaning want (last_seen [])) ≡ next p []) where
       means : Some (meaning want (last_seen [])) ≡ next its_strand.0 []
@@ -171,8 +171,8 @@ module _ {S : Type 0} (stands : S → Strand → List Event → Type 0) (net : N
       pub can_call : CanCome d pool s want
       can_call = run_can_come net nothing_yet (out_from s n) d pool formed (own_first net) called.run s its_strand.0 want (still_out s n within) its_strand.1 refl means seen
 
-      pub called_run : (d' : DeskState) (pool' : PoolState) → HasCome d pool s want d' pool' → IsRun net nothing_yet (out_from (suc s) n) d' pool'
-      called_run d' pool' come = subst (λ l. IsRun net nothing_yet l d' pool') (next_in s n)
+      pub called_run : (d' : DeskState) (pool' : PoolState) → HasCome d pool s want d' pool' → RunStands net nothing_yet (out_from (suc s) n) d' pool'
+      called_run d' pool' come = subst (λ l. RunStands net nothing_yet l d' pool') (next_in s n)
           (run_home net nothing_yet (out_from s n) d pool formed (own_first net) called.run s its_strand.0 want (still_out s n within) its_strand.1 refl means seen d' pool' come)
 
       pub called_early : StaysEarly d pool s want
@@ -228,7 +228,7 @@ module _ {S : Type 0} (stands : S → Strand → List Event → Type 0) (net : N
 
   -- Before any
 
-  pub none_called : (stages : List S) (actors : List (Actor S)) (d : DeskState) (pool : PoolState) → AreFresh stands net.strands stages → AreNew stands stages actors → IsRun net nothing_yet (out_from 0 n) d pool →
+  pub none_called : (stages : List S) (actors : List (Actor S)) (d : DeskState) (pool : PoolState) → AreFresh stands net.strands stages → AreNew stands stages actors → RunStands net nothing_yet (out_from 0 n) d pool →
       IsCalled stands net 0 actors d pool
   none_called stages actors d pool fresh new run = record {
     run = run;
@@ -271,7 +271,7 @@ module _ {S : Type 0} (stands : S → Strand → List Event → Type 0) (net : N
     bounded = bounded;
     last = tt;
     apart = tt;
-    run = subst (λ l. IsRun net nothing_yet l d pool) (none_out n) called.run;
+    run = subst (λ l. RunStands net nothing_yet l d pool) (none_out n) called.run;
     strands = record {
       count = called.count;
       each = λ t p x is at. subst (λ l. IsActor stands [] (want_at net nothing_yet l t) p x) (none_out n) (called.each t p x is at);

@@ -14,8 +14,8 @@ use Rattle.record_pool.specs.PoolState.{PoolState}
 use Rattle.record_pool.specs.Places.{bytes_at}
 use Rattle.commit_levels.specs.UnitState.{Member}
 use Rattle.run_desk.specs.Desk.{DeskState}
-use Rattle.run_desk.specs.Kept.{asked}
-use Rattle.run_desk.specs.Pure as Pure
+use Rattle.run_desk.specs.Standing.{asked}
+use Rattle.run_desk.specs.Telling as Telling
 use Rattle.run_desk.proofs.Sees.{ask_is}
 use Rattle.core_machine.specs.declared.actor.Actor.{Actor}
 use Rattle.core_machine.specs.Answered.{LeastStream, Shows, end_of}
@@ -44,7 +44,7 @@ out_fits net journal (p ∷ ps) last apart =
     omega (arith, a)
 
 -- who asks for something has a want
-some_want : (w : Option Want) → Pure.asks_nothing (asked w) ≡ false → (x : Want) × (w ≡ Some x)
+some_want : (w : Option Want) → Telling.asks_nothing (asked w) ≡ false → (x : Want) × (w ≡ Some x)
 some_want None is = cc
 some_want (Some x) is = (x, refl)
 
@@ -57,7 +57,7 @@ module _ {S : Type 0} (stands : S → Strand → List Event → Type 0) (net : N
   -- Readiness
 
   -- the least stream on the desk is the strand's least stream
-  pub stream_is : (s : Who) (r : Option ℕ) → Pure.IsFirst d s r → LeastStream seen_as s r
+  pub stream_is : (s : Who) (r : Option ℕ) → Telling.IsFirst d s r → LeastStream seen_as s r
   stream_is s None is = λ k. none_is stands net budget journal out actors d pool sound s k (is k)
   stream_is s (Some j) is = (
     sym (ready_is stands net budget journal out actors d pool sound s j) ∙ is.0,
@@ -76,7 +76,7 @@ module _ {S : Type 0} (stands : S → Strand → List Event → Type 0) (net : N
           absurd (omega (arith, a, b, beyond))
 
   -- where none is out and no strand may go on, it has stopped
-  pub stopped : out ≡ [] → ((s k : ℕ) → s < length actors → Pure.seen_at d s k ≡ None) → HasStopped seen_as
+  pub stopped : out ≡ [] → ((s k : ℕ) → s < length actors → Telling.seen_at d s k ≡ None) → HasStopped seen_as
   stopped none each = (none, λ s k. by s k (cases_lt s (length actors)))
     where
       by : (s k : ℕ) → (s < length actors) ⊎ (length actors ≤ s) → licence_of seen_as s k ≡ None
@@ -84,7 +84,7 @@ module _ {S : Type 0} (stands : S → Strand → List Event → Type 0) (net : N
       by s k (inr b) = nobody_goes s k b
 
   -- where a strand has a stream, it hasn't
-  pub goes_on : (s : Who) (r : Option ℕ) → Pure.IsFirst d s r → is_some r ≡ true → HasStopped seen_as → ⊥
+  pub goes_on : (s : Who) (r : Option ℕ) → Telling.IsFirst d s r → is_some r ≡ true → HasStopped seen_as → ⊥
   goes_on s None is some all = cc
   goes_on s (Some j) is some all =
       let a : is_some (licence_of seen_as s j) ≡ true = (stream_is s (Some j) is).0 in
@@ -101,10 +101,10 @@ module _ {S : Type 0} (stands : S → Strand → List Event → Type 0) (net : N
   -- Wants and ends
 
   -- what is kept of a strand shows its want
-  pub wanted_shown : (s : Who) (actor : Actor S) → slice_get actors s ≡ Some actor → Pure.asks_nothing (Pure.ask_at d s) ≡ false →
+  pub wanted_shown : (s : Who) (actor : Actor S) → slice_get actors s ≡ Some actor → Telling.asks_nothing (Telling.ask_at d s) ≡ false →
       (w : Want) × (want_of seen_as s ≡ Some w) × Shows (past (state_of seen_as) s) actor.asked w
   wanted_shown s actor at is =
-      let x = some_want (want_of seen_as s) (ap Pure.asks_nothing (sym (ask_is net (bytes_at pool) (play net journal) (left_by journal out) d sound.formed sound.run.kept s)) ∙ is) in
+      let x = some_want (want_of seen_as s) (ap Telling.asks_nothing (sym (ask_is net (bytes_at pool) (play net journal) (left_by journal out) d sound.formed sound.run.kept s)) ∙ is) in
       let p = its_strand s actor at in
       (x.0, x.1, (sound.strands.each s p.0 actor p.1 at).asked x.0 x.1)
     where

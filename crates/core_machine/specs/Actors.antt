@@ -7,7 +7,7 @@ use Rattle.pipe_model.specs.declared.step.Want.{Want}
 use Rattle.record_pool.specs.PoolState.{PoolState}
 use Rattle.record_pool.specs.Places.{bytes_at}
 use Rattle.run_desk.specs.Desk.{DeskState}
-use Rattle.run_desk.specs.Pure.{sight_door, sight_through}
+use Rattle.run_desk.specs.Telling.{sight_door, sight_through}
 use Rattle.core_machine.specs.declared.actor.Actor.{Actor}
 
 -- it is told that input 0 has ended

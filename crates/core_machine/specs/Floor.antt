@@ -7,8 +7,8 @@ use Rattle.pipe_model.specs.Licence.{Left}
 use Rattle.pipe_model.specs.WellFormed.{IsWellFormed}
 use Rattle.record_pool.specs.PoolState.{PoolState}
 use Rattle.run_desk.specs.Desk.{DeskState}
-use Rattle.run_desk.specs.Kept.{IsKept}
-use Rattle.run_desk.specs.Moves.{HasCome}
+use Rattle.run_desk.specs.Standing.{DeskStands}
+use Rattle.run_desk.specs.Turns.{HasCome}
 use Rattle.core_machine.specs.Members.{Members}
 use Rattle.core_machine.specs.Woken.{IsCovering, AsksEarly}
 
@@ -30,7 +30,7 @@ pub record IsInUse (net : Net) (d : DeskState) : Type 0 where
   pub texts : ℕ → List ℕ
   pub st : State
   pub left : Left
-  pub kept : IsKept net texts st left d
+  pub kept : DeskStands net texts st left d
   pub early : AsksEarly d
 
 -- no strand asks for another after this one came home with this want

@@ -9,7 +9,7 @@ use Rattle.pipe_model.specs.Table.{form}
 use Rattle.pipe_model.specs.Licence.{want_at}
 use Rattle.record_pool.specs.PoolState.{PoolState}
 use Rattle.run_desk.specs.Desk.{DeskState}
-use Rattle.run_desk.specs.Order.{IsRun, out_from}
+use Rattle.run_desk.specs.Holding.{RunStands, out_from}
 use Rattle.core_machine.specs.declared.actor.Actor.{Actor}
 use Rattle.core_machine.specs.Sound.{IsActor}
 
@@ -36,7 +36,7 @@ AreNew stands _ _ = ⊥
 
 -- the strands below a number have asked for what they want first, and the others are out
 pub record IsCalled {S : Type 0} (stands : S → Strand → List Event → Type 0) (net : Net) (s : Who) (actors : List (Actor S)) (d : DeskState) (pool : PoolState) : Type 0 where
-  pub run : IsRun net nothing_yet (out_from s (length net.strands)) d pool
+  pub run : RunStands net nothing_yet (out_from s (length net.strands)) d pool
   pub count : length actors ≡ length net.strands
   pub each : (t : Who) (p : Strand) (actor : Actor S) → strand_at net nothing_yet t ≡ Some p → slice_get actors t ≡ Some actor →
       IsActor stands [] (want_at net nothing_yet (out_from s (length net.strands)) t) p actor

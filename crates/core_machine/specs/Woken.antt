@@ -8,18 +8,18 @@ use Rattle.pipe_model.specs.declared.step.Want.TheVariants as want
 use Rattle.run_desk.specs.declared.seat.Ask.TheVariants as Ask
 use Rattle.run_desk.specs.Desk.{DeskState}
 use Rattle.record_pool.specs.PoolState.{PoolState}
-use Rattle.run_desk.specs.Kept.{link_through}
-use Rattle.run_desk.specs.Moves.{HasCome, ends, sees}
-use Rattle.run_desk.specs.Pure as Pure
+use Rattle.run_desk.specs.Standing.{link_through}
+use Rattle.run_desk.specs.Turns.{HasCome, ends, sees}
+use Rattle.run_desk.specs.Telling as Telling
 use Rattle.core_machine.specs.Members.{Members, is_member}
 
 -- every strand that may go on is in the set
 abbrev pub IsCovering : DeskState → Members → Type 0
-IsCovering d set = (s k : ℕ) → is_some (Pure.seen_at d s k) ≡ true → is_member set s ≡ true
+IsCovering d set = (s k : ℕ) → is_some (Telling.seen_at d s k) ≡ true → is_member set s ≡ true
 
 -- no strand asks for another commit level than -1 and 0
 abbrev pub AsksEarly : DeskState → Type 0
-AsksEarly d = (t : ℕ) (level : ℤ) → Pure.ask_at d t ≡ Ask.Commit level → (level ≡ negsuc 0) ⊎ (level ≡ pos 0)
+AsksEarly d = (t : ℕ) (level : ℤ) → Telling.ask_at d t ≡ Ask.Commit level → (level ≡ negsuc 0) ⊎ (level ≡ pos 0)
 
 -- the links join strands below the size
 abbrev pub AreInside : List Link → ℕ → Type 0
@@ -27,18 +27,18 @@ AreInside links size = (j : ℕ) (link : Link) → slice_get links j ≡ Some li
 
 -- the least strand that may go on, with its least stream, or that there is none
 abbrev pub LeastAwake : DeskState → Option (ℕ × ℕ) → Type 0
-LeastAwake d None = (s k : ℕ) → Pure.seen_at d s k ≡ None
-LeastAwake d (Some r) = Pure.IsFirst d r.0 (Some r.1) × ((t k : ℕ) → t < r.0 → Pure.seen_at d t k ≡ None)
+LeastAwake d None = (s k : ℕ) → Telling.seen_at d s k ≡ None
+LeastAwake d (Some r) = Telling.IsFirst d r.0 (Some r.1) × ((t k : ℕ) → t < r.0 → Telling.seen_at d t k ≡ None)
 
 -- the same, with what the strand would be told there
 abbrev pub LeastEventAwake : DeskState → Option (ℕ × ℕ × Seen) → Type 0
 LeastEventAwake d None = LeastAwake d None
-LeastEventAwake d (Some r) = LeastAwake d (Some (r.0, r.1)) × (Pure.seen_at d r.0 r.1 ≡ Some r.2)
+LeastEventAwake d (Some r) = LeastAwake d (Some (r.0, r.1)) × (Telling.seen_at d r.0 r.1 ≡ Some r.2)
 
 -- the strand came home with this want, or had ended and changed nothing
 abbrev pub HasReturned : DeskState → PoolState → ℕ → Want → DeskState → PoolState → Type 0
 HasReturned d pool s w new after =
-    ((Pure.ended_at d s ≡ true) × (new ≡ d) × (after ≡ pool)) ⊎ ((Pure.ended_at d s ≡ false) × HasCome d pool s w new after)
+    ((Telling.ended_at d s ≡ true) × (new ≡ d) × (after ≡ pool)) ⊎ ((Telling.ended_at d s ≡ false) × HasCome d pool s w new after)
 
 -- Who is woken
 
@@ -63,25 +63,25 @@ OfDoors P doors = (place : ℕ) (door : Option ℕ) → slice_get doors place �
 
 -- the strands at the other ends of a strand's links are in the set, where what it was told concerns them
 abbrev pub AreEndsIn : DeskState → List Link → ℕ → Seen → Members → Type 0
-AreEndsIn d links s (Took i) set = IsProducerIn links set (Pure.in_door d s i)
+AreEndsIn d links s (Took i) set = IsProducerIn links set (Telling.in_door d s i)
 AreEndsIn d links s (Ended code) set =
-    OfDoors (IsConsumerIn links set) (Pure.outputs_of (slice_get d.doors s)) × OfDoors (IsProducerIn links set) (Pure.inputs_of (slice_get d.doors s))
+    OfDoors (IsConsumerIn links set) (Telling.outputs_of (slice_get d.doors s)) × OfDoors (IsProducerIn links set) (Telling.inputs_of (slice_get d.doors s))
 AreEndsIn d links s _ set = Unit {0}
 
 -- the strand at the other end of the link that a strand writes on is in the set
 abbrev pub IsReaderIn : DeskState → List Link → ℕ → Want → Members → Type 0
-IsReaderIn d links s (want.Write o out) set = IsConsumerIn links set (Pure.out_door d s o)
+IsReaderIn d links s (want.Write o out) set = IsConsumerIn links set (Telling.out_door d s o)
 IsReaderIn d links s _ set = Unit {0}
 
 -- the other strands of the stage whose first one this is are in the set: those that follow it, as long as they are of that stage
 abbrev pub IsStageIn : DeskState → ℕ → Members → Type 0
-IsStageIn d s set = (u : ℕ) → s < u → u < set.size → ((t : ℕ) → s < t → t ≤ u → Pure.first_of t (slice_get d.doors t) ≡ s) → is_member set u ≡ true
+IsStageIn d s set = (u : ℕ) → s < u → u < set.size → ((t : ℕ) → s < t → t ≤ u → Telling.first_of t (slice_get d.doors t) ≡ s) → is_member set u ≡ true
 
 -- What one event may settle for many
 
 -- what is told may settle something: the strand's end, or the first record that it sees
 abbrev pub may_settle : DeskState → ℕ → Seen → Bool
-may_settle d s seen = ends seen || (sees seen && not (is_some (Pure.primed_of (slice_get d.seats s))))
+may_settle d s seen = ends seen || (sees seen && not (is_some (Telling.primed_of (slice_get d.seats s))))
 
 -- the want may fill a commit level
 abbrev pub commits : Want → Bool

@@ -1,6 +1,6 @@
 //! What the strands of a net stand on: its desk, its pool and the set of those that may be ready, changed together.
 ghost use Rattle.std.specs.Prelude.{◌≡◌, ◌<◌, ◌||◌, ℕ, is_some, true};
-ghost use Rattle.run_desk.specs.Pure as Pure;
+ghost use Rattle.run_desk.specs.Telling as Telling;
 ghost use Rattle.core_machine.specs.Woken.{IsCovering};
 
 use crate::ready::Ready;
@@ -39,9 +39,9 @@ impl Floor {
     ghost use Rattle.record_pool.specs.Places.{bytes_at};
     ghost use Rattle.commit_levels.specs.UnitState.{Member};
     ghost use Rattle.connectors.specs.WireState.{IsHeldIn};
-    ghost use Rattle.run_desk.specs.Moves.{CanMove, CanCome, HasCome, bare, bare_out, hand_on, made, pool_moved};
-    ghost use Rattle.run_desk.specs.Order.{IsRun, IsPooled, out_from};
-    ghost use Rattle.run_desk.specs.Pure as Pure;
+    ghost use Rattle.run_desk.specs.Turns.{CanTurn, CanCome, HasCome, bare, bare_out, hand_on, desk_after_turn, pool_after_turn};
+    ghost use Rattle.run_desk.specs.Holding.{RunStands, IsPooled, out_from};
+    ghost use Rattle.run_desk.specs.Telling as Telling;
     ghost use Rattle.std.specs.Option.{option_map_or};
     ghost use Rattle.core_machine.specs.Actors.{bytes_told};
     ghost use Rattle.core_machine.specs.Floor.{IsInUse, StaysEarly};
@@ -54,7 +54,7 @@ impl Floor {
         requires formed { IsWellFormed net }
         requires rendezvous { HasNoQueue net }
         ensures net { IfOk result (λ floor. floor.net ≡ net) }
-        ensures run { IfOk result (λ floor. IsRun net nothing_yet (out_from 0 (length net.strands)) floor.desk floor.pool) }
+        ensures run { IfOk result (λ floor. RunStands net nothing_yet (out_from 0 (length net.strands)) floor.desk floor.pool) }
     {
         let ready = Ready::new(alloc, net.strands.as_slice().len() as u32)?;
         let desk = Desk::blank(alloc, &net)?;
@@ -71,13 +71,13 @@ impl Floor {
     #[inline(always)]
     pub(crate) fn make(&mut self, strand: u32, seen: Seen)
         requires used { IsInUse self.old.net self.old.desk }
-        requires can { CanMove self.old.desk self.old.pool strand seen }
-        requires live { Pure.ended_at self.old.desk strand ≡ false }
+        requires can { CanTurn self.old.desk self.old.pool strand seen }
+        requires live { Telling.ended_at self.old.desk strand ≡ false }
         requires strand { strand < length self.old.net.strands }
         ensures net { self.new.net ≡ self.old.net }
-        ensures desk { self.new.desk ≡ made self.old.desk strand seen }
-        ensures pool { self.new.pool ≡ pool_moved self.old.desk self.old.pool strand seen }
-        ensures awake { (k : ℕ) → is_some (Pure.seen_at self.old.desk strand k) ≡ true → is_member self.new.ready strand ≡ true }
+        ensures desk { self.new.desk ≡ desk_after_turn self.old.desk strand seen }
+        ensures pool { self.new.pool ≡ pool_after_turn self.old.desk self.old.pool strand seen }
+        ensures awake { (k : ℕ) → is_some (Telling.seen_at self.old.desk strand k) ≡ true → is_member self.new.ready strand ≡ true }
     {
         if may_settle(&self.desk, strand, seen) {
             self.make_settling(strand, seen);
@@ -98,13 +98,13 @@ impl Floor {
     #[inline(never)]
     fn make_settling(&mut self, strand: u32, seen: Seen)
         requires used { IsInUse self.old.net self.old.desk }
-        requires can { CanMove self.old.desk self.old.pool strand seen }
-        requires live { Pure.ended_at self.old.desk strand ≡ false }
+        requires can { CanTurn self.old.desk self.old.pool strand seen }
+        requires live { Telling.ended_at self.old.desk strand ≡ false }
         requires strand { strand < length self.old.net.strands }
         ensures net { self.new.net ≡ self.old.net }
-        ensures desk { self.new.desk ≡ made self.old.desk strand seen }
-        ensures pool { self.new.pool ≡ pool_moved self.old.desk self.old.pool strand seen }
-        ensures awake { (k : ℕ) → is_some (Pure.seen_at self.old.desk strand k) ≡ true → is_member self.new.ready strand ≡ true }
+        ensures desk { self.new.desk ≡ desk_after_turn self.old.desk strand seen }
+        ensures pool { self.new.pool ≡ pool_after_turn self.old.desk self.old.pool strand seen }
+        ensures awake { (k : ℕ) → is_some (Telling.seen_at self.old.desk strand k) ≡ true → is_member self.new.ready strand ≡ true }
     {
         let before = settled_before(&self.desk, strand, true, ends(seen));
         wake_ends(
@@ -128,7 +128,7 @@ impl Floor {
         want: &mut Want,
     ) -> Result<(), NoMemory>
         requires used { IsInUse self.old.net self.old.desk }
-        requires ended { has_ended ≡ Pure.ended_at self.old.desk strand }
+        requires ended { has_ended ≡ Telling.ended_at self.old.desk strand }
         requires can { has_ended ≡ false → CanCome self.old.desk self.old.pool strand want.old }
         requires early { has_ended ≡ false → StaysEarly self.old.desk self.old.pool strand want.old }
         requires here { is_member self.old.ready strand ≡ true }
@@ -238,28 +238,28 @@ impl Floor {
 
     /// What a strand would be told on a stream, where it may go on there.
     pub(crate) fn seen_at(&self, strand: u32, stream: u16) -> Option<Seen>
-        ensures { result ≡ Pure.seen_at self.now.desk strand stream }
+        ensures { result ≡ Telling.seen_at self.now.desk strand stream }
     {
         self.desk.seen_at(strand, stream)
     }
 
     /// The least stream on which a strand may go on.
     pub(crate) fn ready_stream(&self, strand: u32) -> Option<u16>
-        ensures { Pure.IsFirst self.now.desk strand result }
+        ensures { Telling.IsFirst self.now.desk strand result }
     {
         self.desk.ready_stream(strand)
     }
 
     /// Whether a strand asks for nothing: it is out, or has ended.
     pub(crate) fn asks_nothing(&self, strand: u32) -> bool
-        ensures { result ≡ Pure.asks_nothing (Pure.ask_at self.now.desk strand) }
+        ensures { result ≡ Telling.asks_nothing (Telling.ask_at self.now.desk strand) }
     {
         self.desk.asks_nothing(strand)
     }
 
     /// Whether a strand has ended.
     pub(crate) fn has_ended(&self, strand: u32) -> bool
-        ensures { result ≡ Pure.ended_at self.now.desk strand }
+        ensures { result ≡ Telling.ended_at self.now.desk strand }
     {
         self.desk.has_ended(strand)
     }
@@ -274,15 +274,15 @@ impl Floor {
 
     /// The number of bytes of the record at hand on a strand's input, and 0 where none is.
     pub(crate) fn size_at_hand(&self, strand: u32, i: u16) -> usize
-        requires { IsHeldIn self.now.pool (hand_on (Pure.wire_in self.now.desk strand i)) }
-        ensures { result ≡ length (option_map_or (bytes_at self.now.pool) (hand_on (Pure.wire_in self.now.desk strand i)) []) }
+        requires { IsHeldIn self.now.pool (hand_on (Telling.wire_in self.now.desk strand i)) }
+        ensures { result ≡ length (option_map_or (bytes_at self.now.pool) (hand_on (Telling.wire_in self.now.desk strand i)) []) }
     {
         self.desk.size_at_hand(&self.pool, strand, i)
     }
 
     /// The bytes that go with what a strand was told last, where it looks.
     pub(crate) fn bytes_told(&self, looks: bool, strand: u32, seen: Seen) -> &[u8]
-        requires { (i : ℕ) → IsHeldIn self.now.pool (Pure.sight_through self.now.desk.sights (Pure.sight_door self.now.desk strand i)) }
+        requires { (i : ℕ) → IsHeldIn self.now.pool (Telling.sight_through self.now.desk.sights (Telling.sight_door self.now.desk strand i)) }
         ensures { result.now ≡ bytes_told looks self.now.desk self.now.pool strand seen }
     {
         match seen {
@@ -310,7 +310,7 @@ impl Floor {
 // Takes out a strand that came home to write through a door and can't go on yet.
 fn rest(ready: &mut Ready, desk: &Desk, strand: u32, door: Option<u32>)
     requires strand { strand < ready.old.size }
-    requires writes { (k : ℕ) → is_some (Pure.seen_at desk.now strand k) ≡ true → (Pure.can_put (Pure.through desk.now.wires door) || Pure.can_refuse (Pure.through desk.now.wires door)) ≡ true }
+    requires writes { (k : ℕ) → is_some (Telling.seen_at desk.now strand k) ≡ true → (Telling.can_put (Telling.through desk.now.wires door) || Telling.can_refuse (Telling.through desk.now.wires door)) ≡ true }
     ensures size { ready.new.size ≡ ready.old.size }
     ensures covers { IsCovering desk.now ready.old → IsCovering desk.now ready.new }
 {

@@ -1,7 +1,7 @@
 //! What one event may settle for many: a commit level that is full, and whether a stage's first strand has seen a record.
 ghost use Rattle.std.specs.Prelude.{◌≡◌, ◌<◌, ◌||◌, not, slice_get, is_some, true, false, pos, negsuc};
-ghost use Rattle.run_desk.specs.Moves.{ends};
-ghost use Rattle.run_desk.specs.Pure as Pure;
+ghost use Rattle.run_desk.specs.Turns.{ends};
+ghost use Rattle.run_desk.specs.Telling as Telling;
 ghost use Rattle.core_machine.specs.Woken.{IsLarger, IsWhole, IsStageIn, may_settle};
 
 use crate::ready::Ready;
@@ -36,9 +36,9 @@ pub(crate) struct Settled {
 
 /// What is settled before the event.
 pub(crate) fn settled_before(desk: &Desk, strand: u32, primes: bool, fills: bool) -> Settled
-    ensures primer { result.primer ≡ (not primes || is_some (Pure.primed_of (slice_get desk.now.seats strand))) }
-    ensures low { result.low ≡ (not fills || is_some (Pure.level_code desk.now (negsuc 0))) }
-    ensures zero { result.zero ≡ (not fills || is_some (Pure.level_code desk.now (pos 0))) }
+    ensures primer { result.primer ≡ (not primes || is_some (Telling.primed_of (slice_get desk.now.seats strand))) }
+    ensures low { result.low ≡ (not fills || is_some (Telling.level_code desk.now (negsuc 0))) }
+    ensures zero { result.zero ≡ (not fills || is_some (Telling.level_code desk.now (pos 0))) }
 {
     Settled {
         primer: !primes || desk.is_primer(strand),
@@ -51,9 +51,9 @@ pub(crate) fn settled_before(desk: &Desk, strand: u32, primes: bool, fills: bool
 pub(crate) fn wake_settled(ready: &mut Ready, desk: &Desk, strand: u32, before: Settled)
     requires { strand < ready.old.size }
     ensures larger { IsLarger ready.old ready.new }
-    ensures stage { before.primer ≡ false → is_some (Pure.primed_of (slice_get desk.now.seats strand)) ≡ true → IsStageIn desk.now strand ready.new }
-    ensures low { before.low ≡ false → is_some (Pure.level_code desk.now (negsuc 0)) ≡ true → IsWhole ready.new }
-    ensures zero { before.zero ≡ false → is_some (Pure.level_code desk.now (pos 0)) ≡ true → IsWhole ready.new }
+    ensures stage { before.primer ≡ false → is_some (Telling.primed_of (slice_get desk.now.seats strand)) ≡ true → IsStageIn desk.now strand ready.new }
+    ensures low { before.low ≡ false → is_some (Telling.level_code desk.now (negsuc 0)) ≡ true → IsWhole ready.new }
+    ensures zero { before.zero ≡ false → is_some (Telling.level_code desk.now (pos 0)) ≡ true → IsWhole ready.new }
 {
     let primed = !before.primer && desk.is_primer(strand);
     let low = !before.low && desk.level_code(-1).is_some();

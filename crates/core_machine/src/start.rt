@@ -3,7 +3,7 @@ ghost use Rattle.std.specs.Prelude.{◌≡◌, ◌<◌, ◌≤◌, ◌+◌, [], 
 ghost use Rattle.pipe_model.specs.declared.net.Strand.{Strand as StrandIs};
 ghost use Rattle.pipe_model.specs.Next.{next};
 ghost use Rattle.pipe_model.specs.WellFormed.{IsWellFormed};
-ghost use Rattle.run_desk.specs.Order.{IsPooled};
+ghost use Rattle.run_desk.specs.Holding.{IsPooled};
 ghost use Rattle.stage_steps.specs.Coroutine.{meaning, last_seen};
 ghost use Rattle.core_machine.specs.declared.actor.Actor.{Actor as ActorIs};
 ghost use Rattle.core_machine.specs.Actors.{asking_for};

@@ -1,6 +1,6 @@
 //! Who is at the other ends of a strand's links is woken.
 ghost use Rattle.std.specs.Prelude.{◌≡◌};
-ghost use Rattle.run_desk.specs.Kept.{link_through};
+ghost use Rattle.run_desk.specs.Standing.{link_through};
 ghost use Rattle.core_machine.specs.Woken.{AreInside, IsLarger, IsProducerIn, IsConsumerIn, OfDoors, AreEndsIn};
 
 use crate::ready::Ready;

@@ -12,7 +12,7 @@ use Rattle.pipe_model.specs.Licence.{Left, want_after, want_at, licence}
 use Rattle.pipe_model.proofs.Numbers.{test_same}
 use Rattle.confluence_laws.proofs.Basics.{at_other, not_ended}
 use Rattle.confluence_laws.proofs.Owns.{commit_asked, answers_it}
-use Rattle.run_desk.specs.Kept.{left_out}
+use Rattle.run_desk.specs.Standing.{left_out}
 
 module _ (net : Net) (st : State) (left : Left) (s : Who) (k : ℕ) (e : Event) (may : licence net st left s k ≡ Some e) where
   -- the event answers the want

@@ -18,10 +18,10 @@ use Rattle.commit_levels.specs.UnitState.{level_count, place_of, new_member, Mem
 use Rattle.commit_levels.specs.Licensed.{IsStrand}
 use Rattle.commit_levels.specs.declared.member.Progress.TheVariants.{NotAsked}
 use Rattle.run_desk.specs.declared.seat.Seat.{Seat}
-use Rattle.run_desk.specs.Kept.{asked, IsSeat, IsWire, IsSight, IsLaid, IsKept}
-use Rattle.run_desk.specs.Order.{holds, offer_holds, IsPooled, IsRun, out_from}
+use Rattle.run_desk.specs.Standing.{asked, IsSeat, IsWire, IsSight, IsLaid, DeskStands}
+use Rattle.run_desk.specs.Holding.{holds, offer_holds, IsPooled, RunStands, out_from}
 use Rattle.run_desk.specs.Blank.{new_seat, doors_from, inputs_in, blank_desk}
-use Rattle.run_desk.specs.Pure.{joined, sights_of, sight_door, sight_through}
+use Rattle.run_desk.specs.Telling.{joined, sights_of, sight_door, sight_through}
 use Rattle.run_desk.proofs.Counts.{one, count_first}
 use Rattle.run_desk.proofs.Laying.{leads_nowhere, leads_in, leads_out, knows_first}
 use Rattle.run_desk.proofs.Spots.{links_still, spot, spots_apart, few_inputs}
@@ -98,7 +98,7 @@ module _ (net : Net) (formed : IsWellFormed net) (rendezvous : (j : ℕ) (link :
   blank_member s m is =
       subst (λ (z : Member). IsStrand [] (want_at net nothing_yet (out_from 0 (length net.strands)) s) z) (sym is) (subst (λ z. IsStrand [] z new_member) (sym (none_wants s)) new_strand)
 
-  blank_kept : (texts : ℕ → List ℕ) → IsKept net texts nothing_yet (out_from 0 (length net.strands)) (blank_desk net)
+  blank_kept : (texts : ℕ → List ℕ) → DeskStands net texts nothing_yet (out_from 0 (length net.strands)) (blank_desk net)
   blank_kept texts = record {
     laid = blank_laid;
     seats = λ s seat at. blank_seat s seat (get_copy (length net.strands) new_seat seat s at);
@@ -111,7 +111,7 @@ module _ (net : Net) (formed : IsWellFormed net) (rendezvous : (j : ℕ) (link :
   }
 
   -- and so a run may begin
-  pub blank_run : IsRun net nothing_yet (out_from 0 (length net.strands)) (blank_desk net) empty_pool
+  pub blank_run : RunStands net nothing_yet (out_from 0 (length net.strands)) (blank_desk net) empty_pool
   blank_run = record {
     kept = blank_kept (bytes_at empty_pool);
     pooled = blank_pooled (length net.links) (inputs_in net.strands);

@@ -32,10 +32,10 @@ use Rattle.confluence_laws.proofs.Facts.{asking}
 use Rattle.confluence_laws.proofs.Fitting.{past_of, wants_write, stands_for}
 use Rattle.run_desk.specs.declared.seat.Ask.TheVariants as Now
 use Rattle.run_desk.specs.Desk.{DeskState}
-use Rattle.run_desk.specs.Pure.{out_door, sight_door, through, wire_out}
-use Rattle.run_desk.specs.Kept.{link_through}
-use Rattle.run_desk.specs.Order.{IsRun}
-use Rattle.run_desk.specs.Moves.{Behind, CanAsk, CanHold, CanCome}
+use Rattle.run_desk.specs.Telling.{out_door, sight_door, through, wire_out}
+use Rattle.run_desk.specs.Standing.{link_through}
+use Rattle.run_desk.specs.Holding.{RunStands}
+use Rattle.run_desk.specs.Turns.{Behind, CanAsk, CanHold, CanCome}
 use Rattle.run_desk.proofs.Begins.{not_reached}
 use Rattle.run_desk.proofs.Conditions.{sight_held, few_held, within, live, not_asked_at, out_linked}
 use Rattle.run_desk.proofs.Early.{early_level}
@@ -59,7 +59,7 @@ asks_no_write s Gates k o rec asked = let z = asked.want_is in cc
 asks_no_write s Dams k o rec asked = elim asked.want_is [ inl is ↦ cc | inr is ↦ (let z = is.0 in cc) ]
 asks_no_write s Queues k o rec asked = let z = asked.want_is in cc
 
-module _ (net : Net) (st : State) (left : Left) (d : DeskState) (pool : PoolState) (formed : IsWellFormed net) (run : IsRun net st left d pool) (s : Who) (strand : Strand) (there : strand_at net st s ≡ Some strand) (own : IsOwn strand (past st s)) (out : left s ≡ true) (going : has_ended (past st s) ≡ false) where
+module _ (net : Net) (st : State) (left : Left) (d : DeskState) (pool : PoolState) (formed : IsWellFormed net) (run : RunStands net st left d pool) (s : Who) (strand : Strand) (there : strand_at net st s ≡ Some strand) (own : IsOwn strand (past st s)) (out : left s ≡ true) (going : has_ended (past st s) ≡ false) where
   come_to : (level : ℤ) → next strand (past st s) ≡ Some (Commit level) → CanAsk d s (Now.Commit level)
   come_to level wants =
       let is = early_level level (stands_for strand (past st s) own (Commit level) wants).2 in
@@ -110,7 +110,7 @@ module _ (net : Net) (st : State) (left : Left) (d : DeskState) (pool : PoolStat
 
 -- whoever was out can come home with what it wants
 pub can_come : (net : Net) (st : State) (left : Left) (d : DeskState) (pool : PoolState) (s : Who) (strand : Strand) (w : Asking) → IsWellFormed net →
-    ((t : Who) (q : Strand) → strand_at net st t ≡ Some q → IsOwn q (past st t)) → IsRun net st left d pool → left s ≡ true → strand_at net st s ≡ Some strand →
+    ((t : Who) (q : Strand) → strand_at net st t ≡ Some q → IsOwn q (past st t)) → RunStands net st left d pool → left s ≡ true → strand_at net st s ≡ Some strand →
     has_ended (past st s) ≡ false → Some (meaning w (last_seen (past st s))) ≡ next strand (past st s) → IsSeenBefore w (past st s) → CanCome d pool s w
 can_come net st left d pool s strand (want.Commit level) formed own run out there going wants seen =
     come_to net st left d pool formed run s strand there (own s strand there) out going level (sym wants)

@@ -28,10 +28,10 @@ use Rattle.confluence_laws.proofs.Basics.{from_out, took_asked, refused_asked, d
 use Rattle.confluence_laws.proofs.Owns.{commit_asked}
 use Rattle.confluence_laws.proofs.Fitting.{wants_take}
 use Rattle.run_desk.specs.Desk.{DeskState}
-use Rattle.run_desk.specs.Pure.{in_door, out_door, sights_of, sight_door, sight_through, through, wire_in, wire_out}
-use Rattle.run_desk.specs.Kept.{IsWire, link_through}
-use Rattle.run_desk.specs.Order.{IsRun}
-use Rattle.run_desk.specs.Moves.{hand_on, Behind, CanMove}
+use Rattle.run_desk.specs.Telling.{in_door, out_door, sights_of, sight_door, sight_through, through, wire_in, wire_out}
+use Rattle.run_desk.specs.Standing.{IsWire, link_through}
+use Rattle.run_desk.specs.Holding.{RunStands}
+use Rattle.run_desk.specs.Turns.{hand_on, Behind, CanTurn}
 use Rattle.run_desk.proofs.Begins.{not_reached}
 use Rattle.run_desk.proofs.Limits.{few_holders, offers_held, sights_held, can_forget}
 use Rattle.run_desk.proofs.Shown.{sight_of_hand}
@@ -46,7 +46,7 @@ pub record IsLinked (net : Net) (st : State) (left : Left) (d : DeskState) (pool
   pub is : IsWire net (bytes_at pool) st left link wire
   pub rendezvous : link.queue ≡ false
 
-module _ (net : Net) (st : State) (left : Left) (d : DeskState) (pool : PoolState) (formed : IsWellFormed net) (run : IsRun net st left d pool) where
+module _ (net : Net) (st : State) (left : Left) (d : DeskState) (pool : PoolState) (formed : IsWellFormed net) (run : RunStands net st left d pool) where
   linked : (door : Option ℕ) (there : Option Link) (wire : WireState) → there ≡ link_through net.links door → through d.wires door ≡ Some wire → IsLinked net st left d pool there wire
   linked None there wire leads at = cc
   linked (Some k) there wire leads at =
@@ -108,14 +108,14 @@ module _ (net : Net) (st : State) (left : Left) (d : DeskState) (pool : PoolStat
   -- A turn
 
   module _ (own : (t : Who) (q : Strand) → strand_at net st t ≡ Some q → IsOwn q (past st t)) (s : Who) (k : ℕ) where
-    can_rise : (level code : ℤ) → licence net st left s k ≡ Some (Up level code) → CanMove d pool s (told (Up level code))
+    can_rise : (level code : ℤ) → licence net st left s k ≡ Some (Up level code) → CanTurn d pool s (told (Up level code))
     can_rise level code may =
         let wants = commit_asked (want_at net st left s) level code (fits net st left s k (Up level code) may) in
         let w = wanting net st left s (Commit level) wants in
         let is = run.kept.early s level wants in
         (within s w.strand w.there, live s w.going, is, asked_at s level is wants (not_reached w.strand (past st s) (own s w.strand w.there) level w.wants))
 
-    can_take : ((t : Who) → length (past st t) < 18446744073709551615) → (i : ℕ) → licence net st left s k ≡ Some (Took i) → CanMove d pool s (told (Took i))
+    can_take : ((t : Who) → length (past st t) < 18446744073709551615) → (i : ℕ) → licence net st left s k ≡ Some (Took i) → CanTurn d pool s (told (Took i))
     can_take short i may = (shown, offer_held (in_door d s i), few_taken)
       where
         w : IsWanting net st left s (Take i)
@@ -130,7 +130,7 @@ module _ (net : Net) (st : State) (left : Left) (d : DeskState) (pool : PoolStat
             let most : 2 ^ 64 - 1 ≡ 18446744073709551615 = refl in
             omega (arith, most, l.is.tooks, few_tooks l.link.input (past st l.link.to), short l.link.to)
 
-    can_put : (o : ℕ) (rec : List ℕ) → licence net st left s k ≡ Some (Put o rec) → CanMove d pool s (told (Put o rec))
+    can_put : (o : ℕ) (rec : List ℕ) → licence net st left s k ≡ Some (Put o rec) → CanTurn d pool s (told (Put o rec))
     can_put o rec may = (ahead, offer_held (out_door d s o))
       where
         ahead : Behind (λ wire. wire.tooks ≡ wire.puts + 1) d.wires (out_door d s o)
@@ -143,7 +143,7 @@ module _ (net : Net) (st : State) (left : Left) (d : DeskState) (pool : PoolStat
             by_pace p t less (inl even) = absurd (omega (arith, p, t, less, even))
             by_pace p t less (inr more) = more.0
 
-    can_refuse : (o : ℕ) → licence net st left s k ≡ Some (Refused o) → CanMove d pool s (told (Refused o))
+    can_refuse : (o : ℕ) → licence net st left s k ≡ Some (Refused o) → CanTurn d pool s (told (Refused o))
     can_refuse o may = (offers, even, offer_held (out_door d s o))
       where
         there : (x : Option ℕ) (rec : List ℕ) → option_map (bytes_at pool) x ≡ Some rec → IsSome x
@@ -165,12 +165,12 @@ module _ (net : Net) (st : State) (left : Left) (d : DeskState) (pool : PoolStat
             let same = refusal_level st l.link (ap (may_refuse st) (sym l.found) ∙ refusal_may net st left s k o may) in
             omega (arith, l.is.puts, l.is.tooks, same)
 
-    can_end : (code : ℤ) → licence net st left s k ≡ Some (Ended code) → CanMove d pool s (told (Ended code))
+    can_end : (code : ℤ) → licence net st left s k ≡ Some (Ended code) → CanTurn d pool s (told (Ended code))
     can_end code may =
         let w = wanting net st left s (Done code) (done_asked (want_at net st left s) code (fits net st left s k (Ended code) may)) in
         (within s w.strand w.there, live s w.going, can_forget d.wires (sights_of (slice_get d.doors s)) d.sights pool run.pooled)
 
-    can_look : (i : ℕ) (rec : List ℕ) → CanMove d pool s (told (Saw i rec))
+    can_look : (i : ℕ) (rec : List ℕ) → CanTurn d pool s (told (Saw i rec))
     can_look i rec = (
       λ grip hand. sight_of_hand net st d run.kept.laid s i grip hand,
       λ grip hand. hand_held (in_door d s i) grip hand,
@@ -181,7 +181,7 @@ module _ (net : Net) (st : State) (left : Left) (d : DeskState) (pool : PoolStat
 -- whoever has a licence can move
 pub can_move : (net : Net) (st : State) (left : Left) (d : DeskState) (pool : PoolState) (s : Who) (k : ℕ) (e : Event) → IsWellFormed net →
     ((t : Who) (q : Strand) → strand_at net st t ≡ Some q → IsOwn q (past st t)) → ((t : Who) → length (past st t) < 18446744073709551615) →
-    IsRun net st left d pool → licence net st left s k ≡ Some e → CanMove d pool s (told e)
+    RunStands net st left d pool → licence net st left s k ≡ Some e → CanTurn d pool s (told e)
 can_move net st left d pool s k (Up level code) formed own short run may = can_rise net st left d pool formed run own s k level code may
 can_move net st left d pool s k (Saw i rec) formed own short run may = can_look net st left d pool formed run own s k i rec
 can_move net st left d pool s k (Took i) formed own short run may = can_take net st left d pool formed run own s k short i may

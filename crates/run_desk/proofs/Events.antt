@@ -8,7 +8,7 @@ use Rattle.pipe_model.specs.Event.Want.{Commit, Write}
 use Rattle.pipe_model.specs.Licence.{offered}
 use Rattle.commit_levels.specs.Licensed.{WantsNoLevel}
 use Rattle.stage_steps.specs.Coroutine.{told, record_seen_on}
-use Rattle.run_desk.specs.Moves.{ends, sees}
+use Rattle.run_desk.specs.Turns.{ends, sees}
 
 -- the event settles or withdraws an offer on the output
 abbrev pub writes_on : ℕ → Event → Bool

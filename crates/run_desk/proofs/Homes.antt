@@ -29,11 +29,11 @@ use Rattle.run_desk.specs.declared.seat.Ask.{Ask}
 use Rattle.run_desk.specs.declared.seat.Ask.TheVariants as Now
 use Rattle.run_desk.specs.declared.seat.Seat.{Seat}
 use Rattle.run_desk.specs.Desk.{DeskState}
-use Rattle.run_desk.specs.Pure as Pure
-use Rattle.run_desk.specs.Kept.{asked, left_in, IsSeat, IsWire, IsKept}
-use Rattle.run_desk.specs.Moves.{placed, changed, offers, asking, unit_home, ask_for, home_writing, IsHold, CanAsk, CanCome, HasCome}
-use Rattle.run_desk.specs.Moves.{home as coming}
-use Rattle.run_desk.specs.Order.{IsPooled}
+use Rattle.run_desk.specs.Telling as Telling
+use Rattle.run_desk.specs.Standing.{asked, left_in, IsSeat, IsWire, DeskStands}
+use Rattle.run_desk.specs.Turns.{list_changed_at, list_changed_behind, offers, asking, unit_at_home, ask_for, desk_at_home_writing, IsHold, CanAsk, CanCome, HasCome}
+use Rattle.run_desk.specs.Turns.{desk_at_home as coming}
+use Rattle.run_desk.specs.Holding.{IsPooled}
 use Rattle.run_desk.proofs.Behind.{as_long, now_behind, none_before, behind_out, door_out}
 use Rattle.run_desk.proofs.Early.{wants_early, early_level}
 use Rattle.run_desk.proofs.Offers.{hold_stay, hold_text}
@@ -43,7 +43,7 @@ use Rattle.run_desk.proofs.Texts.{retext}
 elsewhere : (o there : ℕ) (rec : List ℕ) → there ≢ o → offered there (Some (Write o rec)) ≡ None
 elsewhere o there rec apart = ap (λ b. cond b (Some rec) None) (ne_eqb o there (λ e. apart (sym e)))
 
-module _ (net : Net) (texts : ℕ → List ℕ) (st : State) (left : Left) (d : DeskState) (kept : IsKept net texts st left d)
+module _ (net : Net) (texts : ℕ → List ℕ) (st : State) (left : Left) (d : DeskState) (kept : DeskStands net texts st left d)
     (s : Who) (strand : Strand) (away : left s ≡ true) (at : strand_at net st s ≡ Some strand) (wanted : Want) (wants : Some wanted ≡ next strand (past st s)) where
   abbrev home : Left
   home = left_in left s
@@ -94,10 +94,10 @@ module _ (net : Net) (texts : ℕ → List ℕ) (st : State) (left : Left) (d : 
 
   -- and of one that writes
   wires_writing : IsWellFormed net → (o : ℕ) (rec : List ℕ) (grip : ℕ) → wanted ≡ Write o rec → texts grip ≡ rec →
-      (j : ℕ) (link : Link) (wire : WireState) → slice_get net.links j ≡ Some link → slice_get (changed d.wires (offers grip) (Pure.out_door d s o)) j ≡ Some wire → IsWire net texts st home link wire
-  wires_writing formed o rec grip writes holds j link wire link_at got = elim (now_behind d.wires (offers grip) (Pure.out_door d s o) j wire got) [
+      (j : ℕ) (link : Link) (wire : WireState) → slice_get net.links j ≡ Some link → slice_get (list_changed_behind d.wires (offers grip) (Telling.out_door d s o)) j ≡ Some wire → IsWire net texts st home link wire
+  wires_writing formed o rec grip writes holds j link wire link_at got = elim (now_behind d.wires (offers grip) (Telling.out_door d s o) j wire got) [
     | inl before ↦ still_wire link wire (kept.wires j link wire link_at before.0) (λ from. ap (offered link.output) (ap Some writes)
-        ∙ elsewhere o link.output rec (λ out. before.1 (sym (ap (λ t. Pure.out_door d t o) from) ∙ sym (ap (Pure.out_door d link.from) out) ∙ door_out net st d kept.laid formed j link link_at)))
+        ∙ elsewhere o link.output rec (λ out. before.1 (sym (ap (λ t. Telling.out_door d t o) from) ∙ sym (ap (Telling.out_door d link.from) out) ∙ door_out net st d kept.laid formed j link link_at)))
     | inr now ↦
         let ends = behind_out net st d kept.laid s o j link now.3 link_at in
         subst (IsWire net texts st home link) (sym now.2)
@@ -124,10 +124,10 @@ module _ (net : Net) (texts : ℕ → List ℕ) (st : State) (left : Left) (d : 
   ]
 
   -- a change of one member is a change behind a door
-  member_behind : (members : List Member) (k : ℕ) (f : Member → Member) → unit.changed members k f ≡ changed members f (Some k)
+  member_behind : (members : List Member) (k : ℕ) (f : Member → Member) → unit.changed members k f ≡ list_changed_behind members f (Some k)
   member_behind members k f = go (slice_get members k)
     where
-      go : (x : Option Member) → option_map_or (λ m. slice_set members k (f m)) x members ≡ placed members k f x
+      go : (x : Option Member) → option_map_or (λ m. slice_set members k (f m)) x members ≡ list_changed_at members k f x
       go None = refl
       go (Some m) = refl
 
@@ -159,7 +159,7 @@ module _ (net : Net) (texts : ℕ → List ℕ) (st : State) (left : Left) (d : 
   seat_there : (t : Who) (seat : Seat) → t ≢ s → IsSeat net st left t seat → IsSeat net st home t seat
   seat_there t seat apart is = record { ask = is.ask ∙ ap asked (sym (want_other t apart)); ended = is.ended; seen = is.seen }
 
-  seats_home : (ask : Ask) → ask ≡ asked (Some wanted) → (t : Who) (seat : Seat) → slice_get (changed d.seats (asking ask) (Some s)) t ≡ Some seat → IsSeat net st home t seat
+  seats_home : (ask : Ask) → ask ≡ asked (Some wanted) → (t : Who) (seat : Seat) → slice_get (list_changed_behind d.seats (asking ask) (Some s)) t ≡ Some seat → IsSeat net st home t seat
   seats_home ask same t seat got = elim (now_behind d.seats (asking ask) (Some s) t seat got) [
     | inl before ↦ seat_there t seat (λ e. before.1 (ap Some (sym e))) (kept.seats t seat before.0)
     | inr now ↦
@@ -179,7 +179,7 @@ module _ (net : Net) (texts : ℕ → List ℕ) (st : State) (left : Left) (d : 
       ((j : ℕ) (link : Link) (wire : WireState) → slice_get net.links j ≡ Some link → slice_get wires j ≡ Some wire → IsWire net texts st home link wire) →
       length members ≡ length d.unit → ((t : Who) (m : Member) → slice_get members t ≡ Some m → IsStrand (past st t) (want_at net st home t) m) →
       ((t : Who) (level : ℤ) → want_at net st home t ≡ Some (Commit level) → IsLevel level) →
-      IsKept net texts st home (record { seats = changed d.seats (asking ask) (Some s); wires = wires; sights = d.sights; doors = d.doors; unit = members })
+      DeskStands net texts st home (record { seats = list_changed_behind d.seats (asking ask) (Some s); wires = wires; sights = d.sights; doors = d.doors; unit = members })
   comes_home ask same wires members long wires_are count members_are early = record {
     laid = record {
       seat_count = as_long d.seats (asking ask) (Some s) ∙ kept.laid.seat_count;
@@ -219,7 +219,7 @@ asked_is (come.Done code) sight = refl
 
 module _ (net : Net) (st : State) (left : Left) (d new : DeskState) (pool after : PoolState) (s : Who) (strand : Strand)
     (formed : IsWellFormed net) (own : (t : Who) (q : Strand) → strand_at net st t ≡ Some q → IsOwn q (past st t))
-    (kept : IsKept net (bytes_at pool) st left d) (pooled : IsPooled d.wires d.sights pool)
+    (kept : DeskStands net (bytes_at pool) st left d) (pooled : IsPooled d.wires d.sights pool)
     (away : left s ≡ true) (at : strand_at net st s ≡ Some strand) (going : has_ended (past st s) ≡ false) where
   early_home : (t : Who) (level : ℤ) → want_at net st (left_in left s) t ≡ Some (Commit level) → IsLevel level
   early_home t level want = early_level level (wants_early net st (left_in left s) own t level want)
@@ -227,45 +227,45 @@ module _ (net : Net) (st : State) (left : Left) (d new : DeskState) (pool after 
   -- it writes nothing and asks for no level
   home_plain : (w : Coming) → Some (meaning w (last_seen (past st s))) ≡ next strand (past st s) →
       ((o : ℕ) → offered o (Some (meaning w (last_seen (past st s)))) ≡ None) → WantsNoLevel (Some (meaning w (last_seen (past st s)))) →
-      unit_home d.unit s (ask_for w) ≡ d.unit → (new ≡ coming d s (ask_for w)) × (after ≡ pool) → IsKept net (bytes_at after) st (left_in left s) new
+      unit_at_home d.unit s (ask_for w) ≡ d.unit → (new ≡ coming d s (ask_for w)) × (after ≡ pool) → DeskStands net (bytes_at after) st (left_in left s) new
   home_plain w wants off none same came =
       let wanted = meaning w (last_seen (past st s)) in
       let now = comes_home net (bytes_at pool) st left d kept s strand away at wanted wants (ask_for w) (asked_is w (last_seen (past st s))) d.wires d.unit refl
       (wires_plain net (bytes_at pool) st left d kept s strand away at wanted wants off) refl
       (members_plain net (bytes_at pool) st left d kept s strand away at wanted wants none) early_home in
-      let P : List Member → Type 0 = λ members. IsKept net (bytes_at pool) st (left_in left s) (record { seats = changed d.seats (asking (ask_for w)) (Some s); wires = d.wires; sights = d.sights; doors = d.doors; unit = members }) in
-      let here : IsKept net (bytes_at pool) st (left_in left s) (coming d s (ask_for w)) = subst P (sym same) now in
-      subst (λ ps. IsKept net (bytes_at ps) st (left_in left s) new) (sym came.1) (subst (IsKept net (bytes_at pool) st (left_in left s)) (sym came.0) here)
+      let P : List Member → Type 0 = λ members. DeskStands net (bytes_at pool) st (left_in left s) (record { seats = list_changed_behind d.seats (asking (ask_for w)) (Some s); wires = d.wires; sights = d.sights; doors = d.doors; unit = members }) in
+      let here : DeskStands net (bytes_at pool) st (left_in left s) (coming d s (ask_for w)) = subst P (sym same) now in
+      subst (λ ps. DeskStands net (bytes_at ps) st (left_in left s) new) (sym came.1) (subst (DeskStands net (bytes_at pool) st (left_in left s)) (sym came.0) here)
 
   -- it asks for a level
   home_asking : (level : ℤ) → Some (Commit level) ≡ next strand (past st s) → CanAsk d s (Now.Commit level) →
-      (new ≡ coming d s (Now.Commit level)) × (after ≡ pool) → IsKept net (bytes_at after) st (left_in left s) new
+      (new ≡ coming d s (Now.Commit level)) × (after ≡ pool) → DeskStands net (bytes_at after) st (left_in left s) new
   home_asking level wants can came =
-      let here : IsKept net (bytes_at pool) st (left_in left s) (coming d s (Now.Commit level)) =
+      let here : DeskStands net (bytes_at pool) st (left_in left s) (coming d s (Now.Commit level)) =
       comes_home net (bytes_at pool) st left d kept s strand away at (Commit level) wants (Now.Commit level) refl d.wires (asked_by d.unit s level) refl
       (wires_plain net (bytes_at pool) st left d kept s strand away at (Commit level) wants (λ o. refl))
       (as_many net (bytes_at pool) st left d kept s strand away at (Commit level) wants level)
       (members_asking net (bytes_at pool) st left d kept s strand away at (Commit level) wants level can.2 refl can.3) early_home in
-      subst (λ ps. IsKept net (bytes_at ps) st (left_in left s) new) (sym came.1) (subst (IsKept net (bytes_at pool) st (left_in left s)) (sym came.0) here)
+      subst (λ ps. DeskStands net (bytes_at ps) st (left_in left s) new) (sym came.1) (subst (DeskStands net (bytes_at pool) st (left_in left s)) (sym came.0) here)
 
   -- it writes
   home_offering : (o : ℕ) (out : Out) → Some (Write o (written out (last_seen (past st s)))) ≡ next strand (past st s) →
-      (grip : ℕ) → IsHold d pool s out grip after → new ≡ home_writing d s o grip → IsKept net (bytes_at after) st (left_in left s) new
+      (grip : ℕ) → IsHold d pool s out grip after → new ≡ desk_at_home_writing d s o grip → DeskStands net (bytes_at after) st (left_in left s) new
   home_offering o out wants grip hold came =
       let rec = written out (last_seen (past st s)) in
       let held = retext net (bytes_at pool) (bytes_at after) st left d kept (hold_stay pool after d pooled s out grip hold) in
-      let here : IsKept net (bytes_at after) st (left_in left s) (home_writing d s o grip) =
-      comes_home net (bytes_at after) st left d held s strand away at (Write o rec) wants (Now.Write o) refl (changed d.wires (offers grip) (Pure.out_door d s o)) d.unit
-      (as_long d.wires (offers grip) (Pure.out_door d s o))
+      let here : DeskStands net (bytes_at after) st (left_in left s) (desk_at_home_writing d s o grip) =
+      comes_home net (bytes_at after) st left d held s strand away at (Write o rec) wants (Now.Write o) refl (list_changed_behind d.wires (offers grip) (Telling.out_door d s o)) d.unit
+      (as_long d.wires (offers grip) (Telling.out_door d s o))
       (wires_writing net (bytes_at after) st left d held s strand away at (Write o rec) wants formed o rec grip refl (hold_text pool after net st left d s kept going out grip hold))
       refl (members_plain net (bytes_at after) st left d held s strand away at (Write o rec) wants (λ level. refl)) early_home in
-      subst (IsKept net (bytes_at after) st (left_in left s)) (sym came) here
+      subst (DeskStands net (bytes_at after) st (left_in left s)) (sym came) here
 
 -- where a strand comes home, the desk stands for the same state with its want
 pub kept_home : (net : Net) (st : State) (left : Left) (d new : DeskState) (pool after : PoolState) (s : Who) (strand : Strand) (w : Coming) → IsWellFormed net →
-    ((t : Who) (q : Strand) → strand_at net st t ≡ Some q → IsOwn q (past st t)) → IsKept net (bytes_at pool) st left d → IsPooled d.wires d.sights pool → left s ≡ true →
+    ((t : Who) (q : Strand) → strand_at net st t ≡ Some q → IsOwn q (past st t)) → DeskStands net (bytes_at pool) st left d → IsPooled d.wires d.sights pool → left s ≡ true →
     strand_at net st s ≡ Some strand → has_ended (past st s) ≡ false → Some (meaning w (last_seen (past st s))) ≡ next strand (past st s) →
-    CanCome d pool s w → HasCome d pool s w new after → IsKept net (bytes_at after) st (left_in left s) new
+    CanCome d pool s w → HasCome d pool s w new after → DeskStands net (bytes_at after) st (left_in left s) new
 kept_home net st left d new pool after s strand (come.Commit level) formed own kept pooled away at going wants can came = home_asking net st left d new pool after s strand formed own kept pooled away at going level wants can came
 kept_home net st left d new pool after s strand (come.Write o out) formed own kept pooled away at going wants can came = home_offering net st left d new pool after s strand formed own kept pooled away at going o out wants came.0 came.1 came.2
 kept_home net st left d new pool after s strand (come.Read i) formed own kept pooled away at going wants can came = home_plain net st left d new pool after s strand formed own kept pooled away at going (come.Read i) wants (λ o. refl) (λ l. refl) refl came
@@ -280,7 +280,7 @@ kept_home net st left d new pool after s strand (come.Done code) formed own kept
 
 -- Whoever has ended wants nothing, out or not
 
-module _ (net : Net) (texts : ℕ → List ℕ) (st : State) (left : Left) (d : DeskState) (s : Who) (kept : IsKept net texts st left d) (ended : has_ended (past st s) ≡ true) where
+module _ (net : Net) (texts : ℕ → List ℕ) (st : State) (left : Left) (d : DeskState) (s : Who) (kept : DeskStands net texts st left d) (ended : has_ended (past st s) ≡ true) where
   no_want : (b : Bool) → cond b None (want_after (strand_at net st s) (past st s)) ≡ None
   no_want true = refl
   no_want false = go (strand_at net st s)
@@ -298,7 +298,7 @@ module _ (net : Net) (texts : ℕ → List ℕ) (st : State) (left : Left) (d : 
   ]
 
   -- a strand that has ended may come home with no want
-  pub kept_gone : IsKept net texts st (left_in left s) d
+  pub kept_gone : DeskStands net texts st (left_in left s) d
   kept_gone = record {
     laid = kept.laid;
     seats = λ t seat got. let is = kept.seats t seat got in record { ask = is.ask ∙ ap asked (sym (same_want t)); ended = is.ended; seen = is.seen };

@@ -14,20 +14,20 @@ use Rattle.pipe_model.proofs.Lists.{at_some}
 use Rattle.std.proofs.lemmas.List.{length-replicate}
 use Rattle.std.proofs.lemmas.Bool.{eqb-true}
 use Rattle.run_desk.specs.Desk.{DoorsState}
-use Rattle.run_desk.specs.Pure.{joined, inputs_of, outputs_of, first_of}
-use Rattle.run_desk.specs.Kept.{link_through}
-use Rattle.run_desk.specs.Moves.{changed}
+use Rattle.run_desk.specs.Telling.{joined, inputs_of, outputs_of, first_of}
+use Rattle.run_desk.specs.Standing.{link_through}
+use Rattle.run_desk.specs.Turns.{list_changed_behind}
 use Rattle.run_desk.specs.Blank.{closed_doors, doors_from, led_in, led_out, with_link, with_links}
 use Rattle.run_desk.proofs.Lists.{changed_here, changed_there, changed_length}
 
 -- Lists
 
 -- what a change doesn't show stays
-pub stays : {A B : Type 0} (g : Option A → B) (f : A → A) → ((x : Option A) → g (option_map f x) ≡ g x) → (xs : List A) (k s : ℕ) → g (slice_get (changed xs f (Some k)) s) ≡ g (slice_get xs s)
+pub stays : {A B : Type 0} (g : Option A → B) (f : A → A) → ((x : Option A) → g (option_map f x) ≡ g x) → (xs : List A) (k s : ℕ) → g (slice_get (list_changed_behind xs f (Some k)) s) ≡ g (slice_get xs s)
 stays {A} {B} g f hidden xs k s = go (equal_or_not s k)
   where
-    go : (s ≡ k) ⊎ (s ≢ k) → g (slice_get (changed xs f (Some k)) s) ≡ g (slice_get xs s)
-    go (inl is) = let P : ℕ → Type 0 = λ z. g (slice_get (changed xs f (Some k)) z) ≡ g (slice_get xs z) in subst P (sym is) (ap g (changed_here xs f k) ∙ hidden (slice_get xs k))
+    go : (s ≡ k) ⊎ (s ≢ k) → g (slice_get (list_changed_behind xs f (Some k)) s) ≡ g (slice_get xs s)
+    go (inl is) = let P : ℕ → Type 0 = λ z. g (slice_get (list_changed_behind xs f (Some k)) z) ≡ g (slice_get xs z) in subst P (sym is) (ap g (changed_here xs f k) ∙ hidden (slice_get xs k))
     go (inr apart) = ap g (changed_there xs f k s apart)
 
 -- One link
@@ -38,11 +38,11 @@ ins doors s = inputs_of (slice_get doors s)
 abbrev outs : List DoorsState → ℕ → List (Option ℕ)
 outs doors s = outputs_of (slice_get doors s)
 
-in_led : (i j : ℕ) (x : Option DoorsState) → inputs_of (option_map (led_in i j) x) ≡ changed (inputs_of x) (λ door. Some j) (Some i)
+in_led : (i j : ℕ) (x : Option DoorsState) → inputs_of (option_map (led_in i j) x) ≡ list_changed_behind (inputs_of x) (λ door. Some j) (Some i)
 in_led i j None = refl
 in_led i j (Some x) = refl
 
-out_led : (o j : ℕ) (x : Option DoorsState) → outputs_of (option_map (led_out o j) x) ≡ changed (outputs_of x) (λ door. Some j) (Some o)
+out_led : (o j : ℕ) (x : Option DoorsState) → outputs_of (option_map (led_out o j) x) ≡ list_changed_behind (outputs_of x) (λ door. Some j) (Some o)
 out_led o j None = refl
 out_led o j (Some x) = refl
 
@@ -56,17 +56,17 @@ out_hidden i j (Some x) = refl
 
 module _ (doors : List DoorsState) (j : ℕ) (link : Link) where
   abbrev between : List DoorsState
-  between = changed doors (led_out link.output j) (Some link.from)
+  between = list_changed_behind doors (led_out link.output j) (Some link.from)
 
-  in_here : ins (with_link doors j link) link.to ≡ changed (ins doors link.to) (λ door. Some j) (Some link.input)
+  in_here : ins (with_link doors j link) link.to ≡ list_changed_behind (ins doors link.to) (λ door. Some j) (Some link.input)
   in_here =
       ap inputs_of (changed_here between (led_in link.input j) link.to) ∙ in_led link.input j (slice_get between link.to)
-      ∙ ap (λ xs. changed xs (λ door. Some j) (Some link.input)) (stays inputs_of (led_out link.output j) (in_hidden link.output j) doors link.from link.to)
+      ∙ ap (λ xs. list_changed_behind xs (λ door. Some j) (Some link.input)) (stays inputs_of (led_out link.output j) (in_hidden link.output j) doors link.from link.to)
 
   in_there : (s : ℕ) → s ≢ link.to → ins (with_link doors j link) s ≡ ins doors s
   in_there s apart = ap inputs_of (changed_there between (led_in link.input j) link.to s apart) ∙ stays inputs_of (led_out link.output j) (in_hidden link.output j) doors link.from s
 
-  out_here : outs (with_link doors j link) link.from ≡ changed (outs doors link.from) (λ door. Some j) (Some link.output)
+  out_here : outs (with_link doors j link) link.from ≡ list_changed_behind (outs doors link.from) (λ door. Some j) (Some link.output)
   out_here =
       stays outputs_of (led_in link.input j) (out_hidden link.input j) between link.to link.from
       ∙ ap outputs_of (changed_here doors (led_out link.output j) link.from) ∙ out_led link.output j (slice_get doors link.from)
@@ -89,7 +89,7 @@ module _ (doors : List DoorsState) (j : ℕ) (link : Link) where
 
 -- one end of links: `lists` are the doors of strands there, `end` is the strand of a link, and `place` its place
 module _ (lists : List DoorsState → ℕ → List (Option ℕ)) (end place : Link → ℕ)
-    (here : (doors : List DoorsState) (j : ℕ) (link : Link) → lists (with_link doors j link) (end link) ≡ changed (lists doors (end link)) (λ door. Some j) (Some (place link)))
+    (here : (doors : List DoorsState) (j : ℕ) (link : Link) → lists (with_link doors j link) (end link) ≡ list_changed_behind (lists doors (end link)) (λ door. Some j) (Some (place link)))
     (there : (doors : List DoorsState) (j : ℕ) (link : Link) (s : ℕ) → s ≢ end link → lists (with_link doors j link) s ≡ lists doors s) where
   abbrev is_at : ℕ → ℕ → Link → Bool
   is_at s i link = same (end link) s && place link == i

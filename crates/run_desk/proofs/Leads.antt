@@ -10,8 +10,8 @@ use Rattle.pipe_model.proofs.Truths.{both}
 use Rattle.pipe_model.proofs.Numbers.{test_same}
 use Rattle.pipe_model.proofs.Lists.{found_at, finds}
 use Rattle.run_desk.specs.Desk.{DeskState}
-use Rattle.run_desk.specs.Pure.{inputs_of, outputs_of, in_door, out_door}
-use Rattle.run_desk.specs.Kept.{link_through, IsLaid}
+use Rattle.run_desk.specs.Telling.{inputs_of, outputs_of, in_door, out_door}
+use Rattle.run_desk.specs.Standing.{link_through, IsLaid}
 use Rattle.run_desk.proofs.Lists.{leads, leads_any, leads_one, which_leads}
 
 both_hold : (a b : Bool) → a ≡ true → b ≡ true → (a && b) ≡ true

@@ -6,9 +6,9 @@ use Rattle.pipe_model.proofs.Numbers.{test_same}
 use Rattle.record_pool.specs.PoolState.{PoolState}
 use Rattle.record_pool.specs.Places.{holders_at}
 use Rattle.connectors.specs.WireState.{WireState, IsHeldIn, given_in}
-use Rattle.run_desk.specs.Pure.{joined, through, sight_through}
-use Rattle.run_desk.specs.Order.{holds, offer_holds, IsPooled}
-use Rattle.run_desk.specs.Moves.{changed, hand_on, unseen, CanForget}
+use Rattle.run_desk.specs.Telling.{joined, through, sight_through}
+use Rattle.run_desk.specs.Holding.{holds, offer_holds, IsPooled}
+use Rattle.run_desk.specs.Turns.{list_changed_behind, hand_on, no_sight, CanForget}
 use Rattle.run_desk.proofs.Counts.{count_unseen, count_some}
 use Rattle.run_desk.proofs.Pooled.{held_by, pooled_given}
 
@@ -56,6 +56,6 @@ pub can_forget : (wires : List WireState) (doors sights : List (Option ℕ)) (po
 can_forget wires [] sights pool pooled = tt
 can_forget wires (door ∷ doors) sights pool pooled = (
   sights_held wires sights pool pooled door,
-  can_forget wires doors (changed sights unseen door) (given_in pool (sight_through sights door))
-      (pooled_given wires wires sights (changed sights unseen door) pool (sight_through sights door) pooled (λ grip. omega (arith, count_unseen grip sights door))),
+  can_forget wires doors (list_changed_behind sights no_sight door) (given_in pool (sight_through sights door))
+      (pooled_given wires wires sights (list_changed_behind sights no_sight door) pool (sight_through sights door) pooled (λ grip. omega (arith, count_unseen grip sights door))),
 )

@@ -14,9 +14,9 @@ use Rattle.confluence_laws.proofs.Basics.{at_same, at_other}
 use Rattle.stage_steps.specs.Coroutine.{told}
 use Rattle.connectors.specs.WireState.{WireState, taken, settled, cleared}
 use Rattle.run_desk.specs.Desk.{DeskState}
-use Rattle.run_desk.specs.Pure.{inputs_of, outputs_of, in_door, out_door}
-use Rattle.run_desk.specs.Kept.{IsWire, IsKept, left_out}
-use Rattle.run_desk.specs.Moves.{changed, all_changed, out_shut, in_shut, ends, moved}
+use Rattle.run_desk.specs.Telling.{inputs_of, outputs_of, in_door, out_door}
+use Rattle.run_desk.specs.Standing.{IsWire, DeskStands, left_out}
+use Rattle.run_desk.specs.Turns.{list_changed_behind, wires_changed, out_shut, in_shut, ends, rest_after_turn}
 use Rattle.run_desk.proofs.Lists.{leads, leads_any, changed_back, all_changed_back}
 use Rattle.run_desk.proofs.Leads.{out_leads, in_leads, outputs_lead, inputs_lead}
 use Rattle.run_desk.proofs.Events.{writes_on, no_put, no_offer, ended_stays}
@@ -112,12 +112,12 @@ module _ (net : Net) (texts : ℕ → List ℕ) (st : State) (left : Left) (s : 
     in_closed = ended_now code is l.to w.in_closed wire.in_closed;
   }
 
-  module _ (formed : IsWellFormed net) (d : DeskState) (kept : IsKept net texts st left d) where
+  module _ (formed : IsWellFormed net) (d : DeskState) (kept : DeskStands net texts st left d) where
     -- where the wire of an output is changed
     at_output : (o : ℕ) (f : WireState → WireState) →
         ((l : Link) (w : WireState) → l.output ≡ o → l.from ≡ s → IsWire net texts st left l w → IsWire net texts now out l (f w)) →
         ((l : Link) (w : WireState) → (l.from ≡ s → l.output ≢ o) → IsWire net texts st left l w → IsWire net texts now out l w) →
-        (j : ℕ) (l : Link) (w : WireState) → slice_get net.links j ≡ Some l → slice_get (changed d.wires f (out_door d s o)) j ≡ Some w → IsWire net texts now out l w
+        (j : ℕ) (l : Link) (w : WireState) → slice_get net.links j ≡ Some l → slice_get (list_changed_behind d.wires f (out_door d s o)) j ≡ Some w → IsWire net texts now out l w
     at_output o f move keep j l w at got = subst (IsWire net texts now out l) (sym before.2) (by (leads j (out_door d s o)) (out_leads net formed st d kept.laid s o j l at))
       where
         before : (x : WireState) × (slice_get d.wires j ≡ Some x) × (w ≡ cond (leads j (out_door d s o)) (f x) x)
@@ -137,7 +137,7 @@ module _ (net : Net) (texts : ℕ → List ℕ) (st : State) (left : Left) (s : 
     at_input : (i : ℕ) (f : WireState → WireState) →
         ((l : Link) (w : WireState) → l.input ≡ i → l.to ≡ s → IsWire net texts st left l w → IsWire net texts now out l (f w)) →
         ((l : Link) (w : WireState) → (l.to ≡ s → l.input ≢ i) → IsWire net texts st left l w → IsWire net texts now out l w) →
-        (j : ℕ) (l : Link) (w : WireState) → slice_get net.links j ≡ Some l → slice_get (changed d.wires f (in_door d s i)) j ≡ Some w → IsWire net texts now out l w
+        (j : ℕ) (l : Link) (w : WireState) → slice_get net.links j ≡ Some l → slice_get (list_changed_behind d.wires f (in_door d s i)) j ≡ Some w → IsWire net texts now out l w
     at_input i f move keep j l w at got = subst (IsWire net texts now out l) (sym before.2) (by (leads j (in_door d s i)) (in_leads net formed st d kept.laid s i j l at))
       where
         before : (x : WireState) × (slice_get d.wires j ≡ Some x) × (w ≡ cond (leads j (in_door d s i)) (f x) x)
@@ -155,7 +155,7 @@ module _ (net : Net) (texts : ℕ → List ℕ) (st : State) (left : Left) (s : 
 
     -- where the strand's ends of its wires are closed
     at_end : (code : ℤ) → e ≡ Ended code → (j : ℕ) (l : Link) (w : WireState) → slice_get net.links j ≡ Some l →
-        slice_get (all_changed in_shut (inputs_of (slice_get d.doors s)) (all_changed out_shut (outputs_of (slice_get d.doors s)) d.wires)) j ≡ Some w → IsWire net texts now out l w
+        slice_get (wires_changed in_shut (inputs_of (slice_get d.doors s)) (wires_changed out_shut (outputs_of (slice_get d.doors s)) d.wires)) j ≡ Some w → IsWire net texts now out l w
     at_end code is j l w at got =
         subst (IsWire net texts now out l)
         (sym (last.2 ∙ ap (λ z. cond (leads_any j inputs) (in_shut z) z) first.2 ∙ same_wire (leads_any j outputs) (leads_any j inputs) (same l.from s) (same l.to s) first.0
@@ -168,8 +168,8 @@ module _ (net : Net) (texts : ℕ → List ℕ) (st : State) (left : Left) (s : 
         outputs : List (Option ℕ)
         outputs = outputs_of (slice_get d.doors s)
 
-        last : (x : WireState) × (slice_get (all_changed out_shut outputs d.wires) j ≡ Some x) × (w ≡ cond (leads_any j inputs) (in_shut x) x)
-        last = all_changed_back in_shut (λ x. refl) inputs (all_changed out_shut outputs d.wires) j w got
+        last : (x : WireState) × (slice_get (wires_changed out_shut outputs d.wires) j ≡ Some x) × (w ≡ cond (leads_any j inputs) (in_shut x) x)
+        last = all_changed_back in_shut (λ x. refl) inputs (wires_changed out_shut outputs d.wires) j w got
 
         first : (x : WireState) × (slice_get d.wires j ≡ Some x) × (last.0 ≡ cond (leads_any j outputs) (out_shut x) x)
         first = all_changed_back out_shut (λ x. refl) outputs d.wires j last.0 last.1
@@ -186,14 +186,14 @@ module _ (net : Net) (texts : ℕ → List ℕ) (st : State) (left : Left) (s : 
             ∙ ap (λ z. record x { out_closed = cond a' true x.out_closed; in_closed = cond z true x.in_closed }) q
 
     -- each wire stands for its link after the turn
-    pub wires_made : (j : ℕ) (l : Link) (w : WireState) → slice_get net.links j ≡ Some l → slice_get (moved d s (told e)).wires j ≡ Some w → IsWire net texts now out l w
+    pub wires_made : (j : ℕ) (l : Link) (w : WireState) → slice_get net.links j ≡ Some l → slice_get (rest_after_turn d s (told e)).wires j ≡ Some w → IsWire net texts now out l w
     wires_made j l w at got = by e refl got
       where
         alone : (f : Event) → e ≡ f → ends (told f) ≡ false → ((o : ℕ) → writes_on o f ≡ false) → ((i : ℕ) → is_took i f ≡ false) → slice_get d.wires j ≡ Some w → IsWire net texts now out l w
         alone f is quiet off idle got =
             still l w (kept.wires j l w at got) (ap (λ z. ends (told z)) is ∙ quiet) (λ z. ap (writes_on l.output) is ∙ off l.output) (λ z. ap (is_took l.input) is ∙ idle l.input)
 
-        by : (f : Event) → e ≡ f → slice_get (moved d s (told f)).wires j ≡ Some w → IsWire net texts now out l w
+        by : (f : Event) → e ≡ f → slice_get (rest_after_turn d s (told f)).wires j ≡ Some w → IsWire net texts now out l w
         by (Put o rec) is got = at_output o settled
             (λ m x a b. put_wire m x rec (is ∙ ap (λ z. Put z rec) (sym a)) b)
             (λ m x a wire. still m x wire (ap (λ z. ends (told z)) is) (λ z. ap (writes_on m.output) is ∙ ne_eqb o m.output (λ q. a z (sym q))) (λ z. ap (is_took m.input) is))

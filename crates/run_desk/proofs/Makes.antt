@@ -22,9 +22,9 @@ use Rattle.stage_steps.specs.Coroutine.{told}
 use Rattle.connectors.specs.WireState.{taken, settled, cleared}
 use Rattle.run_desk.specs.declared.seat.Seat.{Seat}
 use Rattle.run_desk.specs.Desk.{DeskState}
-use Rattle.run_desk.specs.Pure.{joined, inputs_of, outputs_of, first_of, in_door, out_door, sights_of, sight_door, sight_through, wire_in}
-use Rattle.run_desk.specs.Kept.{asked, left_out, IsSeat, IsSight, link_through, IsLaid, IsKept}
-use Rattle.run_desk.specs.Moves.{changed, all_changed, out_shut, in_shut, hand_on, sights_seen, ends, sees, seat_after, moved, made}
+use Rattle.run_desk.specs.Telling.{joined, inputs_of, outputs_of, first_of, in_door, out_door, sights_of, sight_door, sight_through, wire_in}
+use Rattle.run_desk.specs.Standing.{asked, left_out, IsSeat, IsSight, link_through, IsLaid, DeskStands}
+use Rattle.run_desk.specs.Turns.{list_changed_behind, wires_changed, out_shut, in_shut, hand_on, sights_seen, ends, sees, seat_after, rest_after_turn, desk_after_turn}
 use Rattle.run_desk.proofs.Lists.{changed_here, changed_there, changed_length, all_changed_length, sights_without_length, map_back}
 use Rattle.run_desk.proofs.Events.{ended_on, seen_on}
 use Rattle.run_desk.proofs.Acts.{has_strand, want_here, want_other}
@@ -35,7 +35,7 @@ use Rattle.run_desk.proofs.Members.{unit_length, members_made}
 -- The tables
 
 -- a turn changes no door
-pub doors_moved : (d : DeskState) (s : ℕ) (seen : Seen) → (moved d s seen).doors ≡ d.doors
+pub doors_moved : (d : DeskState) (s : ℕ) (seen : Seen) → (rest_after_turn d s seen).doors ≡ d.doors
 doors_moved d s (Told.Up level code) = refl
 doors_moved d s (Told.Saw i) = refl
 doors_moved d s (Told.SawEnd i) = refl
@@ -50,7 +50,7 @@ doors_moved d s (Told.Cut i) = refl
 doors_moved d s (Told.Ended code) = refl
 
 -- it leaves as many wires
-pub wires_moved : (d : DeskState) (s : ℕ) (seen : Seen) → length (moved d s seen).wires ≡ length d.wires
+pub wires_moved : (d : DeskState) (s : ℕ) (seen : Seen) → length (rest_after_turn d s seen).wires ≡ length d.wires
 wires_moved d s (Told.Up level code) = refl
 wires_moved d s (Told.Saw i) = refl
 wires_moved d s (Told.SawEnd i) = refl
@@ -64,10 +64,10 @@ wires_moved d s (Told.Joined k code) = refl
 wires_moved d s (Told.Cut i) = refl
 wires_moved d s (Told.Ended code) =
     let outputs = outputs_of (slice_get d.doors s) in
-    all_changed_length in_shut (inputs_of (slice_get d.doors s)) (all_changed out_shut outputs d.wires) ∙ all_changed_length out_shut outputs d.wires
+    all_changed_length in_shut (inputs_of (slice_get d.doors s)) (wires_changed out_shut outputs d.wires) ∙ all_changed_length out_shut outputs d.wires
 
 -- and as many sights
-pub sights_moved : (d : DeskState) (s : ℕ) (seen : Seen) → length (moved d s seen).sights ≡ length d.sights
+pub sights_moved : (d : DeskState) (s : ℕ) (seen : Seen) → length (rest_after_turn d s seen).sights ≡ length d.sights
 sights_moved d s (Told.Up level code) = refl
 sights_moved d s (Told.Saw i) = go (hand_on (wire_in d s i))
   where
@@ -86,7 +86,7 @@ sights_moved d s (Told.Cut i) = refl
 sights_moved d s (Told.Ended code) = sights_without_length (sights_of (slice_get d.doors s)) d.sights
 
 -- and as many members
-pub unit_moved : (d : DeskState) (s : ℕ) (seen : Seen) → length (moved d s seen).unit ≡ length d.unit
+pub unit_moved : (d : DeskState) (s : ℕ) (seen : Seen) → length (rest_after_turn d s seen).unit ≡ length d.unit
 unit_moved d s (Told.Up level code) = unit_length d.unit s (units.moved (place_of level) Reached)
 unit_moved d s (Told.Saw i) = refl
 unit_moved d s (Told.SawEnd i) = refl
@@ -101,13 +101,13 @@ unit_moved d s (Told.Cut i) = refl
 unit_moved d s (Told.Ended code) = unit_length d.unit s (units.ended_with code)
 
 -- so the sights keep their numbers
-same_sight : (d : DeskState) (s : ℕ) (seen : Seen) (u i : ℕ) → sight_door (made d s seen) u i ≡ sight_door d u i
+same_sight : (d : DeskState) (s : ℕ) (seen : Seen) (u i : ℕ) → sight_door (desk_after_turn d s seen) u i ≡ sight_door d u i
 same_sight d s seen u i = ap (λ z. joined (slice_get (sights_of (slice_get z u)) i)) (doors_moved d s seen)
 
 -- The relation
 
 -- the tables are laid for the state after a turn as they were before it
-pub laid_made : (net : Net) (st after : State) (d : DeskState) (s : Who) (seen : Seen) → IsLaid net st d → IsLaid net after (made d s seen)
+pub laid_made : (net : Net) (st after : State) (d : DeskState) (s : Who) (seen : Seen) → IsLaid net st d → IsLaid net after (desk_after_turn d s seen)
 laid_made net st after d s seen laid = record {
   seat_count = changed_length d.seats (seat_after seen) (Some s) ∙ laid.seat_count;
   wire_count = wires_moved d s seen ∙ laid.wire_count;
@@ -120,7 +120,7 @@ laid_made net st after d s seen laid = record {
   rendezvous = laid.rendezvous;
 }
 
-module _ (net : Net) (texts : ℕ → List ℕ) (st : State) (left : Left) (d : DeskState) (s : Who) (k : ℕ) (e : Event) (kept : IsKept net texts st left d) (may : licence net st left s k ≡ Some e) where
+module _ (net : Net) (texts : ℕ → List ℕ) (st : State) (left : Left) (d : DeskState) (s : Who) (k : ℕ) (e : Event) (kept : DeskStands net texts st left d) (may : licence net st left s k ≡ Some e) where
   abbrev now : State
   now = with_event st s e
 
@@ -143,21 +143,21 @@ module _ (net : Net) (texts : ℕ → List ℕ) (st : State) (left : Left) (d : 
     seen = is.seen ∙ ap has_seen (sym (at_other st s e u other));
   }
 
-  seats_made : (u : Who) (seat : Seat) → slice_get (changed d.seats (seat_after (told e)) (Some s)) u ≡ Some seat → IsSeat net now out u seat
+  seats_made : (u : Who) (seat : Seat) → slice_get (list_changed_behind d.seats (seat_after (told e)) (Some s)) u ≡ Some seat → IsSeat net now out u seat
   seats_made u seat got = elim (equal_or_not u s) [
     | inl it ↦
         let b = map_back (seat_after (told e)) (slice_get d.seats s) seat
-        (sym (changed_here d.seats (seat_after (told e)) s) ∙ ap (slice_get (changed d.seats (seat_after (told e)) (Some s))) (sym it) ∙ got) in
+        (sym (changed_here d.seats (seat_after (told e)) s) ∙ ap (slice_get (list_changed_behind d.seats (seat_after (told e)) (Some s))) (sym it) ∙ got) in
         subst (λ z. IsSeat net now out z seat) (sym it) (subst (IsSeat net now out s) (sym b.2) (seat_here b.0 (kept.seats s b.0 b.1)))
     | inr other ↦ seat_there u seat other (kept.seats u seat (sym (changed_there d.seats (seat_after (told e)) s u other) ∙ got))
   ]
 
-  nobody_made : (u : Who) → slice_get (changed d.seats (seat_after (told e)) (Some s)) u ≡ None → past now u ≡ []
+  nobody_made : (u : Who) → slice_get (list_changed_behind d.seats (seat_after (told e)) (Some s)) u ≡ None → past now u ≡ []
   nobody_made u none = elim (equal_or_not u s) [
     | inl it ↦
         let seat = at_some d.seats s (subst (λ n. s < n) (sym kept.laid.seat_count) (has_strand net st left s k e may)) in
         let no : None ≡ Some (seat_after (told e) seat.0) =
-        sym none ∙ ap (slice_get (changed d.seats (seat_after (told e)) (Some s))) it ∙ changed_here d.seats (seat_after (told e)) s ∙ ap (option_map (seat_after (told e))) seat.1 in
+        sym none ∙ ap (slice_get (list_changed_behind d.seats (seat_after (told e)) (Some s))) it ∙ changed_here d.seats (seat_after (told e)) s ∙ ap (option_map (seat_after (told e))) seat.1 in
         cc
     | inr other ↦ at_other st s e u other ∙ kept.nobody u (sym (changed_there d.seats (seat_after (told e)) s u other) ∙ none)
   ]
@@ -169,14 +169,14 @@ module _ (net : Net) (texts : ℕ → List ℕ) (st : State) (left : Left) (d : 
   ]
 
 -- a turn keeps the relation of desk and state, where the strand is out after it
-pub kept_made : (net : Net) (texts : ℕ → List ℕ) (st : State) (left : Left) (d : DeskState) (s : Who) (k : ℕ) (e : Event) → IsWellFormed net → IsKept net texts st left d →
-    licence net st left s k ≡ Some e → IsKept net texts (with_event st s e) (left_out left s) (made d s (told e))
+pub kept_made : (net : Net) (texts : ℕ → List ℕ) (st : State) (left : Left) (d : DeskState) (s : Who) (k : ℕ) (e : Event) → IsWellFormed net → DeskStands net texts st left d →
+    licence net st left s k ≡ Some e → DeskStands net texts (with_event st s e) (left_out left s) (desk_after_turn d s (told e))
 kept_made net texts st left d s k e formed kept may = record {
   laid = laid_made net st (with_event st s e) d s (told e) kept.laid;
   seats = seats_made net texts st left d s k e kept may;
   nobody = nobody_made net texts st left d s k e kept may;
   wires = wires_made net texts st left s k e may formed d kept;
-  sights = λ u i. subst (λ z. IsSight texts (with_event st s e) u i (sight_through (moved d s (told e)).sights z)) (sym (same_sight d s (told e) u i)) (sights_made net texts st left s k e may d kept u i);
+  sights = λ u i. subst (λ z. IsSight texts (with_event st s e) u i (sight_through (rest_after_turn d s (told e)).sights z)) (sym (same_sight d s (told e) u i)) (sights_made net texts st left s k e may d kept u i);
   member_count = unit_moved d s (told e) ∙ kept.member_count;
   members = members_made net texts st left s k e may d kept;
   early = early_made net texts st left d s k e kept may;

@@ -18,8 +18,8 @@ use Rattle.commit_levels.specs.UnitState as units
 use Rattle.commit_levels.specs.Licensed.{IsStrand, WantsNoLevel}
 use Rattle.commit_levels.proofs.Agreement.{reaches_as, ends_as}
 use Rattle.run_desk.specs.Desk.{DeskState}
-use Rattle.run_desk.specs.Kept.{IsKept, left_out}
-use Rattle.run_desk.specs.Moves.{moved}
+use Rattle.run_desk.specs.Standing.{DeskStands, left_out}
+use Rattle.run_desk.specs.Turns.{rest_after_turn}
 use Rattle.run_desk.proofs.Events.{rises, no_level}
 use Rattle.run_desk.proofs.Acts.{answered, want_here, want_other, up_wanted}
 
@@ -66,7 +66,7 @@ stays_as h want m e no_commit reached ended code s = record {
   ended = s.ended ∙ ap (λ b. cond b (Some (code_of h)) None) (sym ended) ∙ ap (λ c. cond (has_ended (e ∷ h)) (Some c) None) (sym code);
 }
 
-module _ (net : Net) (texts : ℕ → List ℕ) (st : State) (left : Left) (s : Who) (k : ℕ) (e : Event) (may : licence net st left s k ≡ Some e) (d : DeskState) (kept : IsKept net texts st left d) where
+module _ (net : Net) (texts : ℕ → List ℕ) (st : State) (left : Left) (s : Who) (k : ℕ) (e : Event) (may : licence net st left s k ≡ Some e) (d : DeskState) (kept : DeskStands net texts st left d) where
   abbrev now : State
   now = with_event st s e
 
@@ -100,7 +100,7 @@ module _ (net : Net) (texts : ℕ → List ℕ) (st : State) (left : Left) (s : 
   ]
 
   -- each member is its strand after the turn
-  pub members_made : (u : Who) (m : Member) → slice_get (moved d s (told e)).unit u ≡ Some m → IsStrand (past now u) (want_at net now out u) m
+  pub members_made : (u : Who) (m : Member) → slice_get (rest_after_turn d s (told e)).unit u ≡ Some m → IsStrand (past now u) (want_at net now out u) m
   members_made u m got = by e refl got
     where
       want : Option Want
@@ -114,7 +114,7 @@ module _ (net : Net) (texts : ℕ → List ℕ) (st : State) (left : Left) (s : 
       no_commit : (f : Event) → e ≡ f → rises f ≡ false → WantsNoLevel want
       no_commit f is low = no_level want f (ap (answers want) (sym is) ∙ answered net st left s k e may) low
 
-      by : (f : Event) → e ≡ f → slice_get (moved d s (told f)).unit u ≡ Some m → IsStrand (past now u) (want_at net now out u) m
+      by : (f : Event) → e ≡ f → slice_get (rest_after_turn d s (told f)).unit u ≡ Some m → IsStrand (past now u) (want_at net now out u) m
       by (Up level code) is got =
           let wanted : want_at net st left s ≡ Some (Commit level) = up_wanted net st left s k level code (may ∙ ap Some is) in
           at_member (units.moved (place_of level) Reached)

@@ -15,11 +15,11 @@ use Rattle.record_pool.specs.PoolState.{Held, PoolState}
 use Rattle.record_pool.specs.Places.{record_at, bytes_of, bytes_at, holders_of, fresh, one_more, shared}
 use Rattle.record_pool.proofs.Records.{changed_here, others_stay}
 use Rattle.run_desk.specs.Desk.{DeskState}
-use Rattle.run_desk.specs.Pure.{sight_through}
-use Rattle.run_desk.specs.Pure as Pure
-use Rattle.run_desk.specs.Kept.{IsKept}
-use Rattle.run_desk.specs.Moves.{IsFresh, IsHold}
-use Rattle.run_desk.specs.Order.{holds_of, IsPooled}
+use Rattle.run_desk.specs.Telling.{sight_through}
+use Rattle.run_desk.specs.Telling as Telling
+use Rattle.run_desk.specs.Standing.{DeskStands}
+use Rattle.run_desk.specs.Turns.{IsFresh, IsHold}
+use Rattle.run_desk.specs.Holding.{holds_of, IsPooled}
 
 -- a share keeps the bytes
 shared_bytes : (place : Option Held) → bytes_of (one_more place) ≡ bytes_of place
@@ -28,18 +28,18 @@ shared_bytes (Some held) = refl
 
 -- Sights
 
-module _ (net : Net) (texts : ℕ → List ℕ) (st : State) (left : Left) (d : DeskState) (kept : IsKept net texts st left d) (s : Who) (going : has_ended (past st s) ≡ false) (i : ℕ) where
+module _ (net : Net) (texts : ℕ → List ℕ) (st : State) (left : Left) (d : DeskState) (kept : DeskStands net texts st left d) (s : Who) (going : has_ended (past st s) ≡ false) (i : ℕ) where
   -- the bytes of what a strand that hasn't ended saw last
-  pub sight_bytes : option_map_or texts (sight_through d.sights (Pure.sight_door d s i)) [] ≡ last_seen_on i (past st s)
-  sight_bytes = by_sight (sight_through d.sights (Pure.sight_door d s i)) ∙ ap (λ r. unwrap_or r []) (kept.sights s i going) ∙ last_is i (past st s)
+  pub sight_bytes : option_map_or texts (sight_through d.sights (Telling.sight_door d s i)) [] ≡ last_seen_on i (past st s)
+  sight_bytes = by_sight (sight_through d.sights (Telling.sight_door d s i)) ∙ ap (λ r. unwrap_or r []) (kept.sights s i going) ∙ last_is i (past st s)
     where
       by_sight : (x : Option ℕ) → option_map_or texts x [] ≡ unwrap_or (option_map texts x) []
       by_sight None = refl
       by_sight (Some grip) = refl
 
   -- it is there where a record was seen
-  pub sight_there : IsSome (record_seen_on i (past st s)) → (grip : ℕ) × (sight_through d.sights (Pure.sight_door d s i) ≡ Some grip)
-  sight_there some = by_sight (sight_through d.sights (Pure.sight_door d s i)) (kept.sights s i going)
+  pub sight_there : IsSome (record_seen_on i (past st s)) → (grip : ℕ) × (sight_through d.sights (Telling.sight_door d s i) ≡ Some grip)
+  sight_there some = by_sight (sight_through d.sights (Telling.sight_door d s i)) (kept.sights s i going)
     where
       by_sight : (x : Option ℕ) → option_map texts x ≡ record_seen_on i (past st s) → (grip : ℕ) × (x ≡ Some grip)
       by_sight None e = let no : IsSome {T = List ℕ} None = subst (λ (z : Option (List ℕ)). IsSome z) (sym e) some in cc
@@ -77,7 +77,7 @@ module _ (pool after : PoolState) where
     hold_stay s (Same i) grip is = λ other held. share_text grip is.1 other
 
   -- what is offered is what is to be written
-  pub hold_text : (net : Net) (st : State) (left : Left) (d : DeskState) (s : Who) → IsKept net (bytes_at pool) st left d → has_ended (past st s) ≡ false →
+  pub hold_text : (net : Net) (st : State) (left : Left) (d : DeskState) (s : Who) → DeskStands net (bytes_at pool) st left d → has_ended (past st s) ≡ false →
       (out : Out) (grip : ℕ) → IsHold d pool s out grip after → bytes_at after grip ≡ written out (last_seen (past st s))
   hold_text net st left d s kept going (Fresh bytes) grip is = fresh_text bytes grip is
   hold_text net st left d s kept going (Same i) grip is =

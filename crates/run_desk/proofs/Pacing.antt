@@ -26,10 +26,10 @@ use Rattle.record_pool.specs.PoolState.{PoolState}
 use Rattle.connectors.specs.WireState.{WireState, IsPaced, at_hand, taken, settled, cleared}
 use Rattle.run_desk.specs.declared.seat.Ask.TheVariants as Now
 use Rattle.run_desk.specs.Desk.{DeskState}
-use Rattle.run_desk.specs.Pure as Pure
-use Rattle.run_desk.specs.Kept.{IsKept}
-use Rattle.run_desk.specs.Moves.{changed, all_changed, in_shut, out_shut, made, offers, home, home_writing, ask_for, CanAsk, CanCome, HasCome}
-use Rattle.run_desk.specs.Order.{IsPacing}
+use Rattle.run_desk.specs.Telling as Telling
+use Rattle.run_desk.specs.Standing.{DeskStands}
+use Rattle.run_desk.specs.Turns.{list_changed_behind, wires_changed, in_shut, out_shut, desk_after_turn, offers, desk_at_home, desk_at_home_writing, ask_for, CanAsk, CanCome, HasCome}
+use Rattle.run_desk.specs.Holding.{IsPacing}
 use Rattle.run_desk.proofs.Behind.{now_behind, behind_in}
 use Rattle.run_desk.proofs.Sees.{seen_is}
 use Rattle.run_desk.proofs.Tells.{Fact, tells}
@@ -52,10 +52,10 @@ like_hand wire old is hand =
 
 -- a change that leaves a wire so leaves all of them so
 all_like : (f : WireState → WireState) → ((wire : WireState) → IsLike (f wire) wire) → (doors : List (Option ℕ)) (wires : List WireState) (j : ℕ) (wire : WireState) →
-    slice_get (all_changed f doors wires) j ≡ Some wire → (old : WireState) × (slice_get wires j ≡ Some old) × IsLike wire old
+    slice_get (wires_changed f doors wires) j ≡ Some wire → (old : WireState) × (slice_get wires j ≡ Some old) × IsLike wire old
 all_like f like [] wires j wire at = (wire, at, record { offer = refl; puts = refl; tooks = refl })
 all_like f like (door ∷ doors) wires j wire at =
-    let r = all_like f like doors (changed wires f door) j wire at in
+    let r = all_like f like doors (list_changed_behind wires f door) j wire at in
     elim (now_behind wires f door j r.0 r.1) [
       | inl before ↦ (r.0, before.0, r.2)
       | inr now ↦
@@ -74,7 +74,7 @@ hand_is wire hand = go (wire.puts == wire.tooks) refl hand
 -- A turn
 
 module _ (net : Net) (texts : ℕ → List ℕ) (st : State) (left : Left) (d : DeskState) (s : Who) (k : ℕ) (formed : IsWellFormed net)
-    (own : (t : Who) (q : Strand) → strand_at net st t ≡ Some q → IsOwn q (past st t)) (kept : IsKept net texts st left d) (pacing : IsPacing st d) where
+    (own : (t : Who) (q : Strand) → strand_at net st t ≡ Some q → IsOwn q (past st t)) (kept : DeskStands net texts st left d) (pacing : IsPacing st d) where
   -- where nothing is asked for, nothing is answered
   asks : (e : Event) → answers (want_at net st left s) e ≡ true → (want : Want) × (want_at net st left s ≡ Some want)
   asks e ans = go (want_at net st left s) refl ans
@@ -90,24 +90,24 @@ module _ (net : Net) (texts : ℕ → List ℕ) (st : State) (left : Left) (d : 
   -- the pace of a desk with these wires
   with_wires : (now : State) (new : DeskState) (wires : List WireState) → new.wires ≡ wires → new.doors ≡ d.doors →
       ((j : ℕ) (wire : WireState) → slice_get wires j ≡ Some wire → IsPaced wire.offer wire.puts wire.tooks) →
-      ((t : Who) (i j : ℕ) (wire : WireState) → has_ended (past now t) ≡ false → in_sight i (past now t) ≡ true → Pure.in_door d t i ≡ Some j → slice_get wires j ≡ Some wire → IsSome (at_hand wire)) →
+      ((t : Who) (i j : ℕ) (wire : WireState) → has_ended (past now t) ≡ false → in_sight i (past now t) ≡ true → Telling.in_door d t i ≡ Some j → slice_get wires j ≡ Some wire → IsSome (at_hand wire)) →
       IsPacing now new
   with_wires now new wires wires_are doors_are paced shown = record {
     paced = λ j wire at. paced j wire (sym (ap (λ z. slice_get z j) wires_are) ∙ at);
-    shown = λ t i wire going sight at. by_door t i wire going sight (Pure.in_door d t i) refl
-        (sym (ap (λ z. Pure.through z (Pure.in_door new t i)) wires_are ∙ ap (λ z. Pure.through wires (Pure.joined (slice_get (Pure.inputs_of (slice_get z t)) i))) doors_are) ∙ at);
+    shown = λ t i wire going sight at. by_door t i wire going sight (Telling.in_door d t i) refl
+        (sym (ap (λ z. Telling.through z (Telling.in_door new t i)) wires_are ∙ ap (λ z. Telling.through wires (Telling.joined (slice_get (Telling.inputs_of (slice_get z t)) i))) doors_are) ∙ at);
   }
     where
-      by_door : (t : Who) (i : ℕ) (wire : WireState) → has_ended (past now t) ≡ false → in_sight i (past now t) ≡ true → (x : Option ℕ) → Pure.in_door d t i ≡ x → Pure.through wires x ≡ Some wire → IsSome (at_hand wire)
+      by_door : (t : Who) (i : ℕ) (wire : WireState) → has_ended (past now t) ≡ false → in_sight i (past now t) ≡ true → (x : Option ℕ) → Telling.in_door d t i ≡ x → Telling.through wires x ≡ Some wire → IsSome (at_hand wire)
       by_door t i wire going sight None door at = cc
       by_door t i wire going sight (Some j) door at = shown t i j wire going sight door at
 
   -- what was at hand
-  was_shown : (t : Who) (i j : ℕ) (wire : WireState) → has_ended (past st t) ≡ false → in_sight i (past st t) ≡ true → Pure.in_door d t i ≡ Some j → slice_get d.wires j ≡ Some wire → IsSome (at_hand wire)
-  was_shown t i j wire going sight door at = pacing.shown t i wire going sight (ap (Pure.through d.wires) door ∙ at)
+  was_shown : (t : Who) (i j : ℕ) (wire : WireState) → has_ended (past st t) ≡ false → in_sight i (past st t) ≡ true → Telling.in_door d t i ≡ Some j → slice_get d.wires j ≡ Some wire → IsSome (at_hand wire)
+  was_shown t i j wire going sight door at = pacing.shown t i wire going sight (ap (Telling.through d.wires) door ∙ at)
 
   -- a wire behind two doors is behind one
-  one_door : (t u : Who) (i m j : ℕ) (wire : WireState) → slice_get d.wires j ≡ Some wire → Pure.in_door d t i ≡ Some j → Pure.in_door d u m ≡ Some j → (t ≡ u) × (i ≡ m)
+  one_door : (t u : Who) (i m j : ℕ) (wire : WireState) → slice_get d.wires j ≡ Some wire → Telling.in_door d t i ≡ Some j → Telling.in_door d u m ≡ Some j → (t ≡ u) × (i ≡ m)
   one_door t u i m j wire at door other =
       let link = beside d.wires net.links j wire kept.laid.wire_count at in
       let a = behind_in net st d kept.laid t i j link.0 door link.1 in
@@ -124,7 +124,7 @@ module _ (net : Net) (texts : ℕ → List ℕ) (st : State) (left : Left) (d : 
         not_ended (strand_at net st s) (past st s) a.0 (given_all (left s) (want_after (strand_at net st s) (past st s)) a.0 a.1)
 
     told_is : Fact d s (told e)
-    told_is = tells d s k (told e) (Pure.ask_at d s) (seen_is net texts st left d formed kept s k ∙ ap (option_map told) may)
+    told_is = tells d s k (told e) (Telling.ask_at d s) (seen_is net texts st left d formed kept s k ∙ ap (option_map told) may)
 
     -- who hasn't ended hadn't
     went : (t : Who) → has_ended (past (with_event st s e) t) ≡ false → has_ended (past st t) ≡ false
@@ -153,22 +153,22 @@ module _ (net : Net) (texts : ℕ → List ℕ) (st : State) (left : Left) (d : 
         (λ t i j wire going sight door at. was_shown t i j wire (went t going) (saw_before none t i sight) door at)
 
   -- a record that is seen is at hand
-  pacing_saw : (i : ℕ) (rec : List ℕ) → licence net st left s k ≡ Some (Saw i rec) → IsPacing (with_event st s (Saw i rec)) (made d s (Told.Saw i))
-  pacing_saw i rec may = with_wires (with_event st s (Saw i rec)) (made d s (Told.Saw i)) d.wires refl refl pacing.paced shown
+  pacing_saw : (i : ℕ) (rec : List ℕ) → licence net st left s k ≡ Some (Saw i rec) → IsPacing (with_event st s (Saw i rec)) (desk_after_turn d s (Told.Saw i))
+  pacing_saw i rec may = with_wires (with_event st s (Saw i rec)) (desk_after_turn d s (Told.Saw i)) d.wires refl refl pacing.paced shown
     where
       shown : (t : Who) (m j : ℕ) (wire : WireState) → has_ended (past (with_event st s (Saw i rec)) t) ≡ false → in_sight m (past (with_event st s (Saw i rec)) t) ≡ true →
-          Pure.in_door d t m ≡ Some j → slice_get d.wires j ≡ Some wire → IsSome (at_hand wire)
+          Telling.in_door d t m ≡ Some j → slice_get d.wires j ≡ Some wire → IsSome (at_hand wire)
       shown t m j wire going sight door at = elim (saw (Saw i rec) may t m sight) [
         | inl before ↦ was_shown t m j wire (went (Saw i rec) may t going) before door at
         | inr now ↦
             let place : i ≡ m = (let same : Saw i rec ≡ Saw m now.1 = now.2 in cc) in
-            let here : Pure.wire_in d s i ≡ Some wire = ap (λ z. Pure.wire_in d z i) (sym now.0) ∙ ap (Pure.wire_in d t) place ∙ ap (Pure.through d.wires) door ∙ at in
-            sym (ap Pure.shows here) ∙ told_is (Saw i rec) may
+            let here : Telling.wire_in d s i ≡ Some wire = ap (λ z. Telling.wire_in d z i) (sym now.0) ∙ ap (Telling.wire_in d t) place ∙ ap (Telling.through d.wires) door ∙ at in
+            sym (ap Telling.shows here) ∙ told_is (Saw i rec) may
       ]
 
   -- one that is taken was at hand, and is in sight no more
-  pacing_took : (i : ℕ) → licence net st left s k ≡ Some (Took i) → IsPacing (with_event st s (Took i)) (made d s (Told.Took i))
-  pacing_took i may = with_wires (with_event st s (Took i)) (made d s (Told.Took i)) (changed d.wires taken (Pure.in_door d s i)) refl refl paced shown
+  pacing_took : (i : ℕ) → licence net st left s k ≡ Some (Took i) → IsPacing (with_event st s (Took i)) (desk_after_turn d s (Told.Took i))
+  pacing_took i may = with_wires (with_event st s (Took i)) (desk_after_turn d s (Told.Took i)) (list_changed_behind d.wires taken (Telling.in_door d s i)) refl refl paced shown
     where
       wants : want_after (strand_at net st s) (past st s) ≡ Some (Take i)
       wants = given_all (left s) (want_after (strand_at net st s) (past st s)) (Take i) (took_asked (want_at net st left s) i (answer_is (Took i) may))
@@ -180,8 +180,8 @@ module _ (net : Net) (texts : ℕ → List ℕ) (st : State) (left : Left) (d : 
           by_strand None at e = cc
           by_strand (Some strand) at e = wants_take strand (past st s) (own s strand at) i e
 
-      paced : (j : ℕ) (wire : WireState) → slice_get (changed d.wires taken (Pure.in_door d s i)) j ≡ Some wire → IsPaced wire.offer wire.puts wire.tooks
-      paced j wire at = elim (now_behind d.wires taken (Pure.in_door d s i) j wire at) [
+      paced : (j : ℕ) (wire : WireState) → slice_get (list_changed_behind d.wires taken (Telling.in_door d s i)) j ≡ Some wire → IsPaced wire.offer wire.puts wire.tooks
+      paced j wire at = elim (now_behind d.wires taken (Telling.in_door d s i) j wire at) [
         | inl before ↦ pacing.paced j wire before.0
         | inr now ↦
             let hand = hand_is now.0 (was_shown s i j now.0 (goes (Took i) may) in_view now.3 now.1) in
@@ -195,8 +195,8 @@ module _ (net : Net) (texts : ℕ → List ℕ) (st : State) (left : Left) (d : 
           ∙ ap (λ b. not b && in_sight i (past st s)) (test_same i)
 
       shown : (t : Who) (m j : ℕ) (wire : WireState) → has_ended (past (with_event st s (Took i)) t) ≡ false → in_sight m (past (with_event st s (Took i)) t) ≡ true →
-          Pure.in_door d t m ≡ Some j → slice_get (changed d.wires taken (Pure.in_door d s i)) j ≡ Some wire → IsSome (at_hand wire)
-      shown t m j wire going sight door at = elim (now_behind d.wires taken (Pure.in_door d s i) j wire at) [
+          Telling.in_door d t m ≡ Some j → slice_get (list_changed_behind d.wires taken (Telling.in_door d s i)) j ≡ Some wire → IsSome (at_hand wire)
+      shown t m j wire going sight door at = elim (now_behind d.wires taken (Telling.in_door d s i) j wire at) [
         | inl before ↦ was_shown t m j wire (went (Took i) may t going) (saw_before (Took i) may (λ z rec. λ z. cc) t m sight) door before.0
         | inr now ↦
             let one = one_door t s m i j now.0 now.1 door now.3 in
@@ -204,27 +204,27 @@ module _ (net : Net) (texts : ℕ → List ℕ) (st : State) (left : Left) (d : 
       ]
 
   -- one that is put was taken, so it was at hand no more
-  pacing_put : (o : ℕ) (rec : List ℕ) → licence net st left s k ≡ Some (Put o rec) → IsPacing (with_event st s (Put o rec)) (made d s (Told.Put o))
-  pacing_put o rec may = with_wires (with_event st s (Put o rec)) (made d s (Told.Put o)) (changed d.wires settled (Pure.out_door d s o)) refl refl paced shown
+  pacing_put : (o : ℕ) (rec : List ℕ) → licence net st left s k ≡ Some (Put o rec) → IsPacing (with_event st s (Put o rec)) (desk_after_turn d s (Told.Put o))
+  pacing_put o rec may = with_wires (with_event st s (Put o rec)) (desk_after_turn d s (Told.Put o)) (list_changed_behind d.wires settled (Telling.out_door d s o)) refl refl paced shown
     where
-      was_taken : (j : ℕ) (wire : WireState) → Pure.out_door d s o ≡ Some j → slice_get d.wires j ≡ Some wire → wire.puts < wire.tooks
-      was_taken j wire door at = ltb-true wire.puts wire.tooks (sym (ap Pure.can_put (ap (Pure.through d.wires) door ∙ at)) ∙ told_is (Put o rec) may)
+      was_taken : (j : ℕ) (wire : WireState) → Telling.out_door d s o ≡ Some j → slice_get d.wires j ≡ Some wire → wire.puts < wire.tooks
+      was_taken j wire door at = ltb-true wire.puts wire.tooks (sym (ap Telling.can_put (ap (Telling.through d.wires) door ∙ at)) ∙ told_is (Put o rec) may)
 
       level : (wire : WireState) → wire.puts < wire.tooks → IsPaced wire.offer wire.puts wire.tooks → IsPaced (settled wire).offer (settled wire).puts (settled wire).tooks
       level wire less (inl e) = absurd (omega (arith, less, e))
       level wire less (inr p) = inl p.0
 
-      paced : (j : ℕ) (wire : WireState) → slice_get (changed d.wires settled (Pure.out_door d s o)) j ≡ Some wire → IsPaced wire.offer wire.puts wire.tooks
-      paced j wire at = elim (now_behind d.wires settled (Pure.out_door d s o) j wire at) [
+      paced : (j : ℕ) (wire : WireState) → slice_get (list_changed_behind d.wires settled (Telling.out_door d s o)) j ≡ Some wire → IsPaced wire.offer wire.puts wire.tooks
+      paced j wire at = elim (now_behind d.wires settled (Telling.out_door d s o) j wire at) [
         | inl before ↦ pacing.paced j wire before.0
         | inr now ↦ subst (λ z. IsPaced z.offer z.puts z.tooks) (sym now.2) (level now.0 (was_taken j now.0 now.3 now.1) (pacing.paced j now.0 now.1))
       ]
 
       shown : (t : Who) (m j : ℕ) (wire : WireState) → has_ended (past (with_event st s (Put o rec)) t) ≡ false → in_sight m (past (with_event st s (Put o rec)) t) ≡ true →
-          Pure.in_door d t m ≡ Some j → slice_get (changed d.wires settled (Pure.out_door d s o)) j ≡ Some wire → IsSome (at_hand wire)
+          Telling.in_door d t m ≡ Some j → slice_get (list_changed_behind d.wires settled (Telling.out_door d s o)) j ≡ Some wire → IsSome (at_hand wire)
       shown t m j wire going sight door at =
           let seen = saw_before (Put o rec) may (λ z other. λ q. cc) t m sight in
-          elim (now_behind d.wires settled (Pure.out_door d s o) j wire at) [
+          elim (now_behind d.wires settled (Telling.out_door d s o) j wire at) [
             | inl before ↦ was_shown t m j wire (went (Put o rec) may t going) seen door before.0
             | inr now ↦
                 let hand = hand_is now.0 (was_shown t m j now.0 (went (Put o rec) may t going) seen door now.1) in
@@ -232,14 +232,14 @@ module _ (net : Net) (texts : ℕ → List ℕ) (st : State) (left : Left) (d : 
           ]
 
   -- one that is refused is not in sight, since its consumer has ended
-  pacing_refused : (o : ℕ) → licence net st left s k ≡ Some (Refused o) → IsPacing (with_event st s (Refused o)) (made d s (Told.Refused o))
-  pacing_refused o may = with_wires (with_event st s (Refused o)) (made d s (Told.Refused o)) (changed d.wires cleared (Pure.out_door d s o)) refl refl paced shown
+  pacing_refused : (o : ℕ) → licence net st left s k ≡ Some (Refused o) → IsPacing (with_event st s (Refused o)) (desk_after_turn d s (Told.Refused o))
+  pacing_refused o may = with_wires (with_event st s (Refused o)) (desk_after_turn d s (Told.Refused o)) (list_changed_behind d.wires cleared (Telling.out_door d s o)) refl refl paced shown
     where
-      was_shut : (j : ℕ) (wire : WireState) → Pure.out_door d s o ≡ Some j → slice_get d.wires j ≡ Some wire → (wire.in_closed ≡ true) × (Pure.is_even wire ≡ true)
-      was_shut j wire door at = both wire.in_closed (Pure.is_even wire) (sym (ap Pure.can_refuse (ap (Pure.through d.wires) door ∙ at)) ∙ told_is (Refused o) may)
+      was_shut : (j : ℕ) (wire : WireState) → Telling.out_door d s o ≡ Some j → slice_get d.wires j ≡ Some wire → (wire.in_closed ≡ true) × (Telling.is_even wire ≡ true)
+      was_shut j wire door at = both wire.in_closed (Telling.is_even wire) (sym (ap Telling.can_refuse (ap (Telling.through d.wires) door ∙ at)) ∙ told_is (Refused o) may)
 
-      paced : (j : ℕ) (wire : WireState) → slice_get (changed d.wires cleared (Pure.out_door d s o)) j ≡ Some wire → IsPaced wire.offer wire.puts wire.tooks
-      paced j wire at = elim (now_behind d.wires cleared (Pure.out_door d s o) j wire at) [
+      paced : (j : ℕ) (wire : WireState) → slice_get (list_changed_behind d.wires cleared (Telling.out_door d s o)) j ≡ Some wire → IsPaced wire.offer wire.puts wire.tooks
+      paced j wire at = elim (now_behind d.wires cleared (Telling.out_door d s o) j wire at) [
         | inl before ↦ pacing.paced j wire before.0
         | inr now ↦
             let even : now.0.puts ≡ now.0.tooks = eqb-true _ _ (was_shut j now.0 now.3 now.1).1 in
@@ -248,8 +248,8 @@ module _ (net : Net) (texts : ℕ → List ℕ) (st : State) (left : Left) (d : 
       ]
 
       shown : (t : Who) (m j : ℕ) (wire : WireState) → has_ended (past (with_event st s (Refused o)) t) ≡ false → in_sight m (past (with_event st s (Refused o)) t) ≡ true →
-          Pure.in_door d t m ≡ Some j → slice_get (changed d.wires cleared (Pure.out_door d s o)) j ≡ Some wire → IsSome (at_hand wire)
-      shown t m j wire going sight door at = elim (now_behind d.wires cleared (Pure.out_door d s o) j wire at) [
+          Telling.in_door d t m ≡ Some j → slice_get (list_changed_behind d.wires cleared (Telling.out_door d s o)) j ≡ Some wire → IsSome (at_hand wire)
+      shown t m j wire going sight door at = elim (now_behind d.wires cleared (Telling.out_door d s o) j wire at) [
         | inl before ↦ was_shown t m j wire (went (Refused o) may t going) (saw_before (Refused o) may (λ z rec. λ q. cc) t m sight) door before.0
         | inr now ↦
             let link = beside d.wires net.links j now.0 kept.laid.wire_count now.1 in
@@ -259,75 +259,75 @@ module _ (net : Net) (texts : ℕ → List ℕ) (st : State) (left : Left) (d : 
       ]
 
   -- an end only closes
-  pacing_ended : (code : ℤ) → licence net st left s k ≡ Some (Ended code) → IsPacing (with_event st s (Ended code)) (made d s (Told.Ended code))
-  pacing_ended code may = with_wires (with_event st s (Ended code)) (made d s (Told.Ended code)) wires refl refl
+  pacing_ended : (code : ℤ) → licence net st left s k ≡ Some (Ended code) → IsPacing (with_event st s (Ended code)) (desk_after_turn d s (Told.Ended code))
+  pacing_ended code may = with_wires (with_event st s (Ended code)) (desk_after_turn d s (Told.Ended code)) wires refl refl
       (λ j wire at. let r = before j wire at in like_paced wire r.0 r.2 (pacing.paced j r.0 r.1))
       (λ t i j wire going sight door at. let r = before j wire at in
       like_hand wire r.0 r.2 (was_shown t i j r.0 (went (Ended code) may t going) (saw_before (Ended code) may (λ z rec. λ q. cc) t i sight) door r.1))
     where
       wires : List WireState
-      wires = all_changed in_shut (Pure.inputs_of (slice_get d.doors s)) (all_changed out_shut (Pure.outputs_of (slice_get d.doors s)) d.wires)
+      wires = wires_changed in_shut (Telling.inputs_of (slice_get d.doors s)) (wires_changed out_shut (Telling.outputs_of (slice_get d.doors s)) d.wires)
 
       before : (j : ℕ) (wire : WireState) → slice_get wires j ≡ Some wire → (old : WireState) × (slice_get d.wires j ≡ Some old) × IsLike wire old
       before j wire at =
-          let a = all_like in_shut (λ w. record { offer = refl; puts = refl; tooks = refl }) (Pure.inputs_of (slice_get d.doors s)) (all_changed out_shut (Pure.outputs_of (slice_get d.doors s)) d.wires) j wire at in
-          let b = all_like out_shut (λ w. record { offer = refl; puts = refl; tooks = refl }) (Pure.outputs_of (slice_get d.doors s)) d.wires j a.0 a.1 in
+          let a = all_like in_shut (λ w. record { offer = refl; puts = refl; tooks = refl }) (Telling.inputs_of (slice_get d.doors s)) (wires_changed out_shut (Telling.outputs_of (slice_get d.doors s)) d.wires) j wire at in
+          let b = all_like out_shut (λ w. record { offer = refl; puts = refl; tooks = refl }) (Telling.outputs_of (slice_get d.doors s)) d.wires j a.0 a.1 in
           (b.0, b.1, record { offer = a.2.offer ∙ b.2.offer; puts = a.2.puts ∙ b.2.puts; tooks = a.2.tooks ∙ b.2.tooks })
 
-  by_event : (e : Event) → licence net st left s k ≡ Some e → IsPacing (with_event st s e) (made d s (told e))
+  by_event : (e : Event) → licence net st left s k ≡ Some e → IsPacing (with_event st s e) (desk_after_turn d s (told e))
   by_event (Saw i rec) may = pacing_saw i rec may
   by_event (Took i) may = pacing_took i may
   by_event (Put o rec) may = pacing_put o rec may
   by_event (Refused o) may = pacing_refused o may
   by_event (Ended code) may = pacing_ended code may
-  by_event (Up level code) may = pacing_still (Up level code) may (λ i rec. λ q. cc) (made d s (Told.Up level code)) refl refl
-  by_event (SawEnd i) may = pacing_still (SawEnd i) may (λ z rec. λ q. cc) (made d s (Told.SawEnd i)) refl refl
-  by_event SawAllEnd may = pacing_still SawAllEnd may (λ z rec. λ q. cc) (made d s Told.SawAllEnd) refl refl
-  by_event (Primed b) may = pacing_still (Primed b) may (λ z rec. λ q. cc) (made d s (Told.Primed b)) refl refl
-  by_event (Opened u) may = pacing_still (Opened u) may (λ z rec. λ q. cc) (made d s (Told.Opened u)) refl refl
-  by_event (Joined u code) may = pacing_still (Joined u code) may (λ z rec. λ q. cc) (made d s (Told.Joined u code)) refl refl
-  by_event (Severed i) may = pacing_still (Severed i) may (λ z rec. λ q. cc) (made d s (Told.Cut i)) refl refl
+  by_event (Up level code) may = pacing_still (Up level code) may (λ i rec. λ q. cc) (desk_after_turn d s (Told.Up level code)) refl refl
+  by_event (SawEnd i) may = pacing_still (SawEnd i) may (λ z rec. λ q. cc) (desk_after_turn d s (Told.SawEnd i)) refl refl
+  by_event SawAllEnd may = pacing_still SawAllEnd may (λ z rec. λ q. cc) (desk_after_turn d s Told.SawAllEnd) refl refl
+  by_event (Primed b) may = pacing_still (Primed b) may (λ z rec. λ q. cc) (desk_after_turn d s (Told.Primed b)) refl refl
+  by_event (Opened u) may = pacing_still (Opened u) may (λ z rec. λ q. cc) (desk_after_turn d s (Told.Opened u)) refl refl
+  by_event (Joined u code) may = pacing_still (Joined u code) may (λ z rec. λ q. cc) (desk_after_turn d s (Told.Joined u code)) refl refl
+  by_event (Severed i) may = pacing_still (Severed i) may (λ z rec. λ q. cc) (desk_after_turn d s (Told.Cut i)) refl refl
 
 -- a turn keeps the pace
 pub pacing_made : (net : Net) (texts : ℕ → List ℕ) (st : State) (left : Left) (d : DeskState) (s : Who) (k : ℕ) (e : Event) → IsWellFormed net →
-    ((t : Who) (q : Strand) → strand_at net st t ≡ Some q → IsOwn q (past st t)) → IsKept net texts st left d → IsPacing st d → licence net st left s k ≡ Some e →
-    IsPacing (with_event st s e) (made d s (told e))
+    ((t : Who) (q : Strand) → strand_at net st t ≡ Some q → IsOwn q (past st t)) → DeskStands net texts st left d → IsPacing st d → licence net st left s k ≡ Some e →
+    IsPacing (with_event st s e) (desk_after_turn d s (told e))
 pacing_made net texts st left d s k e formed own kept pacing may = by_event net texts st left d s k formed own kept pacing e may
 
 -- Coming home
 
 module _ (d new : DeskState) (st : State) (s : Who) (pacing : IsPacing st d) where
   -- who writes nothing leaves all wires
-  pacing_plain : (w : Coming) → new ≡ home d s (ask_for w) → IsPacing st new
+  pacing_plain : (w : Coming) → new ≡ desk_at_home d s (ask_for w) → IsPacing st new
   pacing_plain w come = subst (IsPacing st) (sym come) (record { paced = pacing.paced; shown = pacing.shown })
 
   -- who writes offers where nothing was offered, so nothing was at hand
-  pacing_offer : (o grip : ℕ) → CanAsk d s (Now.Write o) → new ≡ home_writing d s o grip → IsPacing st new
+  pacing_offer : (o grip : ℕ) → CanAsk d s (Now.Write o) → new ≡ desk_at_home_writing d s o grip → IsPacing st new
   pacing_offer o grip can come = subst (IsPacing st) (sym come) here
     where
-      no_offer : (j : ℕ) (wire : WireState) → Pure.out_door d s o ≡ Some j → slice_get d.wires j ≡ Some wire → wire.offer ≡ None
-      no_offer j wire door at = can.1 wire (ap (Pure.through d.wires) door ∙ at)
+      no_offer : (j : ℕ) (wire : WireState) → Telling.out_door d s o ≡ Some j → slice_get d.wires j ≡ Some wire → wire.offer ≡ None
+      no_offer j wire door at = can.1 wire (ap (Telling.through d.wires) door ∙ at)
 
       level : (grip : ℕ) (wire : WireState) → wire.offer ≡ None → IsPaced wire.offer wire.puts wire.tooks → IsPaced (offers grip wire).offer (offers grip wire).puts (offers grip wire).tooks
       level grip wire none (inl e) = inl e
       level grip wire none (inr p) = let no : false ≡ true = sym (ap is_some none) ∙ p.1 in cc
 
-      here : IsPacing st (home_writing d s o grip)
+      here : IsPacing st (desk_at_home_writing d s o grip)
       here = record {
-        paced = λ j wire at. elim (now_behind d.wires (offers grip) (Pure.out_door d s o) j wire at) [
+        paced = λ j wire at. elim (now_behind d.wires (offers grip) (Telling.out_door d s o) j wire at) [
           | inl before ↦ pacing.paced j wire before.0
           | inr now ↦ subst (λ z. IsPaced z.offer z.puts z.tooks) (sym now.2) (level grip now.0 (no_offer j now.0 now.3 now.1) (pacing.paced j now.0 now.1))
         ];
-        shown = λ t i wire going sight at. by_door t i wire going sight (Pure.in_door d t i) refl at;
+        shown = λ t i wire going sight at. by_door t i wire going sight (Telling.in_door d t i) refl at;
       }
         where
-          by_door : (t : Who) (i : ℕ) (wire : WireState) → has_ended (past st t) ≡ false → in_sight i (past st t) ≡ true → (x : Option ℕ) → Pure.in_door d t i ≡ x →
-              Pure.through (changed d.wires (offers grip) (Pure.out_door d s o)) x ≡ Some wire → IsSome (at_hand wire)
+          by_door : (t : Who) (i : ℕ) (wire : WireState) → has_ended (past st t) ≡ false → in_sight i (past st t) ≡ true → (x : Option ℕ) → Telling.in_door d t i ≡ x →
+              Telling.through (list_changed_behind d.wires (offers grip) (Telling.out_door d s o)) x ≡ Some wire → IsSome (at_hand wire)
           by_door t i wire going sight None door at = cc
-          by_door t i wire going sight (Some j) door at = elim (now_behind d.wires (offers grip) (Pure.out_door d s o) j wire at) [
-            | inl before ↦ pacing.shown t i wire going sight (ap (Pure.through d.wires) door ∙ before.0)
+          by_door t i wire going sight (Some j) door at = elim (now_behind d.wires (offers grip) (Telling.out_door d s o) j wire at) [
+            | inl before ↦ pacing.shown t i wire going sight (ap (Telling.through d.wires) door ∙ before.0)
             | inr now ↦
-                let hand = hand_is now.0 (pacing.shown t i now.0 going sight (ap (Pure.through d.wires) door ∙ now.1)) in
+                let hand = hand_is now.0 (pacing.shown t i now.0 going sight (ap (Telling.through d.wires) door ∙ now.1)) in
                 let no : false ≡ true = sym (ap is_some (no_offer j now.0 now.3 now.1)) ∙ hand.1 in cc
           ]
 

@@ -14,9 +14,9 @@ use Rattle.record_pool.specs.Blocks.{blocks_in}
 use Rattle.record_pool.proofs.Records.{no_blocks}
 use Rattle.connectors.specs.WireState.{WireState, at_hand, taken, settled, cleared, IsHeldIn, given_in}
 use Rattle.run_desk.specs.Desk.{DeskState}
-use Rattle.run_desk.specs.Pure.{inputs_of, outputs_of, in_door, out_door, sights_of, sight_door, through, wire_in, wire_out, sight_through}
-use Rattle.run_desk.specs.Order.{holds, offer_holds, holds_of, IsPooled}
-use Rattle.run_desk.specs.Moves.{changed, offer_on, hand_on, in_shut, out_shut, all_changed, sights_seen, pool_seen, unseen, sights_without, pool_without, made, pool_moved, Behind, HasSight, CanMove, offers, IsHold, CanHold, CanCome, HasCome}
+use Rattle.run_desk.specs.Telling.{inputs_of, outputs_of, in_door, out_door, sights_of, sight_door, through, wire_in, wire_out, sight_through}
+use Rattle.run_desk.specs.Holding.{holds, offer_holds, holds_of, IsPooled}
+use Rattle.run_desk.specs.Turns.{list_changed_behind, offer_on, hand_on, in_shut, out_shut, wires_changed, sights_seen, pool_seen, no_sight, sights_without, pool_without, desk_after_turn, pool_after_turn, Behind, HasSight, CanTurn, offers, IsHold, CanHold, CanCome, HasCome}
 use Rattle.run_desk.proofs.Counts.{hold, count_first, count_last, count_changed, count_still, count_cleared, count_outs_shut, count_ins_shut, count_unseen, count_seen}
 use Rattle.run_desk.proofs.Gives.{holders_held, holders_given, alive_given, bytes_given, holders_shared, alive_shared, bytes_shared, holders_fresh, alive_fresh}
 
@@ -62,10 +62,10 @@ pooled_still wires now sights pool pooled same = record {
 
 -- a look at a record shares it, and gives back the one that was seen before
 look_at : (wires : List WireState) (sights : List (Option ℕ)) (pool : PoolState) (g k : ℕ) (sight : Option ℕ) → IsPooled wires sights pool → IsHeld pool g → slice_get sights k ≡ Some sight →
-    IsPooled wires (changed sights (λ old. Some g) (Some k)) (given_in (shared pool g) (sight_through sights (Some k)))
+    IsPooled wires (list_changed_behind sights (λ old. Some g) (Some k)) (given_in (shared pool g) (sight_through sights (Some k)))
 look_at wires sights pool g k sight pooled held at =
     let shares : IsPooled wires (Some g ∷ sights) (shared pool g) = pooled_shared wires wires sights (Some g ∷ sights) pool g pooled held (λ grip. omega (arith, count_first (holds grip) (Some g) sights)) in
-    pooled_given wires wires (Some g ∷ sights) (changed sights (λ old. Some g) (Some k)) (shared pool g) (sight_through sights (Some k)) shares
+    pooled_given wires wires (Some g ∷ sights) (list_changed_behind sights (λ old. Some g) (Some k)) (shared pool g) (sight_through sights (Some k)) shares
     (λ grip. omega (arith, count_first (holds grip) (Some g) sights, count_seen grip g sights k sight at))
 
 pooled_look : (wires : List WireState) (sights : List (Option ℕ)) (pool : PoolState) (door hand : Option ℕ) → IsPooled wires sights pool →
@@ -74,33 +74,33 @@ pooled_look wires sights pool door None pooled there held = pooled
 pooled_look wires sights pool door (Some g) pooled there held =
     let place = there g refl in
     let sight = at_some sights place.0 place.2 in
-    subst (λ x. IsPooled wires (changed sights (λ old. Some g) x) (given_in (shared pool g) (sight_through sights x))) (sym place.1) (look_at wires sights pool g place.0 sight.0 pooled (held g refl) sight.1)
+    subst (λ x. IsPooled wires (list_changed_behind sights (λ old. Some g) x) (given_in (shared pool g) (sight_through sights x))) (sym place.1) (look_at wires sights pool g place.0 sight.0 pooled (held g refl) sight.1)
 
 -- an offer that goes is given back
 pooled_cleared : (f : WireState → WireState) → ((grip : ℕ) (wire : WireState) → offer_holds grip (f wire) ≡ false) → (wires : List WireState) (sights : List (Option ℕ)) (pool : PoolState) (door : Option ℕ) →
-    IsPooled wires sights pool → IsPooled (changed wires f door) sights (given_in pool (offer_on (through wires door)))
+    IsPooled wires sights pool → IsPooled (list_changed_behind wires f door) sights (given_in pool (offer_on (through wires door)))
 pooled_cleared f gone wires sights pool door pooled =
-    pooled_given wires (changed wires f door) sights sights pool (offer_on (through wires door)) pooled (λ grip. omega (arith, count_cleared grip f (gone grip) wires door))
+    pooled_given wires (list_changed_behind wires f door) sights sights pool (offer_on (through wires door)) pooled (λ grip. omega (arith, count_cleared grip f (gone grip) wires door))
 
 -- sights are given back one by one
 pooled_without : (wires : List WireState) (doors sights : List (Option ℕ)) (pool : PoolState) → IsPooled wires sights pool → IsPooled wires (sights_without doors sights) (pool_without doors sights pool)
 pooled_without wires [] sights pool pooled = pooled
-pooled_without wires (door ∷ doors) sights pool pooled = pooled_without wires doors (changed sights unseen door) (given_in pool (sight_through sights door))
-    (pooled_given wires wires sights (changed sights unseen door) pool (sight_through sights door) pooled (λ grip. omega (arith, count_unseen grip sights door)))
+pooled_without wires (door ∷ doors) sights pool pooled = pooled_without wires doors (list_changed_behind sights no_sight door) (given_in pool (sight_through sights door))
+    (pooled_given wires wires sights (list_changed_behind sights no_sight door) pool (sight_through sights door) pooled (λ grip. omega (arith, count_unseen grip sights door)))
 
 -- after a turn the pool counts what the desk holds then
-pub pooled_made : (d : DeskState) (pool : PoolState) (s : ℕ) (seen : Seen) → IsPooled d.wires d.sights pool → CanMove d pool s seen → IsPooled (made d s seen).wires (made d s seen).sights (pool_moved d pool s seen)
+pub pooled_made : (d : DeskState) (pool : PoolState) (s : ℕ) (seen : Seen) → IsPooled d.wires d.sights pool → CanTurn d pool s seen → IsPooled (desk_after_turn d s seen).wires (desk_after_turn d s seen).sights (pool_after_turn d pool s seen)
 pooled_made d pool s (Up level code) pooled can = pooled
 pooled_made d pool s (Saw i) pooled can = pooled_look d.wires d.sights pool (sight_door d s i) (hand_on (wire_in d s i)) pooled can.0 can.1
-pooled_made d pool s (Took i) pooled can = pooled_still d.wires (changed d.wires taken (in_door d s i)) d.sights pool pooled (λ grip. count_still (offer_holds grip) taken (λ wire. refl) d.wires (in_door d s i))
+pooled_made d pool s (Took i) pooled can = pooled_still d.wires (list_changed_behind d.wires taken (in_door d s i)) d.sights pool pooled (λ grip. count_still (offer_holds grip) taken (λ wire. refl) d.wires (in_door d s i))
 pooled_made d pool s (Put o) pooled can = pooled_cleared settled (λ grip wire. refl) d.wires d.sights pool (out_door d s o) pooled
 pooled_made d pool s (Refused o) pooled can = pooled_cleared cleared (λ grip wire. refl) d.wires d.sights pool (out_door d s o) pooled
 pooled_made d pool s (Ended code) pooled can =
     let ins = inputs_of (slice_get d.doors s) in
     let outs = outputs_of (slice_get d.doors s) in
     let own = sights_of (slice_get d.doors s) in
-    pooled_still d.wires (all_changed in_shut ins (all_changed out_shut outs d.wires)) (sights_without own d.sights) (pool_without own d.sights pool) (pooled_without d.wires own d.sights pool pooled)
-    (λ grip. count_ins_shut grip ins (all_changed out_shut outs d.wires) ∙ count_outs_shut grip outs d.wires)
+    pooled_still d.wires (wires_changed in_shut ins (wires_changed out_shut outs d.wires)) (sights_without own d.sights) (pool_without own d.sights pool) (pooled_without d.wires own d.sights pool pooled)
+    (λ grip. count_ins_shut grip ins (wires_changed out_shut outs d.wires) ∙ count_outs_shut grip outs d.wires)
 pooled_made d pool s _ pooled can = pooled
 
 -- what is still held then was held, with the same bytes
@@ -108,7 +108,7 @@ bytes_without : (doors sights : List (Option ℕ)) (pool : PoolState) (grip : �
     IsHeld pool grip × (bytes_at (pool_without doors sights pool) grip ≡ bytes_at pool grip)
 bytes_without [] sights pool grip held = (held, refl)
 bytes_without (door ∷ doors) sights pool grip held =
-    let rest = bytes_without doors (changed sights unseen door) (given_in pool (sight_through sights door)) grip held in
+    let rest = bytes_without doors (list_changed_behind sights no_sight door) (given_in pool (sight_through sights door)) grip held in
     let here = bytes_given pool (sight_through sights door) grip rest.0 in
     (here.0, rest.1 ∙ here.1)
 
@@ -119,7 +119,7 @@ bytes_seen pool before (Some g) grip held =
     rest.1 ∙ (bytes_shared pool g grip rest.0).1
 
 -- after a turn what is held was held, with the same bytes
-pub bytes_moved : (d : DeskState) (pool : PoolState) (s : ℕ) (seen : Seen) (grip : ℕ) → IsHeld (pool_moved d pool s seen) grip → bytes_at (pool_moved d pool s seen) grip ≡ bytes_at pool grip
+pub bytes_moved : (d : DeskState) (pool : PoolState) (s : ℕ) (seen : Seen) (grip : ℕ) → IsHeld (pool_after_turn d pool s seen) grip → bytes_at (pool_after_turn d pool s seen) grip ≡ bytes_at pool grip
 bytes_moved d pool s (Saw i) grip held = bytes_seen pool (sight_through d.sights (sight_door d s i)) (hand_on (wire_in d s i)) grip held
 bytes_moved d pool s (Put o) grip held = (bytes_given pool (offer_on (wire_out d s o)) grip held).1
 bytes_moved d pool s (Refused o) grip held = (bytes_given pool (offer_on (wire_out d s o)) grip held).1
@@ -127,24 +127,24 @@ bytes_moved d pool s (Ended code) grip held = (bytes_without (sights_of (slice_g
 bytes_moved d pool s _ grip held = refl
 
 -- what the desk holds after a turn has the bytes that it had
-pub texts_made : (d : DeskState) (pool : PoolState) (s : ℕ) (seen : Seen) → IsPooled d.wires d.sights pool → CanMove d pool s seen →
-    (grip : ℕ) → 0 < holds_of (made d s seen).wires (made d s seen).sights grip → bytes_at (pool_moved d pool s seen) grip ≡ bytes_at pool grip
+pub texts_made : (d : DeskState) (pool : PoolState) (s : ℕ) (seen : Seen) → IsPooled d.wires d.sights pool → CanTurn d pool s seen →
+    (grip : ℕ) → 0 < holds_of (desk_after_turn d s seen).wires (desk_after_turn d s seen).sights grip → bytes_at (pool_after_turn d pool s seen) grip ≡ bytes_at pool grip
 texts_made d pool s seen pooled can grip some =
-    bytes_moved d pool s seen grip (held_by (made d s seen).wires (made d s seen).sights (pool_moved d pool s seen) (pooled_made d pool s seen pooled can) grip some)
+    bytes_moved d pool s seen grip (held_by (desk_after_turn d s seen).wires (desk_after_turn d s seen).sights (pool_after_turn d pool s seen) (pooled_made d pool s seen pooled can) grip some)
 
 -- Coming home
 
 -- an offer where there was none is one hold more
 count_offered : (grip g : ℕ) (wires : List WireState) (k : ℕ) (wire : WireState) → slice_get wires k ≡ Some wire → wire.offer ≡ None →
-    count_by (offer_holds grip) (changed wires (offers g) (Some k)) ≡ hold grip (Some g) + count_by (offer_holds grip) wires
+    count_by (offer_holds grip) (list_changed_behind wires (offers g) (Some k)) ≡ hold grip (Some g) + count_by (offer_holds grip) wires
 count_offered grip g wires k wire at free = omega (arith, count_changed (offer_holds grip) (offers g) wires k wire at, ap (hold grip) free)
 
 holds_offered : (grip g : ℕ) (wires : List WireState) (sights : List (Option ℕ)) (door : Option ℕ) → IsSome (through wires door) → Behind (λ wire. wire.offer ≡ None) wires door →
-    holds_of (changed wires (offers g) door) sights grip ≡ hold grip (Some g) + holds_of wires sights grip
+    holds_of (list_changed_behind wires (offers g) door) sights grip ≡ hold grip (Some g) + holds_of wires sights grip
 holds_offered grip g wires sights None there free = cc
 holds_offered grip g wires sights (Some k) there free = by_wire (slice_get wires k) refl there
   where
-    by_wire : (x : Option WireState) → slice_get wires k ≡ x → IsSome x → holds_of (changed wires (offers g) (Some k)) sights grip ≡ hold grip (Some g) + holds_of wires sights grip
+    by_wire : (x : Option WireState) → slice_get wires k ≡ x → IsSome x → holds_of (list_changed_behind wires (offers g) (Some k)) sights grip ≡ hold grip (Some g) + holds_of wires sights grip
     by_wire None at is = cc
     by_wire (Some wire) at is = omega (arith, count_offered grip g wires k wire at (free wire at))
 
@@ -162,7 +162,7 @@ pooled_hold wires now sights d pool after s (Same i) grip pooled can is more =
 pub pooled_home : (d new : DeskState) (pool after : PoolState) (s : ℕ) (w : Want) → IsPooled d.wires d.sights pool → CanCome d pool s w → HasCome d pool s w new after → IsPooled new.wires new.sights after
 pooled_home d new pool after s (want.Write o out) pooled can has =
     subst (λ (z : DeskState). IsPooled z.wires z.sights after) (sym has.2)
-    (pooled_hold d.wires (changed d.wires (offers has.0) (out_door d s o)) d.sights d pool after s out has.0 pooled can.1 has.1
+    (pooled_hold d.wires (list_changed_behind d.wires (offers has.0) (out_door d s o)) d.sights d pool after s out has.0 pooled can.1 has.1
     (λ other. holds_offered other has.0 d.wires d.sights (out_door d s o) can.0.0 can.0.1))
 pooled_home d new pool after s _ pooled can has =
     subst (λ (z : DeskState). IsPooled z.wires z.sights after) (sym has.0) (subst (λ (z : PoolState). IsPooled d.wires d.sights z) (sym has.1) pooled)

@@ -12,9 +12,9 @@ use Rattle.record_pool.specs.PoolState.{PoolState}
 use Rattle.record_pool.specs.Places.{bytes_at}
 use Rattle.stage_steps.specs.Coroutine.{told, meaning, last_seen, IsSeenBefore}
 use Rattle.run_desk.specs.Desk.{DeskState}
-use Rattle.run_desk.specs.Kept.{left_out, left_in}
-use Rattle.run_desk.specs.Moves.{made, pool_moved, CanMove, CanCome, HasCome}
-use Rattle.run_desk.specs.Order.{IsRun}
+use Rattle.run_desk.specs.Standing.{left_out, left_in}
+use Rattle.run_desk.specs.Turns.{desk_after_turn, pool_after_turn, CanTurn, CanCome, HasCome}
+use Rattle.run_desk.specs.Holding.{RunStands}
 use Rattle.run_desk.proofs.Texts.{retext}
 use Rattle.run_desk.proofs.Makes.{kept_made}
 use Rattle.run_desk.proofs.Homes.{kept_home, kept_gone}
@@ -23,15 +23,15 @@ use Rattle.run_desk.proofs.Pacing.{pacing_made, pacing_home}
 use Rattle.run_desk.proofs.Conditions.{can_move}
 use Rattle.run_desk.proofs.Comings.{can_come}
 
-module _ (net : Net) (st : State) (left : Left) (d : DeskState) (pool : PoolState) (formed : IsWellFormed net) (own : (t : Who) (q : Strand) → strand_at net st t ≡ Some q → IsOwn q (past st t)) (run : IsRun net st left d pool) where
+module _ (net : Net) (st : State) (left : Left) (d : DeskState) (pool : PoolState) (formed : IsWellFormed net) (own : (t : Who) (q : Strand) → strand_at net st t ≡ Some q → IsOwn q (past st t)) (run : RunStands net st left d pool) where
   -- an event that may be can be made, and what is kept is kept of the state after it
   module _ (short : (t : Who) → length (past st t) < 18446744073709551615) (s : Who) (k : ℕ) (e : Event) (may : licence net st left s k ≡ Some e) where
-    pub run_can : CanMove d pool s (told e)
+    pub run_can : CanTurn d pool s (told e)
     run_can = can_move net st left d pool s k e formed own short run may
 
-    pub run_made : IsRun net (with_event st s e) (left_out left s) (made d s (told e)) (pool_moved d pool s (told e))
+    pub run_made : RunStands net (with_event st s e) (left_out left s) (desk_after_turn d s (told e)) (pool_after_turn d pool s (told e))
     run_made = record {
-      kept = retext net (bytes_at pool) (bytes_at (pool_moved d pool s (told e))) (with_event st s e) (left_out left s) (made d s (told e))
+      kept = retext net (bytes_at pool) (bytes_at (pool_after_turn d pool s (told e))) (with_event st s e) (left_out left s) (desk_after_turn d s (told e))
           (kept_made net (bytes_at pool) st left d s k e formed run.kept may) (texts_made d pool s (told e) run.pooled run_can);
       pooled = pooled_made d pool s (told e) run.pooled run_can;
       pacing = pacing_made net (bytes_at pool) st left d s k e formed own run.kept run.pacing may;
@@ -42,7 +42,7 @@ module _ (net : Net) (st : State) (left : Left) (d : DeskState) (pool : PoolStat
     pub run_can_come : CanCome d pool s w
     run_can_come = can_come net st left d pool s strand w formed own run out there going means seen
 
-    pub run_home : (d' : DeskState) (after : PoolState) → HasCome d pool s w d' after → IsRun net st (left_in left s) d' after
+    pub run_home : (d' : DeskState) (after : PoolState) → HasCome d pool s w d' after → RunStands net st (left_in left s) d' after
     run_home d' after come = record {
       kept = kept_home net st left d d' pool after s strand w formed own run.kept run.pooled out there going means run_can_come come;
       pooled = pooled_home d d' pool after s w run.pooled run_can_come come;
@@ -50,5 +50,5 @@ module _ (net : Net) (st : State) (left : Left) (d : DeskState) (pool : PoolStat
     }
 
   -- a strand that has ended comes home to the same desk
-  pub run_gone : (s : Who) → has_ended (past st s) ≡ true → IsRun net st (left_in left s) d pool
+  pub run_gone : (s : Who) → has_ended (past st s) ≡ true → RunStands net st (left_in left s) d pool
   run_gone s ended = record { kept = kept_gone net (bytes_at pool) st left d s run.kept ended; pooled = run.pooled; pacing = run.pacing }

@@ -24,9 +24,9 @@ use Rattle.commit_levels.proofs.Agreement.{answers_as}
 use Rattle.connectors.specs.WireState.{WireState}
 use Rattle.run_desk.specs.declared.seat.Seat.{Seat}
 use Rattle.run_desk.specs.Desk.{DeskState}
-use Rattle.run_desk.specs.Pure as Pure
+use Rattle.run_desk.specs.Telling as Telling
 use Rattle.stage_steps.specs.Coroutine.{told}
-use Rattle.run_desk.specs.Kept.{asked, IsWire, link_through, IsKept}
+use Rattle.run_desk.specs.Standing.{asked, IsWire, link_through, DeskStands}
 
 -- Lists
 
@@ -38,36 +38,36 @@ ends_too (x ∷ xs) [] k n e = absurd (omega (arith, n))
 ends_too (x ∷ xs) (y ∷ ys) zero n e = cc
 ends_too (x ∷ xs) (y ∷ ys) (suc k) n e = ends_too xs ys k (omega (arith, n)) e
 
-joined_some : (x : Option (Option ℕ)) (j : ℕ) → Pure.joined x ≡ Some j → x ≡ Some (Some j)
+joined_some : (x : Option (Option ℕ)) (j : ℕ) → Telling.joined x ≡ Some j → x ≡ Some (Some j)
 joined_some None j e = cc
 joined_some (Some y) j e = ap Some e
 
 -- the test of a level holds of a level
-level_test : (l : ℤ) → IsLevel l → Pure.is_level l ≡ true
+level_test : (l : ℤ) → IsLevel l → Telling.is_level l ≡ true
 level_test l is = grind (arith, common_steps, is.0, is.1)
 
 -- The answers
 
-told_read : (i : ℕ) (x : Option (List ℕ)) (b : Bool) → Pure.read_seen i (is_some x) b ≡ option_map told (read_answer i x b)
+told_read : (i : ℕ) (x : Option (List ℕ)) (b : Bool) → Telling.read_seen i (is_some x) b ≡ option_map told (read_answer i x b)
 told_read i None true = refl
 told_read i None false = refl
 told_read i (Some r) b = refl
 
-told_any : (i : ℕ) (x : Option (List ℕ)) (b : Bool) → Pure.any_seen i (is_some x) b ≡ option_map told (any_answer i x b)
+told_any : (i : ℕ) (x : Option (List ℕ)) (b : Bool) → Telling.any_seen i (is_some x) b ≡ option_map told (any_answer i x b)
 told_any i None true = refl
 told_any i None false = refl
 told_any i (Some r) b = refl
 
-told_write : (o : ℕ) (r : List ℕ) (a b : Bool) → Pure.write_seen o a b ≡ option_map told (write_answer o r a b)
+told_write : (o : ℕ) (r : List ℕ) (a b : Bool) → Telling.write_seen o a b ≡ option_map told (write_answer o r a b)
 told_write o r true b = refl
 told_write o r false true = refl
 told_write o r false false = refl
 
-told_primed : (x : Option Bool) → Pure.primed_seen x ≡ option_map told (primed_answer x)
+told_primed : (x : Option Bool) → Telling.primed_seen x ≡ option_map told (primed_answer x)
 told_primed None = refl
 told_primed (Some b) = refl
 
-told_up : (l : ℤ) (x : Option ℤ) → Pure.up_seen l x ≡ option_map told (up_answer l x)
+told_up : (l : ℤ) (x : Option ℤ) → Telling.up_seen l x ≡ option_map told (up_answer l x)
 told_up l None = refl
 told_up l (Some c) = refl
 
@@ -80,15 +80,15 @@ told_none : (b : Bool) → None ≡ option_map told (cond b None None)
 told_none true = refl
 told_none false = refl
 
-module _ (net : Net) (texts : ℕ → List ℕ) (st : State) (left : Left) (d : DeskState) (formed : IsWellFormed net) (kept : IsKept net texts st left d) where
-  pub ask_is : (s : Who) → Pure.ask_at d s ≡ asked (want_at net st left s)
+module _ (net : Net) (texts : ℕ → List ℕ) (st : State) (left : Left) (d : DeskState) (formed : IsWellFormed net) (kept : DeskStands net texts st left d) where
+  pub ask_is : (s : Who) → Telling.ask_at d s ≡ asked (want_at net st left s)
   ask_is s = go (slice_get d.seats s) refl
     where
       none : (b : Bool) → cond b None (want_after (slice_get net.strands s) (past st s)) ≡ cond b None (want_after None (past st s)) → asked (cond b None (want_after (slice_get net.strands s) (past st s))) ≡ asked None
       none true e = refl
       none false e = ap asked e
 
-      go : (a : Option Seat) → slice_get d.seats s ≡ a → Pure.ask_of a ≡ asked (want_at net st left s)
+      go : (a : Option Seat) → slice_get d.seats s ≡ a → Telling.ask_of a ≡ asked (want_at net st left s)
       go None e = sym (none (left s) (ap (λ z. cond (left s) None (want_after z (past st s))) (ends_too d.seats net.strands s kept.laid.seat_count e)))
       go (Some a) e = (kept.seats s a e).ask
 
@@ -98,26 +98,26 @@ module _ (net : Net) (texts : ℕ → List ℕ) (st : State) (left : Left) (d : 
     none : w ≡ None → l ≡ None
     some : (x : WireState) → w ≡ Some x → (k : Link) × (l ≡ Some k) × IsWire net texts st left k x × (k.queue ≡ false)
 
-  through_is : (j : Option ℕ) → AreSame (Pure.through d.wires j) (link_through net.links j)
+  through_is : (j : Option ℕ) → AreSame (Telling.through d.wires j) (link_through net.links j)
   through_is None = record { none = λ e. refl; some = λ x e. cc }
   through_is (Some j) = record {
     none = λ e. ends_too d.wires net.links j kept.laid.wire_count e;
     some = λ x e. let l = beside d.wires net.links j x kept.laid.wire_count e in (l.0, l.1, kept.wires j l.0 x l.1 e, kept.laid.rendezvous j l.0 l.1);
   }
 
-  even_is : (l : Link) (w : WireState) → IsWire net texts st left l w → Pure.is_even w ≡ is_level st l
+  even_is : (l : Link) (w : WireState) → IsWire net texts st left l w → Telling.is_even w ≡ is_level st l
   even_is l w is = ap (λ z. z == w.tooks) is.puts ∙ ap (λ z. puts st l == z) is.tooks
 
   map_some : (x : Option ℕ) → is_some x ≡ is_some (option_map texts x)
   map_some None = refl
   map_some (Some g) = refl
 
-  shows_is : (w : Option WireState) (l : Option Link) → AreSame w l → Pure.shows w ≡ is_some (at_hand net st left l)
+  shows_is : (w : Option WireState) (l : Option Link) → AreSame w l → Telling.shows w ≡ is_some (at_hand net st left l)
   shows_is None l both_are = ap (λ z. is_some (at_hand net st left z)) (sym (both_are.none refl))
   shows_is (Some w) l both_are =
       let s = both_are.some w refl in
-      if_some (Pure.is_even w) w.offer
-      ∙ ap (λ z. Pure.is_even w && z) (map_some w.offer ∙ ap is_some s.2.offer)
+      if_some (Telling.is_even w) w.offer
+      ∙ ap (λ z. Telling.is_even w && z) (map_some w.offer ∙ ap is_some s.2.offer)
       ∙ ap (λ z. z && is_some (offered s.0.output (want_at net st left s.0.from))) (even_is s.0 w s.2)
       ∙ sym (if_some (is_level st s.0) (offered s.0.output (want_at net st left s.0.from)))
       ∙ ap (λ b. is_some (cond b (slice_get (records_on s.0.output (past st s.0.from)) (tooks st s.0)) (cond (is_level st s.0) (offered s.0.output (want_at net st left s.0.from)) None))) (sym s.3)
@@ -127,41 +127,41 @@ module _ (net : Net) (texts : ℕ → List ℕ) (st : State) (left : Left) (d : 
       if_some true x = refl
       if_some false x = refl
 
-  over_is : (w : Option WireState) (l : Option Link) → AreSame w l → Pure.is_over w ≡ is_over st l
+  over_is : (w : Option WireState) (l : Option Link) → AreSame w l → Telling.is_over w ≡ is_over st l
   over_is None l both_are = ap (is_over st) (sym (both_are.none refl))
   over_is (Some w) l both_are =
       let s = both_are.some w refl in
-      ap (λ z. z && Pure.is_even w) s.2.out_closed ∙ ap (λ z. out_closed st s.0 && z) (even_is s.0 w s.2) ∙ ap (is_over st) (sym s.1)
+      ap (λ z. z && Telling.is_even w) s.2.out_closed ∙ ap (λ z. out_closed st s.0 && z) (even_is s.0 w s.2) ∙ ap (is_over st) (sym s.1)
 
-  put_is : (w : Option WireState) (l : Option Link) → AreSame w l → Pure.can_put w ≡ may_put st l
+  put_is : (w : Option WireState) (l : Option Link) → AreSame w l → Telling.can_put w ≡ may_put st l
   put_is None l both_are = ap (may_put st) (sym (both_are.none refl))
   put_is (Some w) l both_are =
       let s = both_are.some w refl in
       ap (λ z. nat_lt z w.tooks) s.2.puts ∙ ap (λ z. nat_lt (puts st s.0) z) s.2.tooks
       ∙ ap (λ b. b || nat_lt (puts st s.0) (tooks st s.0)) (sym s.3) ∙ ap (may_put st) (sym s.1)
 
-  refuse_is : (w : Option WireState) (l : Option Link) → AreSame w l → Pure.can_refuse w ≡ may_refuse st l
+  refuse_is : (w : Option WireState) (l : Option Link) → AreSame w l → Telling.can_refuse w ≡ may_refuse st l
   refuse_is None l both_are = ap (may_refuse st) (sym (both_are.none refl))
   refuse_is (Some w) l both_are =
       let s = both_are.some w refl in
-      ap (λ z. z && Pure.is_even w) s.2.in_closed ∙ ap (λ z. in_closed st s.0 && z) (even_is s.0 w s.2)
+      ap (λ z. z && Telling.is_even w) s.2.in_closed ∙ ap (λ z. in_closed st s.0 && z) (even_is s.0 w s.2)
       ∙ ap (λ b. not b && (in_closed st s.0 && is_level st s.0)) (sym s.3) ∙ ap (may_refuse st) (sym s.1)
 
-  in_same : (s : Who) (i : ℕ) → AreSame (Pure.wire_in d s i) (link_in net st s i)
-  in_same s i = subst (AreSame (Pure.wire_in d s i)) (sym (kept.laid.in_doors s i)) (through_is (Pure.in_door d s i))
+  in_same : (s : Who) (i : ℕ) → AreSame (Telling.wire_in d s i) (link_in net st s i)
+  in_same s i = subst (AreSame (Telling.wire_in d s i)) (sym (kept.laid.in_doors s i)) (through_is (Telling.in_door d s i))
 
-  out_same : (s : Who) (o : ℕ) → AreSame (Pure.wire_out d s o) (link_out net st s o)
-  out_same s o = subst (AreSame (Pure.wire_out d s o)) (sym (kept.laid.out_doors s o)) (through_is (Pure.out_door d s o))
+  out_same : (s : Who) (o : ℕ) → AreSame (Telling.wire_out d s o) (link_out net st s o)
+  out_same s o = subst (AreSame (Telling.wire_out d s o)) (sym (kept.laid.out_doors s o)) (through_is (Telling.out_door d s o))
 
   -- Commit levels and DAM
 
-  code_is : (s : Who) (l : ℤ) → IsLevel l → Pure.level_code d l ≡ level_of net st left s l
+  code_is : (s : Who) (l : ℤ) → IsLevel l → Telling.level_code d l ≡ level_of net st left s l
   code_is s l is = ap (λ b. cond b (levels.answer d.unit l) None) (level_test l is) ∙ answers_as net st left s d.unit l is (record { count = kept.member_count; each = kept.members })
 
-  primed_is : (s : Who) → Pure.primed_at d s ≡ primed_by (past st (first_part net st s))
-  primed_is s = ap (λ z. Pure.primed_of (slice_get d.seats z)) (kept.laid.firsts s) ∙ go (first_part net st s) (slice_get d.seats (first_part net st s)) refl
+  primed_is : (s : Who) → Telling.primed_at d s ≡ primed_by (past st (first_part net st s))
+  primed_is s = ap (λ z. Telling.primed_of (slice_get d.seats z)) (kept.laid.firsts s) ∙ go (first_part net st s) (slice_get d.seats (first_part net st s)) refl
     where
-      go : (t : Who) (a : Option Seat) → slice_get d.seats t ≡ a → Pure.primed_of a ≡ primed_by (past st t)
+      go : (t : Who) (a : Option Seat) → slice_get d.seats t ≡ a → Telling.primed_of a ≡ primed_by (past st t)
       go t None e = ap primed_by (sym (kept.nobody t e))
       go t (Some a) e =
           ap (λ z. cond z (Some true) (cond a.has_ended (Some false) None)) (kept.seats t a e).seen
@@ -169,14 +169,14 @@ module _ (net : Net) (texts : ℕ → List ℕ) (st : State) (left : Left) (d : 
 
   -- All inputs
 
-  all_over_is : (s : Who) → Pure.all_over d s ≡ all_over net st s
-  all_over_is s = both_ways (Pure.all_over d s) (all_over net st s) there back
+  all_over_is : (s : Who) → Telling.all_over d s ≡ all_over net st s
+  all_over_is s = both_ways (Telling.all_over d s) (all_over net st s) there back
     where
       doors : List (Option ℕ)
-      doors = Pure.inputs_of (slice_get d.doors s)
+      doors = Telling.inputs_of (slice_get d.doors s)
 
       over_door : Option ℕ → Bool
-      over_door x = Pure.is_over (Pure.through d.wires x)
+      over_door x = Telling.is_over (Telling.through d.wires x)
 
       over_link : Link → Bool
       over_link l = not (same l.to s) || is_over st (Some l)
@@ -194,14 +194,14 @@ module _ (net : Net) (texts : ℕ → List ℕ) (st : State) (left : Left) (d : 
               let place : n.1.0 ≡ j = formed.one_in n.1.0 j m.0 l n.1.1 at (eqb-true _ _ u.0 ∙ sym (eqb-true _ _ e)) (eqb-true _ _ u.1) in
               let one : Some m.0 ≡ Some l = sym n.1.1 ∙ ap (slice_get net.links) place ∙ at in
               let found : link_in net st s l.input ≡ Some l = m.1 ∙ one in
-              by_door (Pure.in_door d s l.input) refl found
+              by_door (Telling.in_door d s l.input) refl found
             where
-              by_door : (x : Option ℕ) → Pure.in_door d s l.input ≡ x → link_in net st s l.input ≡ Some l → is_over st (Some l) ≡ true
+              by_door : (x : Option ℕ) → Telling.in_door d s l.input ≡ x → link_in net st s l.input ≡ Some l → is_over st (Some l) ≡ true
               by_door None is found = let none : None ≡ Some l = sym (kept.laid.in_doors s l.input ∙ ap (link_through net.links) is) ∙ found in cc
               by_door (Some k) is found =
                   let over : over_door (Some k) ≡ true = all_at over_door doors l.input all (joined_some (slice_get doors l.input) k is) in
                   let link : link_through net.links (Some k) ≡ Some l = sym (kept.laid.in_doors s l.input ∙ ap (link_through net.links) is) ∙ found in
-                  ap (is_over st) (sym link) ∙ sym (over_is (Pure.through d.wires (Some k)) (link_through net.links (Some k)) (through_is (Some k))) ∙ over
+                  ap (is_over st) (sym link) ∙ sym (over_is (Telling.through d.wires (Some k)) (link_through net.links (Some k)) (through_is (Some k))) ∙ over
 
           each : (j : ℕ) (l : Link) → slice_get net.links j ≡ Some l → over_link l ≡ true
           each j l at = by_test j l at (same l.to s) refl
@@ -220,44 +220,44 @@ module _ (net : Net) (texts : ℕ → List ℕ) (st : State) (left : Left) (d : 
           each : (i : ℕ) (x : Option ℕ) → slice_get doors i ≡ Some x → over_door x ≡ true
           each i None at = refl
           each i (Some k) at =
-              let door : Pure.in_door d s i ≡ Some k = ap Pure.joined at in
+              let door : Telling.in_door d s i ≡ Some k = ap Telling.joined at in
               let is : link_in net st s i ≡ link_through net.links (Some k) = kept.laid.in_doors s i ∙ ap (link_through net.links) door in
-              over_is (Pure.through d.wires (Some k)) (link_through net.links (Some k)) (through_is (Some k)) ∙ ap (is_over st) (sym is) ∙ by_link i (link_in net st s i) refl
+              over_is (Telling.through d.wires (Some k)) (link_through net.links (Some k)) (through_is (Some k)) ∙ ap (is_over st) (sym is) ∙ by_link i (link_in net st s i) refl
 
   -- What the want's answer tells
 
   by_want : (s : Who) (k : ℕ) (w : Option Want) → ((l : ℤ) → w ≡ Some (Commit l) → IsLevel l) →
-      Pure.seen_by d s k (asked w) ≡ option_map told (answer (sight_of net st left s) k w)
+      Telling.seen_by d s k (asked w) ≡ option_map told (answer (sight_of net st left s) k w)
   by_want s k None levels = refl
-  by_want s k (Some (Commit l)) levels = told_if (k == 0) (Pure.up_seen l (Pure.level_code d l)) (up_answer l (level_of net st left s l)) (ap (Pure.up_seen l) (code_is s l (levels l refl)) ∙ told_up l (level_of net st left s l))
+  by_want s k (Some (Commit l)) levels = told_if (k == 0) (Telling.up_seen l (Telling.level_code d l)) (up_answer l (level_of net st left s l)) (ap (Telling.up_seen l) (code_is s l (levels l refl)) ∙ told_up l (level_of net st left s l))
   by_want s k (Some (Read i)) levels =
       let hand = at_hand net st left (link_in net st s i) in
       let over = is_over st (link_in net st s i) in
-      told_if (k == i) (Pure.read_seen i (Pure.shows (Pure.wire_in d s i)) (Pure.is_over (Pure.wire_in d s i))) (read_answer i hand over)
-      (ap (λ z. Pure.read_seen i z (Pure.is_over (Pure.wire_in d s i))) (shows_is (Pure.wire_in d s i) (link_in net st s i) (in_same s i))
-      ∙ ap (λ z. Pure.read_seen i (is_some hand) z) (over_is (Pure.wire_in d s i) (link_in net st s i) (in_same s i)) ∙ told_read i hand over)
+      told_if (k == i) (Telling.read_seen i (Telling.shows (Telling.wire_in d s i)) (Telling.is_over (Telling.wire_in d s i))) (read_answer i hand over)
+      (ap (λ z. Telling.read_seen i z (Telling.is_over (Telling.wire_in d s i))) (shows_is (Telling.wire_in d s i) (link_in net st s i) (in_same s i))
+      ∙ ap (λ z. Telling.read_seen i (is_some hand) z) (over_is (Telling.wire_in d s i) (link_in net st s i) (in_same s i)) ∙ told_read i hand over)
   by_want s k (Some Any) levels =
       let hand = at_hand net st left (link_in net st s k) in
-      ap (λ z. Pure.any_seen k z ((k == 0) && Pure.all_over d s)) (shows_is (Pure.wire_in d s k) (link_in net st s k) (in_same s k))
-      ∙ ap (λ z. Pure.any_seen k (is_some hand) ((k == 0) && z)) (all_over_is s) ∙ told_any k hand ((k == 0) && all_over net st s)
+      ap (λ z. Telling.any_seen k z ((k == 0) && Telling.all_over d s)) (shows_is (Telling.wire_in d s k) (link_in net st s k) (in_same s k))
+      ∙ ap (λ z. Telling.any_seen k (is_some hand) ((k == 0) && z)) (all_over_is s) ∙ told_any k hand ((k == 0) && all_over net st s)
   by_want s k (Some Gate) levels =
       let hand = at_hand net st left (link_in net st s k) in
-      ap (λ z. Pure.read_seen k z ((k == 0) && Pure.is_over (Pure.wire_in d s k))) (shows_is (Pure.wire_in d s k) (link_in net st s k) (in_same s k))
-      ∙ ap (λ z. Pure.read_seen k (is_some hand) ((k == 0) && z)) (over_is (Pure.wire_in d s k) (link_in net st s k) (in_same s k)) ∙ told_read k hand ((k == 0) && is_over st (link_in net st s k))
+      ap (λ z. Telling.read_seen k z ((k == 0) && Telling.is_over (Telling.wire_in d s k))) (shows_is (Telling.wire_in d s k) (link_in net st s k) (in_same s k))
+      ∙ ap (λ z. Telling.read_seen k (is_some hand) ((k == 0) && z)) (over_is (Telling.wire_in d s k) (link_in net st s k) (in_same s k)) ∙ told_read k hand ((k == 0) && is_over st (link_in net st s k))
   by_want s k (Some (Take i)) levels = told_if (k == i) (Some (Told.Took i)) (Some (Took i)) refl
   by_want s k (Some (Write o r)) levels =
       let put = may_put st (link_out net st s o) in
       let refuse = may_refuse st (link_out net st s o) in
-      told_if (k == o) (Pure.write_seen o (Pure.can_put (Pure.wire_out d s o)) (Pure.can_refuse (Pure.wire_out d s o))) (write_answer o r put refuse)
-      (ap (λ z. Pure.write_seen o z (Pure.can_refuse (Pure.wire_out d s o))) (put_is (Pure.wire_out d s o) (link_out net st s o) (out_same s o))
-      ∙ ap (λ z. Pure.write_seen o put z) (refuse_is (Pure.wire_out d s o) (link_out net st s o) (out_same s o)) ∙ told_write o r put refuse)
+      told_if (k == o) (Telling.write_seen o (Telling.can_put (Telling.wire_out d s o)) (Telling.can_refuse (Telling.wire_out d s o))) (write_answer o r put refuse)
+      (ap (λ z. Telling.write_seen o z (Telling.can_refuse (Telling.wire_out d s o))) (put_is (Telling.wire_out d s o) (link_out net st s o) (out_same s o))
+      ∙ ap (λ z. Telling.write_seen o put z) (refuse_is (Telling.wire_out d s o) (link_out net st s o) (out_same s o)) ∙ told_write o r put refuse)
   by_want s k (Some Prime) levels =
       let primed = primed_by (past st (first_part net st s)) in
-      told_if (k == 0) (Pure.primed_seen (Pure.primed_at d s)) (primed_answer primed) (ap Pure.primed_seen (primed_is s) ∙ told_primed primed)
+      told_if (k == 0) (Telling.primed_seen (Telling.primed_at d s)) (primed_answer primed) (ap Telling.primed_seen (primed_is s) ∙ told_primed primed)
   by_want s k (Some (Issue text)) levels = told_none (k == 0)
   by_want s k (Some (Join u)) levels = told_none (k == 0)
   by_want s k (Some (Sever i)) levels = told_if (k == i) (Some (Told.Cut i)) (Some (Severed i)) refl
   by_want s k (Some (Done c)) levels = told_if (k == 0) (Some (Told.Ended c)) (Some (Ended c)) refl
 
-  pub seen_is : (s : Who) (k : ℕ) → Pure.seen_at d s k ≡ option_map told (licence net st left s k)
-  seen_is s k = ap (Pure.seen_by d s k) (ask_is s) ∙ by_want s k (want_at net st left s) (kept.early s)
+  pub seen_is : (s : Who) (k : ℕ) → Telling.seen_at d s k ≡ option_map told (licence net st left s k)
+  seen_is s k = ap (Telling.seen_by d s k) (ask_is s) ∙ by_want s k (want_at net st left s) (kept.early s)

@@ -17,9 +17,9 @@ use Rattle.confluence_laws.proofs.Reached.{saw_it}
 use Rattle.stage_steps.specs.Coroutine.{told, record_seen_on}
 use Rattle.connectors.specs.WireState.{WireState}
 use Rattle.run_desk.specs.Desk.{DeskState}
-use Rattle.run_desk.specs.Pure.{joined, through, wire_in, in_door, sights_of, sight_door, sight_through}
-use Rattle.run_desk.specs.Kept.{IsWire, IsSight, IsLaid, IsKept, link_through}
-use Rattle.run_desk.specs.Moves.{changed, hand_on, sights_seen, sights_without, ends, moved}
+use Rattle.run_desk.specs.Telling.{joined, through, wire_in, in_door, sights_of, sight_door, sight_through}
+use Rattle.run_desk.specs.Standing.{IsWire, IsSight, IsLaid, DeskStands, link_through}
+use Rattle.run_desk.specs.Turns.{list_changed_behind, hand_on, sights_seen, sights_without, ends, rest_after_turn}
 use Rattle.run_desk.proofs.Lists.{changed_here, map_back}
 use Rattle.run_desk.proofs.SightDoors.{has_sight, through_changed, through_without}
 use Rattle.run_desk.proofs.Events.{looks_at, last_stays, ended_stays}
@@ -43,7 +43,7 @@ sight_of_hand net st d laid s i grip hand = by_door (in_door d s i) refl hand
     by_door None door hand = cc
     by_door (Some j) door hand = let there = has_sight (slice_get d.doors s) i j door in (there.0, there.1, laid.sights_there s i there.0 there.1)
 
-module _ (net : Net) (texts : ℕ → List ℕ) (st : State) (left : Left) (d : DeskState) (kept : IsKept net texts st left d) where
+module _ (net : Net) (texts : ℕ → List ℕ) (st : State) (left : Left) (d : DeskState) (kept : DeskStands net texts st left d) where
   -- the wire behind an input with a record at hand shows it
   pub shows_it : (s : Who) (i : ℕ) (rec : List ℕ) → at_hand net st left (link_in net st s i) ≡ Some rec → (grip : ℕ) × (hand_on (wire_in d s i) ≡ Some grip) × (texts grip ≡ rec)
   shows_it s i rec hand = by_door (in_door d s i) (ap (at_hand net st left) (sym (kept.laid.in_doors s i)) ∙ hand)
@@ -79,7 +79,7 @@ module _ (net : Net) (texts : ℕ → List ℕ) (st : State) (left : Left) (s : 
         ∙ ap (record_seen_on n) (sym (at_same st s e)) ∙ ap (λ z. record_seen_on n (past now z)) (sym it)
   ]
 
-  module _ (d : DeskState) (kept : IsKept net texts st left d) where
+  module _ (d : DeskState) (kept : DeskStands net texts st left d) where
     abbrev sight : Who → ℕ → Option ℕ
     sight u n = sight_through d.sights (sight_door d u n)
 
@@ -87,7 +87,7 @@ module _ (net : Net) (texts : ℕ → List ℕ) (st : State) (left : Left) (s : 
     at_look : (i : ℕ) (rec : List ℕ) → e ≡ Saw i rec → (u : Who) (n : ℕ) →
         IsSight texts now u n (sight_through (sights_seen d.sights (sight_door d s i) (hand_on (wire_in d s i))) (sight_door d u n))
     at_look i rec is u n = subst (λ z. IsSight texts now u n (sight_through (sights_seen d.sights (sight_door d s i) z) (sight_door d u n))) (sym hand.1)
-        (subst (λ z. IsSight texts now u n (sight_through (changed d.sights looked z) (sight_door d u n))) (sym place.1) (by (equal_or_not u s) (equal_or_not n i)))
+        (subst (λ z. IsSight texts now u n (sight_through (list_changed_behind d.sights looked z) (sight_door d u n))) (sym place.1) (by (equal_or_not u s) (equal_or_not n i)))
       where
         hand : (grip : ℕ) × (hand_on (wire_in d s i) ≡ Some grip) × (texts grip ≡ rec)
         hand = shows_it net texts st left d kept s i rec (saw_it net st left s k i rec (may ∙ ap Some is))
@@ -101,16 +101,16 @@ module _ (net : Net) (texts : ℕ → List ℕ) (st : State) (left : Left) (s : 
         elsewhere : ((u ≡ s) × (n ≡ i) → ⊥) → sight_door d u n ≢ Some place.0
         elsewhere apart to = apart (kept.laid.sights_apart u s n i place.0 to place.1)
 
-        others : ((u ≡ s) × (n ≡ i) → ⊥) → (u ≡ s → looks_at n e ≡ false) → IsSight texts now u n (sight_through (changed d.sights looked (Some place.0)) (sight_door d u n))
+        others : ((u ≡ s) × (n ≡ i) → ⊥) → (u ≡ s → looks_at n e ≡ false) → IsSight texts now u n (sight_through (list_changed_behind d.sights looked (Some place.0)) (sight_door d u n))
         others apart off = subst (IsSight texts now u n) (sym (through_changed d.sights looked place.0 (sight_door d u n) (elsewhere apart)))
             (still u n (sight u n) (kept.sights u n) (λ it. (ap (λ x. ends (told x)) is, off it)))
 
-        by : (u ≡ s) ⊎ (u ≢ s) → (n ≡ i) ⊎ (n ≢ i) → IsSight texts now u n (sight_through (changed d.sights looked (Some place.0)) (sight_door d u n))
+        by : (u ≡ s) ⊎ (u ≢ s) → (n ≡ i) ⊎ (n ≢ i) → IsSight texts now u n (sight_through (list_changed_behind d.sights looked (Some place.0)) (sight_door d u n))
         by (inl it) (inl too) going =
             let old = at_some d.sights place.0 place.2 in
             let to : sight_door d u n ≡ Some place.0 = ap (λ z. sight_door d z n) it ∙ ap (sight_door d s) too ∙ place.1 in
-            let held : sight_through (changed d.sights looked (Some place.0)) (sight_door d u n) ≡ Some hand.0 =
-            ap (sight_through (changed d.sights looked (Some place.0))) to ∙ ap joined (changed_here d.sights looked place.0 ∙ ap (option_map looked) old.1) in
+            let held : sight_through (list_changed_behind d.sights looked (Some place.0)) (sight_door d u n) ≡ Some hand.0 =
+            ap (sight_through (list_changed_behind d.sights looked (Some place.0))) to ∙ ap joined (changed_here d.sights looked place.0 ∙ ap (option_map looked) old.1) in
             ap (option_map texts) held ∙ ap Some hand.2
             ∙ sym (ap (λ z. record_seen_on n (past now z)) it ∙ ap (record_seen_on n) (at_same st s e) ∙ ap (λ x. record_seen_on n (x ∷ past st s)) is
             ∙ ap (λ b. cond b (Some rec) (record_seen_on n (past st s))) (ap (λ z. i == z) too ∙ test_same i))
@@ -128,13 +128,13 @@ module _ (net : Net) (texts : ℕ → List ℕ) (st : State) (left : Left) (s : 
             (still u n (sight u n) (kept.sights u n) (λ it. absurd (other it))) going
 
     -- each sight is what the strand saw last on the input
-    pub sights_made : (u : Who) (n : ℕ) → IsSight texts now u n (sight_through (moved d s (told e)).sights (sight_door d u n))
+    pub sights_made : (u : Who) (n : ℕ) → IsSight texts now u n (sight_through (rest_after_turn d s (told e)).sights (sight_door d u n))
     sights_made u n = by e refl
       where
         alone : (f : Event) → e ≡ f → ends (told f) ≡ false → ((i : ℕ) → looks_at i f ≡ false) → IsSight texts now u n (sight u n)
         alone f is quiet off = still u n (sight u n) (kept.sights u n) (λ it. (ap (λ x. ends (told x)) is ∙ quiet, ap (looks_at n) is ∙ off n))
 
-        by : (f : Event) → e ≡ f → IsSight texts now u n (sight_through (moved d s (told f)).sights (sight_door d u n))
+        by : (f : Event) → e ≡ f → IsSight texts now u n (sight_through (rest_after_turn d s (told f)).sights (sight_door d u n))
         by (Saw i rec) is = at_look i rec is u n
         by (Ended code) is = at_end code is u n
         by (Put o rec) is = alone (Put o rec) is refl (λ i. refl)

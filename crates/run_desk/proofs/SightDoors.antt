@@ -3,8 +3,8 @@ use Rattle.std.proofs.Common.{◌≡◌, ◌≢◌, ℕ, zero, suc, ◌+◌, ◌
 use Rattle.std.specs.Option.{option_map}
 use Rattle.std.proofs.lemmas.Bool.{eqb-true}
 use Rattle.run_desk.specs.Desk.{DoorsState, DeskState}
-use Rattle.run_desk.specs.Pure.{joined, inputs_of, numbered, sights_of, sight_through}
-use Rattle.run_desk.specs.Moves.{changed, unseen, sights_without}
+use Rattle.run_desk.specs.Telling.{joined, inputs_of, numbered, sights_of, sight_through}
+use Rattle.run_desk.specs.Turns.{list_changed_behind, no_sight, sights_without}
 use Rattle.run_desk.proofs.Lists.{leads, leads_any, map_same, changed_there, sights_without_at, which_leads}
 
 -- Numbers
@@ -46,7 +46,7 @@ has_sight (Some doors) i j at = numbered_there doors.first_sight doors.inputs i 
 -- What stays
 
 -- where another sight changes, this one stays
-pub through_changed : (sights : List (Option ℕ)) (f : Option ℕ → Option ℕ) (n : ℕ) (door : Option ℕ) → door ≢ Some n → sight_through (changed sights f (Some n)) door ≡ sight_through sights door
+pub through_changed : (sights : List (Option ℕ)) (f : Option ℕ → Option ℕ) (n : ℕ) (door : Option ℕ) → door ≢ Some n → sight_through (list_changed_behind sights f (Some n)) door ≡ sight_through sights door
 through_changed sights f n None apart = refl
 through_changed sights f n (Some m) apart = ap joined (changed_there sights f n m (λ e. apart (ap Some e)))
 

@@ -11,8 +11,8 @@ use Rattle.pipe_model.specs.Form.Parting.{Whole, Queued, Streamed}
 use Rattle.pipe_model.specs.Table.{form}
 use Rattle.pipe_model.specs.WellFormed.{IsWellFormed, places_of}
 use Rattle.run_desk.specs.Desk.{DoorsState}
-use Rattle.run_desk.specs.Pure.{joined, numbered, sights_of}
-use Rattle.run_desk.specs.Moves.{changed}
+use Rattle.run_desk.specs.Telling.{joined, numbered, sights_of}
+use Rattle.run_desk.specs.Turns.{list_changed_behind}
 use Rattle.run_desk.specs.Blank.{closed_doors, doors_from, inputs_in, led_in, led_out, with_link, with_links}
 use Rattle.run_desk.proofs.Laying.{stays}
 use Rattle.run_desk.proofs.Lists.{changed_length}
@@ -22,7 +22,7 @@ use Rattle.run_desk.proofs.SightDoors.{numbered_at, numbered_long}
 
 in_still : (i j : ℕ) (x : Option DoorsState) → sights_of (option_map (led_in i j) x) ≡ sights_of x
 in_still i j None = refl
-in_still i j (Some x) = numbered_long x.first_sight (changed x.inputs (λ door. Some j) (Some i)) x.inputs (changed_length x.inputs (λ door. Some j) (Some i))
+in_still i j (Some x) = numbered_long x.first_sight (list_changed_behind x.inputs (λ door. Some j) (Some i)) x.inputs (changed_length x.inputs (λ door. Some j) (Some i))
 
 out_still : (o j : ℕ) (x : Option DoorsState) → sights_of (option_map (led_out o j) x) ≡ sights_of x
 out_still o j None = refl
@@ -33,7 +33,7 @@ pub links_still : (doors : List DoorsState) (links : List Link) (j s : ℕ) → 
 links_still doors [] j s = refl
 links_still doors (link ∷ links) j s =
     let old = with_links doors (suc j) links in
-    stays sights_of (led_in link.input j) (in_still link.input j) (changed old (led_out link.output j) (Some link.from)) link.to s
+    stays sights_of (led_in link.input j) (in_still link.input j) (list_changed_behind old (led_out link.output j) (Some link.from)) link.to s
     ∙ stays sights_of (led_out link.output j) (out_still link.output j) old link.from s ∙ links_still doors links (suc j) s
 
 -- Strands

@@ -8,9 +8,9 @@ use Rattle.pipe_model.specs.Licence.{Left}
 use Rattle.pipe_model.proofs.Numbers.{test_same}
 use Rattle.connectors.specs.WireState.{WireState}
 use Rattle.run_desk.specs.Desk.{DeskState}
-use Rattle.run_desk.specs.Pure.{joined, sight_door, sight_through}
-use Rattle.run_desk.specs.Kept.{IsWire, IsKept}
-use Rattle.run_desk.specs.Order.{holds, offer_holds, holds_of}
+use Rattle.run_desk.specs.Telling.{joined, sight_door, sight_through}
+use Rattle.run_desk.specs.Standing.{IsWire, DeskStands}
+use Rattle.run_desk.specs.Holding.{holds, offer_holds, holds_of}
 use Rattle.run_desk.proofs.Counts.{count_some}
 
 -- what an offer holds is held
@@ -35,8 +35,8 @@ same_text texts texts' None same = refl
 same_text texts texts' (Some grip) same = ap Some (same grip refl)
 
 -- where the records that are held are the same, the desk stands as before
-pub retext : (net : Net) (texts texts' : ℕ → List ℕ) (st : State) (left : Left) (d : DeskState) → IsKept net texts st left d →
-    ((grip : ℕ) → 0 < holds_of d.wires d.sights grip → texts' grip ≡ texts grip) → IsKept net texts' st left d
+pub retext : (net : Net) (texts texts' : ℕ → List ℕ) (st : State) (left : Left) (d : DeskState) → DeskStands net texts st left d →
+    ((grip : ℕ) → 0 < holds_of d.wires d.sights grip → texts' grip ≡ texts grip) → DeskStands net texts' st left d
 retext net texts texts' st left d kept same = record {
   laid = kept.laid;
   seats = kept.seats;

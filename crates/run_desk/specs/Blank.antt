@@ -8,7 +8,7 @@ use Rattle.commit_levels.specs.UnitState.{new_unit}
 use Rattle.run_desk.specs.declared.seat.Ask.TheVariants.{Nothing}
 use Rattle.run_desk.specs.declared.seat.Seat.{Seat}
 use Rattle.run_desk.specs.Desk.{DoorsState, DeskState}
-use Rattle.run_desk.specs.Moves.{changed}
+use Rattle.run_desk.specs.Turns.{list_changed_behind}
 
 -- the seat of a strand that has asked for nothing
 abbrev pub new_seat : Seat
@@ -30,15 +30,15 @@ inputs_in (strand ∷ strands) = strand.ports.inputs + inputs_in strands
 
 -- the doors, where an input leads to a link
 abbrev pub led_in : ℕ → ℕ → DoorsState → DoorsState
-led_in i j doors = record doors { inputs = changed doors.inputs (λ door. Some j) (Some i) }
+led_in i j doors = record doors { inputs = list_changed_behind doors.inputs (λ door. Some j) (Some i) }
 
 -- and where an output does
 abbrev pub led_out : ℕ → ℕ → DoorsState → DoorsState
-led_out o j doors = record doors { outputs = changed doors.outputs (λ door. Some j) (Some o) }
+led_out o j doors = record doors { outputs = list_changed_behind doors.outputs (λ door. Some j) (Some o) }
 
 -- the doors of all strands, where both ends of the j-th link lead to it
 abbrev pub with_link : List DoorsState → ℕ → Link → List DoorsState
-with_link doors j link = changed (changed doors (led_out link.output j) (Some link.from)) (led_in link.input j) (Some link.to)
+with_link doors j link = list_changed_behind (list_changed_behind doors (led_out link.output j) (Some link.from)) (led_in link.input j) (Some link.to)
 
 -- and so for all these links, which count from j
 abbrev pub with_links : List DoorsState → ℕ → List Link → List DoorsState

@@ -1,6 +1,6 @@
 pub mod Blank
 pub mod Desk
-pub mod Kept
-pub mod Moves
-pub mod Order
-pub mod Pure
+pub mod Holding
+pub mod Standing
+pub mod Telling
+pub mod Turns

@@ -6,7 +6,7 @@ ghost use Rattle.pipe_model.specs.WellFormed.{IsWellFormed};
 ghost use Rattle.record_pool.specs.PoolState.{empty_pool};
 ghost use Rattle.connectors.specs.WireState.{new_wire};
 ghost use Rattle.run_desk.specs.Blank.{new_seat, closed_doors, doors_from, inputs_in, led_in, led_out, with_link, with_links, blank_desk};
-ghost use Rattle.run_desk.specs.Order.{IsRun, out_from};
+ghost use Rattle.run_desk.specs.Holding.{RunStands, out_from};
 
 use crate::desk::Desk;
 use crate::doors::Doors;
@@ -23,7 +23,7 @@ impl Desk {
     pub fn blank(alloc: Global, net: &Net) -> Result<Desk, NoMemory>
         requires formed { IsWellFormed net.now }
         requires rendezvous { (j : ℕ) (link : Link) → slice_get net.now.links j ≡ Some link → link.queue ≡ false }
-        ensures { IfOk result (λ desk. IsRun net.now nothing_yet (out_from 0 (length net.now.strands)) desk empty_pool) }
+        ensures { IfOk result (λ desk. RunStands net.now nothing_yet (out_from 0 (length net.now.strands)) desk empty_pool) }
     {
         lay_out(alloc, net)
     }

@@ -1,8 +1,8 @@
 //! What a strand that comes home does to the desk.
 ghost use Rattle.std.specs.Prelude.{◌≡◌, ℕ, true, IfOk, OnErr};
 ghost use Rattle.run_desk.specs.declared.seat.Ask.TheVariants as Now;
-ghost use Rattle.run_desk.specs.Moves.{home, home_writing, unit_home, CanAsk, CanHold, IsHold, CanCome, HasCome, is_new, writes_new, bare, bare_out};
-ghost use Rattle.run_desk.specs.Pure as Pure;
+ghost use Rattle.run_desk.specs.Turns.{desk_at_home, desk_at_home_writing, unit_at_home, CanAsk, CanHold, IsHold, CanCome, HasCome, is_new, writes_new, bare, bare_out};
+ghost use Rattle.run_desk.specs.Telling as Telling;
 
 use crate::desk::Desk;
 use crate::seat::{Ask, ask_seat};
@@ -48,7 +48,7 @@ impl Desk {
     // A strand that writes nothing.
     fn ask(&mut self, strand: u32, ask: Ask)
         requires { CanAsk self.old strand ask }
-        ensures { self.new ≡ home self.old strand ask }
+        ensures { self.new ≡ desk_at_home self.old strand ask }
     {
         self.ask_unit(strand, ask);
         ask_seat(&mut self.seats, strand, ask);
@@ -59,7 +59,7 @@ impl Desk {
     fn write(&mut self, pool: &mut Pool, strand: u32, o: u16, out: &mut Out) -> Result<(), NoMemory>
         requires ask { CanAsk self.old strand (Now.Write o) }
         requires hold { CanHold self.old pool.old strand out.old }
-        ensures ok { IfOk result (λ done. (grip : ℕ) × IsHold self.old pool.old strand out.old grip pool.new × (self.new ≡ home_writing self.old strand o grip)) }
+        ensures ok { IfOk result (λ done. (grip : ℕ) × IsHold self.old pool.old strand out.old grip pool.new × (self.new ≡ desk_at_home_writing self.old strand o grip)) }
         ensures bare { out.new ≡ bare_out out.old }
         ensures err { OnErr result (self.new ≡ self.old) }
         ensures err_pool { OnErr result (pool.new ≡ pool.old) }
@@ -80,10 +80,10 @@ impl Desk {
         out: &mut Out,
         door: Option<u32>,
     ) -> Result<(), NoMemory>
-        requires door { door ≡ Pure.out_door self.old strand o }
+        requires door { door ≡ Telling.out_door self.old strand o }
         requires ask { CanAsk self.old strand (Now.Write o) }
         requires hold { CanHold self.old pool.old strand out.old }
-        ensures ok { IfOk result (λ done. (grip : ℕ) × IsHold self.old pool.old strand out.old grip pool.new × (self.new ≡ home_writing self.old strand o grip)) }
+        ensures ok { IfOk result (λ done. (grip : ℕ) × IsHold self.old pool.old strand out.old grip pool.new × (self.new ≡ desk_at_home_writing self.old strand o grip)) }
         ensures bare { out.new ≡ bare_out out.old }
         ensures err { OnErr result (self.new ≡ self.old) }
         ensures err_pool { OnErr result (pool.new ≡ pool.old) }
@@ -112,7 +112,7 @@ impl Desk {
 
     fn ask_unit(&mut self, strand: u32, ask: Ask)
         requires { CanAsk self.old strand ask }
-        ensures { self.new ≡ record self.old { unit = unit_home self.old.unit strand ask } }
+        ensures { self.new ≡ record self.old { unit = unit_at_home self.old.unit strand ask } }
     {
         if let Ask::Commit(level) = ask {
             self.unit.ask(strand, level);

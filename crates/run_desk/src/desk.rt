@@ -1,5 +1,5 @@
 ghost use Rattle.std.specs.Prelude.{◌≡◌, length, slice_get};
-ghost use Rattle.run_desk.specs.Pure as Pure;
+ghost use Rattle.run_desk.specs.Telling as Telling;
 
 use crate::doors::Doors;
 use crate::seat::Seat;
@@ -70,7 +70,7 @@ impl Desk {
 
     /// The number of the link at a strand's input.
     pub fn in_door(&self, strand: u32, i: u16) -> Option<u32>
-        ensures { result ≡ Pure.in_door self.now strand i }
+        ensures { result ≡ Telling.in_door self.now strand i }
     {
         match self.doors.get(strand as usize) {
             None => None,
@@ -80,7 +80,7 @@ impl Desk {
 
     // The number of the sight of a strand's input.
     pub(crate) fn sight_door(&self, strand: u32, i: u16) -> Option<usize>
-        ensures { result ≡ Pure.sight_door self.now strand i }
+        ensures { result ≡ Telling.sight_door self.now strand i }
     {
         match self.doors.get(strand as usize) {
             None => None,
@@ -90,7 +90,7 @@ impl Desk {
 
     /// The number of the link at a strand's output.
     pub fn out_door(&self, strand: u32, o: u16) -> Option<u32>
-        ensures { result ≡ Pure.out_door self.now strand o }
+        ensures { result ≡ Telling.out_door self.now strand o }
     {
         match self.doors.get(strand as usize) {
             None => None,
@@ -100,7 +100,7 @@ impl Desk {
 
     /// The numbers of the links at all of a strand's inputs.
     pub fn inputs(&self, strand: u32) -> &[Option<u32>]
-        ensures { result.now ≡ Pure.inputs_of (slice_get self.now.doors strand) }
+        ensures { result.now ≡ Telling.inputs_of (slice_get self.now.doors strand) }
     {
         match self.doors.get(strand as usize) {
             None => &[],
@@ -110,7 +110,7 @@ impl Desk {
 
     /// The numbers of the links at all of a strand's outputs.
     pub fn outputs(&self, strand: u32) -> &[Option<u32>]
-        ensures { result.now ≡ Pure.outputs_of (slice_get self.now.doors strand) }
+        ensures { result.now ≡ Telling.outputs_of (slice_get self.now.doors strand) }
     {
         match self.doors.get(strand as usize) {
             None => &[],
@@ -119,7 +119,7 @@ impl Desk {
     }
 
     pub(crate) fn input_count(&self, strand: u32) -> u16
-        ensures { result ≡ length (Pure.inputs_of (slice_get self.now.doors strand)) }
+        ensures { result ≡ length (Telling.inputs_of (slice_get self.now.doors strand)) }
     {
         match self.doors.get(strand as usize) {
             None => 0,
@@ -129,7 +129,7 @@ impl Desk {
 
     /// The first strand of the stage that a strand belongs to.
     pub fn first_of(&self, strand: u32) -> u32
-        ensures { result ≡ Pure.first_of strand (slice_get self.now.doors strand) }
+        ensures { result ≡ Telling.first_of strand (slice_get self.now.doors strand) }
     {
         match self.doors.get(strand as usize) {
             None => strand,

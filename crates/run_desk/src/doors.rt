@@ -1,6 +1,6 @@
 ghost use Rattle.std.specs.Prelude.{◌≡◌, ◌<◌, length, slice_get, Some};
 ghost use Rattle.std.specs.List.{list_all};
-ghost use Rattle.run_desk.specs.Pure as Pure;
+ghost use Rattle.run_desk.specs.Telling as Telling;
 
 use crate::looks::is_over;
 use connectors::Wire;
@@ -47,20 +47,20 @@ impl Doors {
     }
 
     pub(crate) fn input(&self, i: u16) -> Option<u32>
-        ensures { result ≡ Pure.joined (slice_get self.now.inputs i) }
+        ensures { result ≡ Telling.joined (slice_get self.now.inputs i) }
     {
         self.inputs.get(i as usize).copied()?
     }
 
     pub(crate) fn output(&self, o: u16) -> Option<u32>
-        ensures { result ≡ Pure.joined (slice_get self.now.outputs o) }
+        ensures { result ≡ Telling.joined (slice_get self.now.outputs o) }
     {
         self.outputs.get(o as usize).copied()?
     }
 
     // The number of the sight of an input.
     pub(crate) fn sight(&self, i: u16) -> Option<usize>
-        ensures { result ≡ Pure.joined (slice_get (Pure.sights_of (Some self.now)) i) }
+        ensures { result ≡ Telling.joined (slice_get (Telling.sights_of (Some self.now)) i) }
     {
         if (i as usize) < self.inputs.len() {
             Some(self.first_sight as usize + i as usize)
@@ -83,7 +83,7 @@ impl Doors {
 
     // Whether nothing will come any more on any input.
     pub(crate) fn all_over(&self, wires: &[Wire]) -> bool
-        ensures { result ≡ list_all (λ door. Pure.is_over (Pure.through wires.now door)) self.now.inputs }
+        ensures { result ≡ list_all (λ door. Telling.is_over (Telling.through wires.now door)) self.now.inputs }
     {
         self.inputs.iter().all(|door| is_over(wires, *door))
     }

@@ -1,13 +1,13 @@
 //! What a wire, a level or an ask tells of the event that may come.
 ghost use Rattle.std.specs.Prelude.{◌≡◌};
-ghost use Rattle.run_desk.specs.Pure as Pure;
+ghost use Rattle.run_desk.specs.Telling as Telling;
 
 use crate::seat::Ask;
 use connectors::Wire;
 use pipe_model::Seen;
 
 pub(crate) fn shows(wires: &[Wire], door: Option<u32>) -> bool
-    ensures { result ≡ Pure.shows (Pure.through wires.now door) }
+    ensures { result ≡ Telling.shows (Telling.through wires.now door) }
 {
     match door {
         None => false,
@@ -19,7 +19,7 @@ pub(crate) fn shows(wires: &[Wire], door: Option<u32>) -> bool
 }
 
 pub(crate) fn is_over(wires: &[Wire], door: Option<u32>) -> bool
-    ensures { result ≡ Pure.is_over (Pure.through wires.now door) }
+    ensures { result ≡ Telling.is_over (Telling.through wires.now door) }
 {
     match door {
         None => true,
@@ -31,7 +31,7 @@ pub(crate) fn is_over(wires: &[Wire], door: Option<u32>) -> bool
 }
 
 pub(crate) fn can_put(wires: &[Wire], door: Option<u32>) -> bool
-    ensures { result ≡ Pure.can_put (Pure.through wires.now door) }
+    ensures { result ≡ Telling.can_put (Telling.through wires.now door) }
 {
     match door {
         None => false,
@@ -43,7 +43,7 @@ pub(crate) fn can_put(wires: &[Wire], door: Option<u32>) -> bool
 }
 
 pub(crate) fn can_refuse(wires: &[Wire], door: Option<u32>) -> bool
-    ensures { result ≡ Pure.can_refuse (Pure.through wires.now door) }
+    ensures { result ≡ Telling.can_refuse (Telling.through wires.now door) }
 {
     match door {
         None => false,
@@ -55,26 +55,26 @@ pub(crate) fn can_refuse(wires: &[Wire], door: Option<u32>) -> bool
 }
 
 pub(crate) fn up_seen(level: i32, code: Option<i32>) -> Option<Seen>
-    ensures { result ≡ Pure.up_seen level code }
+    ensures { result ≡ Telling.up_seen level code }
 {
     Some(Seen::Up(level, code?))
 }
 
 pub(crate) fn primed_seen(primed: Option<bool>) -> Option<Seen>
-    ensures { result ≡ Pure.primed_seen primed }
+    ensures { result ≡ Telling.primed_seen primed }
 {
     Some(Seen::Primed(primed?))
 }
 
 // What is told, with its stream.
 pub(crate) fn on_stream(stream: u16, seen: Option<Seen>) -> Option<(u16, Seen)>
-    ensures { result ≡ Pure.on_stream stream seen }
+    ensures { result ≡ Telling.on_stream stream seen }
 {
     Some((stream, seen?))
 }
 
 pub(crate) fn stream_of(ask: Ask) -> u16
-    ensures { result ≡ Pure.stream_of ask }
+    ensures { result ≡ Telling.stream_of ask }
 {
     match ask {
         Ask::Read(i) | Ask::Take(i) | Ask::Write(i) | Ask::Cut(i) => i,

@@ -5,10 +5,10 @@ ghost use Rattle.record_pool.specs.Places.{bytes_at};
 ghost use Rattle.record_pool.specs.Blocks.{blocks_in};
 ghost use Rattle.connectors.specs.WireState.{IsHeldIn};
 ghost use Rattle.commit_levels.specs.UnitState.{Member};
-ghost use Rattle.run_desk.specs.Moves.{hand_on};
-ghost use Rattle.run_desk.specs.Order.{IsPooled};
-ghost use Rattle.run_desk.specs.Pure as Pure;
-ghost use Rattle.run_desk.specs.Pure.{sight_through};
+ghost use Rattle.run_desk.specs.Turns.{hand_on};
+ghost use Rattle.run_desk.specs.Holding.{IsPooled};
+ghost use Rattle.run_desk.specs.Telling as Telling;
+ghost use Rattle.run_desk.specs.Telling.{sight_through};
 
 use crate::desk::Desk;
 use crate::seat::Ask;
@@ -18,23 +18,23 @@ use record_pool::{Grip, Pool};
 impl Desk {
     /// The bytes of the record that a strand saw last on an input, and none where it saw none.
     pub fn seen_bytes<'a>(&self, pool: &'a Pool, strand: u32, i: u16) -> &'a [u8]
-        requires { IsHeldIn pool.now (sight_through self.now.sights (Pure.sight_door self.now strand i)) }
-        ensures { result.now ≡ option_map_or (bytes_at pool.now) (sight_through self.now.sights (Pure.sight_door self.now strand i)) [] }
+        requires { IsHeldIn pool.now (sight_through self.now.sights (Telling.sight_door self.now strand i)) }
+        ensures { result.now ≡ option_map_or (bytes_at pool.now) (sight_through self.now.sights (Telling.sight_door self.now strand i)) [] }
     {
         bytes_seen(&self.sights, pool, self.sight_door(strand, i))
     }
 
     /// The number of bytes of the record at hand on a strand's input, and 0 where none is.
     pub fn size_at_hand(&self, pool: &Pool, strand: u32, i: u16) -> usize
-        requires { IsHeldIn pool.now (hand_on (Pure.wire_in self.now strand i)) }
-        ensures { result ≡ length (option_map_or (bytes_at pool.now) (hand_on (Pure.wire_in self.now strand i)) []) }
+        requires { IsHeldIn pool.now (hand_on (Telling.wire_in self.now strand i)) }
+        ensures { result ≡ length (option_map_or (bytes_at pool.now) (hand_on (Telling.wire_in self.now strand i)) []) }
     {
         size_on(&self.wires, pool, self.in_door(strand, i))
     }
 
     /// Whether a strand has ended.
     pub fn has_ended(&self, strand: u32) -> bool
-        ensures { result ≡ Pure.ended_at self.now strand }
+        ensures { result ≡ Telling.ended_at self.now strand }
     {
         match self.seat(strand) {
             None => false,
@@ -44,7 +44,7 @@ impl Desk {
 
     /// Whether a strand asks for nothing: it is out, or has ended.
     pub fn asks_nothing(&self, strand: u32) -> bool
-        ensures { result ≡ Pure.asks_nothing (Pure.ask_at self.now strand) }
+        ensures { result ≡ Telling.asks_nothing (Telling.ask_at self.now strand) }
     {
         matches!(self.ask_of(strand), Ask::Nothing)
     }
@@ -81,8 +81,8 @@ fn bytes_seen<'a>(sights: &[Option<Grip>], pool: &'a Pool, door: Option<usize>) 
 }
 
 fn size_on(wires: &[Wire], pool: &Pool, door: Option<u32>) -> usize
-    requires { IsHeldIn pool.now (hand_on (Pure.through wires.now door)) }
-    ensures { result ≡ length (option_map_or (bytes_at pool.now) (hand_on (Pure.through wires.now door)) []) }
+    requires { IsHeldIn pool.now (hand_on (Telling.through wires.now door)) }
+    ensures { result ≡ length (option_map_or (bytes_at pool.now) (hand_on (Telling.through wires.now door)) []) }
 {
     match door {
         None => 0,

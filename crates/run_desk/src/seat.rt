@@ -1,5 +1,5 @@
 ghost use Rattle.std.specs.Prelude.{◌≡◌, Some};
-ghost use Rattle.run_desk.specs.Moves.{seat_after, changed, asking};
+ghost use Rattle.run_desk.specs.Turns.{seat_after, list_changed_behind, asking};
 
 use pipe_model::Seen;
 
@@ -42,7 +42,7 @@ pub struct Seat {
 }
 
 pub(crate) fn ask_seat(seats: &mut Vec<Seat>, strand: u32, ask: Ask)
-    ensures { seats.new.items ≡ changed seats.old.items (asking ask) (Some strand) }
+    ensures { seats.new.items ≡ list_changed_behind seats.old.items (asking ask) (Some strand) }
 {
     if let Some(seat) = seats.get_mut(strand as usize) {
         seat.ask = ask;
@@ -50,7 +50,7 @@ pub(crate) fn ask_seat(seats: &mut Vec<Seat>, strand: u32, ask: Ask)
 }
 
 pub(crate) fn change_seat(seats: &mut Vec<Seat>, strand: u32, seen: Seen)
-    ensures { seats.new.items ≡ changed seats.old.items (seat_after seen) (Some strand) }
+    ensures { seats.new.items ≡ list_changed_behind seats.old.items (seat_after seen) (Some strand) }
 {
     if let Some(seat) = seats.get_mut(strand as usize) {
         seat.note(seen);
@@ -59,7 +59,7 @@ pub(crate) fn change_seat(seats: &mut Vec<Seat>, strand: u32, seen: Seen)
 
 impl Seat {
     ghost use Rattle.std.specs.Prelude.{◌≡◌};
-    ghost use Rattle.run_desk.specs.Moves.{seat_after};
+    ghost use Rattle.run_desk.specs.Turns.{seat_after};
 
     // The strand is told this, and asks for nothing.
     fn note(&mut self, seen: Seen)

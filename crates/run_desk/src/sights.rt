@@ -1,8 +1,8 @@
 ghost use Rattle.std.specs.Prelude.{◌≡◌, ◌<◌, ℕ, Some, length};
 ghost use Rattle.record_pool.specs.Places.{IsHeld, holders_at, shared};
 ghost use Rattle.connectors.specs.WireState.{IsHeldIn, given_in};
-ghost use Rattle.run_desk.specs.Pure.{numbered, sight_through, through};
-ghost use Rattle.run_desk.specs.Moves.{changed, hand_on, HasSight, sights_seen, pool_seen, unseen, sights_without, pool_without, CanForget, CanShare, IsShare};
+ghost use Rattle.run_desk.specs.Telling.{numbered, sight_through, through};
+ghost use Rattle.run_desk.specs.Turns.{list_changed_behind, hand_on, HasSight, sights_seen, pool_seen, no_sight, sights_without, pool_without, CanForget, CanShare, IsShare};
 
 use connectors::Wire;
 use record_pool::{Grip, Pool};
@@ -70,7 +70,7 @@ pub(crate) fn forget(
 
 fn forget_at(sights: &mut Vec<Option<Grip>>, pool: &mut Pool, n: usize)
     requires { IsHeldIn pool.old (sight_through sights.old.items (Some n)) }
-    ensures sights { sights.new.items ≡ changed sights.old.items unseen (Some n) }
+    ensures sights { sights.new.items ≡ list_changed_behind sights.old.items no_sight (Some n) }
     ensures pool { pool.new ≡ given_in pool.old (sight_through sights.old.items (Some n)) }
 {
     if let Some(sight) = sights.get_mut(n) {

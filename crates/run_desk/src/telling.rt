@@ -1,6 +1,6 @@
 //! What a desk tells of the event that a strand may have.
 ghost use Rattle.std.specs.Prelude.{◌≡◌, ◌&&◌, ◌||◌, ◌==◌, slice_get, true, is_some};
-ghost use Rattle.run_desk.specs.Pure as Pure;
+ghost use Rattle.run_desk.specs.Telling as Telling;
 
 use crate::desk::Desk;
 use crate::looks::{
@@ -13,14 +13,14 @@ impl Desk {
     /// What a strand would be told on a stream, and None where it may not go on there. The cost is constant, but for a
     /// look at all inputs of a strand that asks for any.
     pub fn seen_at(&self, strand: u32, stream: u16) -> Option<Seen>
-        ensures { result ≡ Pure.seen_at self.now strand stream }
+        ensures { result ≡ Telling.seen_at self.now strand stream }
     {
         self.seen_by(strand, stream, self.ask_of(strand))
     }
 
     /// The least stream on which a strand may go on.
     pub fn ready_stream(&self, strand: u32) -> Option<u16>
-        ensures { Pure.IsFirst self.now strand result }
+        ensures { Telling.IsFirst self.now strand result }
     {
         let (stream, _) = self.ready_event(strand)?;
         Some(stream)
@@ -29,7 +29,7 @@ impl Desk {
     /// The least stream on which a strand may go on, with what it would be told there.
     #[inline(always)]
     pub fn ready_event(&self, strand: u32) -> Option<(u16, Seen)>
-        ensures { Pure.IsFirstEvent self.now strand result }
+        ensures { Telling.IsFirstEvent self.now strand result }
     {
         match self.ask_of(strand) {
             Ask::Read(i) => on_stream(i, self.read_seen(strand, i)),
@@ -44,8 +44,8 @@ impl Desk {
     #[tactic(auto, using(crate::proofs::Streams::wide_none, crate::proofs::Streams::next_none))]
     #[inline(never)]
     fn wide_event(&self, strand: u32) -> Option<(u16, Seen)>
-        requires { Pure.is_wide (Pure.ask_at self.now strand) ≡ true }
-        ensures { Pure.IsFirstEvent self.now strand result }
+        requires { Telling.is_wide (Telling.ask_at self.now strand) ≡ true }
+        ensures { Telling.IsFirstEvent self.now strand result }
     {
         let count = self.input_count(strand);
         if let Some(seen) = self.seen_at(strand, 0) {
@@ -62,7 +62,7 @@ impl Desk {
     }
 
     fn seen_by(&self, strand: u32, stream: u16, ask: Ask) -> Option<Seen>
-        ensures { result ≡ Pure.seen_by self.now strand stream ask }
+        ensures { result ≡ Telling.seen_by self.now strand stream ask }
     {
         match ask {
             Ask::Nothing | Ask::Issue | Ask::Join(_) => None,
@@ -80,7 +80,7 @@ impl Desk {
     }
 
     fn read_seen(&self, strand: u32, i: u16) -> Option<Seen>
-        ensures { result ≡ Pure.read_seen i (Pure.shows (Pure.wire_in self.now strand i)) (Pure.is_over (Pure.wire_in self.now strand i)) }
+        ensures { result ≡ Telling.read_seen i (Telling.shows (Telling.wire_in self.now strand i)) (Telling.is_over (Telling.wire_in self.now strand i)) }
     {
         let door = self.in_door(strand, i);
         if self.shows(door) {
@@ -93,7 +93,7 @@ impl Desk {
     }
 
     fn any_seen(&self, strand: u32, i: u16) -> Option<Seen>
-        ensures { result ≡ Pure.any_seen i (Pure.shows (Pure.wire_in self.now strand i)) ((i == 0) && Pure.all_over self.now strand) }
+        ensures { result ≡ Telling.any_seen i (Telling.shows (Telling.wire_in self.now strand i)) ((i == 0) && Telling.all_over self.now strand) }
     {
         if self.shows(self.in_door(strand, i)) {
             Some(Seen::Saw(i))
@@ -105,7 +105,7 @@ impl Desk {
     }
 
     fn gate_seen(&self, strand: u32, i: u16) -> Option<Seen>
-        ensures { result ≡ Pure.read_seen i (Pure.shows (Pure.wire_in self.now strand i)) ((i == 0) && Pure.is_over (Pure.wire_in self.now strand i)) }
+        ensures { result ≡ Telling.read_seen i (Telling.shows (Telling.wire_in self.now strand i)) ((i == 0) && Telling.is_over (Telling.wire_in self.now strand i)) }
     {
         let door = self.in_door(strand, i);
         if self.shows(door) {
@@ -118,7 +118,7 @@ impl Desk {
     }
 
     fn write_seen(&self, strand: u32, o: u16) -> Option<Seen>
-        ensures { result ≡ Pure.write_seen o (Pure.can_put (Pure.wire_out self.now strand o)) (Pure.can_refuse (Pure.wire_out self.now strand o)) }
+        ensures { result ≡ Telling.write_seen o (Telling.can_put (Telling.wire_out self.now strand o)) (Telling.can_refuse (Telling.wire_out self.now strand o)) }
     {
         let door = self.out_door(strand, o);
         if self.can_put(door) {
@@ -132,37 +132,37 @@ impl Desk {
 
     /// Whether what is offered behind a door may be put, or refused.
     pub fn may_write(&self, door: Option<u32>) -> bool
-        ensures { result ≡ (Pure.can_put (Pure.through self.now.wires door) || Pure.can_refuse (Pure.through self.now.wires door)) }
+        ensures { result ≡ (Telling.can_put (Telling.through self.now.wires door) || Telling.can_refuse (Telling.through self.now.wires door)) }
     {
         self.can_put(door) || self.can_refuse(door)
     }
 
     fn shows(&self, door: Option<u32>) -> bool
-        ensures { result ≡ Pure.shows (Pure.through self.now.wires door) }
+        ensures { result ≡ Telling.shows (Telling.through self.now.wires door) }
     {
         shows(&self.wires, door)
     }
 
     fn is_over(&self, door: Option<u32>) -> bool
-        ensures { result ≡ Pure.is_over (Pure.through self.now.wires door) }
+        ensures { result ≡ Telling.is_over (Telling.through self.now.wires door) }
     {
         is_over(&self.wires, door)
     }
 
     fn can_put(&self, door: Option<u32>) -> bool
-        ensures { result ≡ Pure.can_put (Pure.through self.now.wires door) }
+        ensures { result ≡ Telling.can_put (Telling.through self.now.wires door) }
     {
         can_put(&self.wires, door)
     }
 
     fn can_refuse(&self, door: Option<u32>) -> bool
-        ensures { result ≡ Pure.can_refuse (Pure.through self.now.wires door) }
+        ensures { result ≡ Telling.can_refuse (Telling.through self.now.wires door) }
     {
         can_refuse(&self.wires, door)
     }
 
     fn all_over(&self, strand: u32) -> bool
-        ensures { result ≡ Pure.all_over self.now strand }
+        ensures { result ≡ Telling.all_over self.now strand }
     {
         match self.doors.get(strand as usize) {
             None => true,
@@ -172,7 +172,7 @@ impl Desk {
 
     // Whether the first strand of the strand's stage has seen a record, once that is settled.
     fn primed(&self, strand: u32) -> Option<bool>
-        ensures { result ≡ Pure.primed_at self.now strand }
+        ensures { result ≡ Telling.primed_at self.now strand }
     {
         let seat = self.seat(self.first_of(strand))?;
         if seat.has_seen {
@@ -188,7 +188,7 @@ impl Desk {
     /// before they reached it, and 0 where none ended with another. None where the number is no level, which is -1 to
     /// 1,000.
     pub fn level_code(&self, level: i32) -> Option<i32>
-        ensures { result ≡ Pure.level_code self.now level }
+        ensures { result ≡ Telling.level_code self.now level }
     {
         if -1 <= level && level <= 1_000 {
             self.unit.answer(level)
@@ -199,7 +199,7 @@ impl Desk {
 
     /// Whether a strand has seen a record, or ended without one. Then it is settled what those are told that wait for it.
     pub fn is_primer(&self, strand: u32) -> bool
-        ensures { result ≡ is_some (Pure.primed_of (slice_get self.now.seats strand)) }
+        ensures { result ≡ is_some (Telling.primed_of (slice_get self.now.seats strand)) }
     {
         match self.seat(strand) {
             None => false,
@@ -208,7 +208,7 @@ impl Desk {
     }
 
     pub(crate) fn ask_of(&self, strand: u32) -> Ask
-        ensures { result ≡ Pure.ask_at self.now strand }
+        ensures { result ≡ Telling.ask_at self.now strand }
     {
         match self.seat(strand) {
             None => Ask::Nothing,

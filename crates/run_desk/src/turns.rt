@@ -1,8 +1,8 @@
 //! What a turn does to the desk.
 ghost use Rattle.std.specs.Prelude.{◌≡◌, ◌<◌, length, slice_get};
-ghost use Rattle.run_desk.specs.Moves.{made, moved, pool_moved, CanMove, closed, ended, CanForget, pool_without};
+ghost use Rattle.run_desk.specs.Turns.{desk_after_turn, rest_after_turn, pool_after_turn, CanTurn, desk_without_ends, desk_after_end, CanForget, pool_without};
 ghost use Rattle.commit_levels.specs.UnitState.{IsLive};
-ghost use Rattle.run_desk.specs.Pure as Pure;
+ghost use Rattle.run_desk.specs.Telling as Telling;
 
 use crate::desk::Desk;
 use crate::seat::change_seat;
@@ -15,9 +15,9 @@ impl Desk {
     /// What a turn does where a strand is told this: the strand is out then, and asks for nothing. It takes no memory.
     #[inline(always)]
     pub fn make(&mut self, pool: &mut Pool, strand: u32, seen: Seen)
-        requires { CanMove self.old pool.old strand seen }
-        ensures desk { self.new ≡ made self.old strand seen }
-        ensures pool { pool.new ≡ pool_moved self.old pool.old strand seen }
+        requires { CanTurn self.old pool.old strand seen }
+        ensures desk { self.new ≡ desk_after_turn self.old strand seen }
+        ensures pool { pool.new ≡ pool_after_turn self.old pool.old strand seen }
     {
         self.move_on(pool, strand, seen);
         change_seat(&mut self.seats, strand, seen);
@@ -26,9 +26,9 @@ impl Desk {
     // The same, but for the seat.
     #[inline(always)]
     fn move_on(&mut self, pool: &mut Pool, strand: u32, seen: Seen)
-        requires { CanMove self.old pool.old strand seen }
-        ensures desk { self.new ≡ moved self.old strand seen }
-        ensures pool { pool.new ≡ pool_moved self.old pool.old strand seen }
+        requires { CanTurn self.old pool.old strand seen }
+        ensures desk { self.new ≡ rest_after_turn self.old strand seen }
+        ensures pool { pool.new ≡ pool_after_turn self.old pool.old strand seen }
     {
         match seen {
             Seen::Up(level, _) => self.unit.reach(strand, level),
@@ -58,9 +58,9 @@ impl Desk {
     fn end(&mut self, pool: &mut Pool, strand: u32, code: i32)
         requires member { strand < length self.old.unit }
         requires live { IsLive self.old.unit strand }
-        requires sights { CanForget (Pure.sights_of (slice_get self.old.doors strand)) self.old.sights pool.old }
-        ensures desk { self.new ≡ ended self.old strand code }
-        ensures pool { pool.new ≡ pool_without (Pure.sights_of (slice_get self.old.doors strand)) self.old.sights pool.old }
+        requires sights { CanForget (Telling.sights_of (slice_get self.old.doors strand)) self.old.sights pool.old }
+        ensures desk { self.new ≡ desk_after_end self.old strand code }
+        ensures pool { pool.new ≡ pool_without (Telling.sights_of (slice_get self.old.doors strand)) self.old.sights pool.old }
     {
         self.close(pool, strand);
         self.unit.ended(strand, code);
@@ -68,9 +68,9 @@ impl Desk {
 
     // The ends of the wires that the strand holds are closed, and what it saw is given back.
     fn close(&mut self, pool: &mut Pool, strand: u32)
-        requires { CanForget (Pure.sights_of (slice_get self.old.doors strand)) self.old.sights pool.old }
-        ensures desk { self.new ≡ closed self.old strand }
-        ensures pool { pool.new ≡ pool_without (Pure.sights_of (slice_get self.old.doors strand)) self.old.sights pool.old }
+        requires { CanForget (Telling.sights_of (slice_get self.old.doors strand)) self.old.sights pool.old }
+        ensures desk { self.new ≡ desk_without_ends self.old strand }
+        ensures pool { pool.new ≡ pool_without (Telling.sights_of (slice_get self.old.doors strand)) self.old.sights pool.old }
     {
         if let Some(doors) = self.doors.get(strand as usize) {
             close_outs(&mut self.wires, doors.outputs());

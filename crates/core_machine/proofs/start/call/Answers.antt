@@ -1,7 +1,7 @@
 use Rattle.std.proofs.Common.{◌≡◌, ◌<◌, ◌+◌, suc, length, slice_get, slice_set, sym, ◌∙◌, ap, subst, arith, refl}
 use Rattle.pipe_model.specs.declared.net.Net.{Net}
-use Rattle.run_desk.specs.Moves.{CanCome}
-use Rattle.run_desk.specs.Pure as Pure
+use Rattle.run_desk.specs.Turns.{CanCome}
+use Rattle.run_desk.specs.Telling as Telling
 use Rattle.core_machine.specs.Actors.{asking_for}
 use Rattle.core_machine.specs.Floor.{IsInUse, StaysEarly}
 use Rattle.core_machine.specs.Start.{IsCalled}
@@ -24,7 +24,7 @@ come_home-requires-clause-used g c =
 
 pub come_home-requires-clause-ended : goal.come_home-requires-clause-ended
 come_home-requires-clause-ended g c =
-    called_live g.S.Stage.stands c.args.floor.now.net c.requires.formed c.args.strand c.args.actors.now.items c.args.floor.now.desk c.args.floor.now.pool c.requires.called c.requires.within ∙ ap (λ d. Pure.ended_at d c.args.strand) (sym c.wake.ensures.desk)
+    called_live g.S.Stage.stands c.args.floor.now.net c.requires.formed c.args.strand c.args.actors.now.items c.args.floor.now.desk c.args.floor.now.pool c.requires.called c.requires.within ∙ ap (λ d. Telling.ended_at d c.args.strand) (sym c.wake.ensures.desk)
 
 pub come_home-requires-clause-can : goal.come_home-requires-clause-can
 come_home-requires-clause-can g c =

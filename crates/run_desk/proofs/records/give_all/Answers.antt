@@ -1,7 +1,7 @@
 -- Each hold that is given back leaves the pool with the rest, and at the end with none.
 use Rattle.std.proofs.Common.{rules, ◌≡◌, ℕ, List, [], ◌∷◌, ◌++◌, Option, subst, Some}
 use Rattle.connectors.specs.WireState.{WireState}
-use Rattle.run_desk.specs.Order.{IsPooled}
+use Rattle.run_desk.specs.Holding.{IsPooled}
 use Rattle.run_desk.proofs.Pooled.{pooled_last_wire, pooled_last_sight, none_held}
 use Rattle.run_desk.proofs.records.give_all.Goals as goal
 

@@ -1,6 +1,6 @@
 -- The pool counts what is left to give back.
 use Rattle.std.proofs.Common.{[], length}
-use Rattle.run_desk.specs.Order.{IsPooled}
+use Rattle.run_desk.specs.Holding.{IsPooled}
 use Rattle.run_desk.proofs.records.give_all.Given as goal
 
 abbrev pub invariant-loop-wire : goal.invariant-loop-wire

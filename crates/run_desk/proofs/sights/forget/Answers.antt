@@ -2,8 +2,8 @@
 use Rattle.std.proofs.Common.{ℕ, ◌+◌, List, Option, Some, sym, ◌∙◌, ap, subst, arith, drop}
 use Rattle.record_pool.specs.PoolState.{PoolState}
 use Rattle.connectors.specs.WireState.{given_in}
-use Rattle.run_desk.specs.Pure.{numbered, sight_through}
-use Rattle.run_desk.specs.Moves.{sights_without, pool_without, CanForget}
+use Rattle.run_desk.specs.Telling.{numbered, sight_through}
+use Rattle.run_desk.specs.Turns.{sights_without, pool_without, CanForget}
 use Rattle.run_desk.proofs.SightDoors.{numbered_drop}
 use Rattle.run_desk.proofs.sights.forget.Goals as goal
 

@@ -1,7 +1,7 @@
 -- What is left to give back makes of the sights and the pool so far what is to be given back makes of the first ones.
 use Rattle.std.proofs.Common.{◌≡◌, ◌+◌, drop}
-use Rattle.run_desk.specs.Pure.{numbered}
-use Rattle.run_desk.specs.Moves.{CanForget, sights_without, pool_without}
+use Rattle.run_desk.specs.Telling.{numbered}
+use Rattle.run_desk.specs.Turns.{CanForget, sights_without, pool_without}
 use Rattle.run_desk.proofs.sights.forget.Given as goal
 
 abbrev pub invariant-loop : goal.invariant-loop

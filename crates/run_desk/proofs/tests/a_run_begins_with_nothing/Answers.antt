@@ -8,7 +8,7 @@ use Rattle.pipe_model.specs.Nets.{strand, rendezvous}
 use Rattle.pipe_model.specs.WellFormed.{IsWellFormed}
 use Rattle.confluence_laws.proofs.Formed.{ring_formed}
 use Rattle.record_pool.specs.PoolState.{empty_pool}
-use Rattle.run_desk.specs.Pure.{in_door, sight_door}
+use Rattle.run_desk.specs.Telling.{in_door, sight_door}
 use Rattle.run_desk.proofs.Limits.{hands_held, sights_held}
 use Rattle.run_desk.proofs.tests.a_run_begins_with_nothing.Goals as goal
 

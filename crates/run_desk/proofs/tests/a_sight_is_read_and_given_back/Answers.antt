@@ -3,8 +3,8 @@ use Rattle.std.proofs.Common.{rules, ◌≡◌, ℕ, List, [], ◌∷◌, refl, 
 use Rattle.record_pool.specs.PoolState.{PoolState, empty_pool}
 use Rattle.record_pool.specs.Places.{with_record, fresh}
 use Rattle.connectors.specs.WireState.{WireState}
-use Rattle.run_desk.specs.Pure.{joined, sights_of}
-use Rattle.run_desk.specs.Order.{holds, IsPooled}
+use Rattle.run_desk.specs.Telling.{joined, sights_of}
+use Rattle.run_desk.specs.Holding.{holds, IsPooled}
 use Rattle.run_desk.proofs.Counts.{count_first}
 use Rattle.run_desk.proofs.Limits.{sights_held}
 use Rattle.run_desk.proofs.Pooled.{pooled_fresh}

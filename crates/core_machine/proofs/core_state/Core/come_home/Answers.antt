@@ -1,7 +1,7 @@
 use Rattle.std.proofs.Common.{◌≡◌, ◌<◌, ◌≤◌, ℕ, true, length, take, List, arith, sym, ◌∙◌, ap, subst, vec_capacity}
 use Rattle.pipe_model.specs.declared.net.Net.{Net}
-use Rattle.run_desk.specs.Moves.{CanCome}
-use Rattle.run_desk.specs.Pure as Pure
+use Rattle.run_desk.specs.Turns.{CanCome}
+use Rattle.run_desk.specs.Telling as Telling
 use Rattle.core_machine.specs.Floor.{IsInUse, StaysEarly}
 use Rattle.core_machine.specs.Jobs.{HasGoneOn}
 use Rattle.core_machine.specs.Machine.{Machine, without, is_among, came_home}
@@ -31,7 +31,7 @@ come_home-requires-clause-used g c =
 pub come_home-requires-clause-ended : goal.come_home-requires-clause-ended
 come_home-requires-clause-ended g c =
     let i = c.self.inside in
-    c.has_ended-has_ended.ensures ∙ ap (λ d. Pure.ended_at d c.args.strand) (sym c.wake.ensures.desk)
+    c.has_ended-has_ended.ensures ∙ ap (λ d. Telling.ended_at d c.args.strand) (sym c.wake.ensures.desk)
 
 pub come_home-requires-clause-can : goal.come_home-requires-clause-can
 come_home-requires-clause-can g c =

@@ -4,8 +4,8 @@ use Rattle.std.proofs.lemmas.Option.{slice_get_within}
 use Rattle.pipe_model.specs.declared.net.Net.{Net}
 use Rattle.pipe_model.specs.declared.step.Entry.{Entry}
 use Rattle.pipe_model.specs.Play.{play}
-use Rattle.run_desk.specs.Moves.{CanCome, bare}
-use Rattle.run_desk.specs.Pure as Pure
+use Rattle.run_desk.specs.Turns.{CanCome, bare}
+use Rattle.run_desk.specs.Telling as Telling
 use Rattle.core_machine.specs.Actors.{gone_on, given_up, asking_for, looks_in, bytes_told}
 use Rattle.core_machine.specs.Floor.{IsInUse, StaysEarly}
 use Rattle.core_machine.specs.Machine.{Machine, licence_of, looks_at, IsLawful}
@@ -132,7 +132,7 @@ come_home-requires-clause-can g c =
     let at : slice_get (slice_set i.actors.items c.args.strand (gone_on c.args.seen on.2 on.3 on.0)) c.args.strand ≡ Some its =
     subst (λ l. slice_get l c.args.strand ≡ Some its) on.6 (read_there c.resume_at.new.actors.items c.args.strand its (omega (arith, longer, below)) c.index_mut.ensures.value) in
     let asked_is : on.3 ≡ its.asked = asked_last g.S.Stage.stands i.floor.net i.budget i.journal.items i.out.items i.actors.items i.floor.desk i.floor.pool c.self.invariant.0 c.args.strand c.args.stream c.requires.may.0 may on.0 on.1 on.4 on.5 c.args.seen c.requires.may.2 space moved.desk moved.pool c.make.ensures.desk c.make.ensures.pool on.2 on.3 its at in
-    let ended_is : c.ends.result ≡ Pure.ended_at moved.desk c.args.strand = c.ends.ensures ∙ home_ended g.S.Stage.stands i.floor.net i.budget i.journal.items i.out.items i.actors.items i.floor.desk i.floor.pool c.self.invariant.0 c.args.strand c.args.stream c.requires.may.0 may on.0 on.1 on.4 on.5 c.args.seen c.requires.may.2 space moved.desk moved.pool c.make.ensures.desk c.make.ensures.pool on.2 on.3 alone c.bytes_told-bytes.result.now bytes_is on.7 in
+    let ended_is : c.ends.result ≡ Telling.ended_at moved.desk c.args.strand = c.ends.ensures ∙ home_ended g.S.Stage.stands i.floor.net i.budget i.journal.items i.out.items i.actors.items i.floor.desk i.floor.pool c.self.invariant.0 c.args.strand c.args.stream c.requires.may.0 may on.0 on.1 on.4 on.5 c.args.seen c.requires.may.2 space moved.desk moved.pool c.make.ensures.desk c.make.ensures.pool on.2 on.3 alone c.bytes_told-bytes.result.now bytes_is on.7 in
     λ going. subst (CanCome moved.desk moved.pool c.args.strand) asked_is (home_can g.S.Stage.stands i.floor.net i.budget i.journal.items i.out.items i.actors.items i.floor.desk i.floor.pool c.self.invariant.0 c.args.strand c.args.stream c.requires.may.0 may on.0 on.1 on.4 on.5 c.args.seen c.requires.may.2 space moved.desk moved.pool c.make.ensures.desk c.make.ensures.pool on.2 on.3 alone c.bytes_told-bytes.result.now bytes_is on.7 (sym ended_is ∙ going))
 
 pub come_home-requires-clause-early : goal.come_home-requires-clause-early
@@ -152,7 +152,7 @@ come_home-requires-clause-early g c =
     let at : slice_get (slice_set i.actors.items c.args.strand (gone_on c.args.seen on.2 on.3 on.0)) c.args.strand ≡ Some its =
     subst (λ l. slice_get l c.args.strand ≡ Some its) on.6 (read_there c.resume_at.new.actors.items c.args.strand its (omega (arith, longer, below)) c.index_mut.ensures.value) in
     let asked_is : on.3 ≡ its.asked = asked_last g.S.Stage.stands i.floor.net i.budget i.journal.items i.out.items i.actors.items i.floor.desk i.floor.pool c.self.invariant.0 c.args.strand c.args.stream c.requires.may.0 may on.0 on.1 on.4 on.5 c.args.seen c.requires.may.2 space moved.desk moved.pool c.make.ensures.desk c.make.ensures.pool on.2 on.3 its at in
-    let ended_is : c.ends.result ≡ Pure.ended_at moved.desk c.args.strand = c.ends.ensures ∙ home_ended g.S.Stage.stands i.floor.net i.budget i.journal.items i.out.items i.actors.items i.floor.desk i.floor.pool c.self.invariant.0 c.args.strand c.args.stream c.requires.may.0 may on.0 on.1 on.4 on.5 c.args.seen c.requires.may.2 space moved.desk moved.pool c.make.ensures.desk c.make.ensures.pool on.2 on.3 alone c.bytes_told-bytes.result.now bytes_is on.7 in
+    let ended_is : c.ends.result ≡ Telling.ended_at moved.desk c.args.strand = c.ends.ensures ∙ home_ended g.S.Stage.stands i.floor.net i.budget i.journal.items i.out.items i.actors.items i.floor.desk i.floor.pool c.self.invariant.0 c.args.strand c.args.stream c.requires.may.0 may on.0 on.1 on.4 on.5 c.args.seen c.requires.may.2 space moved.desk moved.pool c.make.ensures.desk c.make.ensures.pool on.2 on.3 alone c.bytes_told-bytes.result.now bytes_is on.7 in
     λ going. subst (StaysEarly moved.desk moved.pool c.args.strand) asked_is (home_early g.S.Stage.stands i.floor.net i.budget i.journal.items i.out.items i.actors.items i.floor.desk i.floor.pool c.self.invariant.0 c.args.strand c.args.stream c.requires.may.0 may on.0 on.1 on.4 on.5 c.args.seen c.requires.may.2 space moved.desk moved.pool c.make.ensures.desk c.make.ensures.pool on.2 on.3 alone c.bytes_told-bytes.result.now bytes_is on.7 (sym ended_is ∙ going))
 
 pub come_home-requires-clause-here : goal.come_home-requires-clause-here
@@ -186,7 +186,7 @@ invariant_of-self-in-Ok-come_home g c =
     let at : slice_get (slice_set i.actors.items c.args.strand (gone_on c.args.seen on.2 on.3 on.0)) c.args.strand ≡ Some its =
     subst (λ l. slice_get l c.args.strand ≡ Some its) on.6 (read_there c.resume_at.new.actors.items c.args.strand its (omega (arith, longer, below)) c.index_mut.ensures.value) in
     let asked_is : on.3 ≡ its.asked = asked_last g.S.Stage.stands i.floor.net i.budget i.journal.items i.out.items i.actors.items i.floor.desk i.floor.pool c.self.invariant.0 c.args.strand c.args.stream c.requires.may.0 may on.0 on.1 on.4 on.5 c.args.seen c.requires.may.2 space moved.desk moved.pool c.make.ensures.desk c.make.ensures.pool on.2 on.3 its at in
-    let ended_is : c.ends.result ≡ Pure.ended_at moved.desk c.args.strand = c.ends.ensures ∙ home_ended g.S.Stage.stands i.floor.net i.budget i.journal.items i.out.items i.actors.items i.floor.desk i.floor.pool c.self.invariant.0 c.args.strand c.args.stream c.requires.may.0 may on.0 on.1 on.4 on.5 c.args.seen c.requires.may.2 space moved.desk moved.pool c.make.ensures.desk c.make.ensures.pool on.2 on.3 alone c.bytes_told-bytes.result.now bytes_is on.7 in
+    let ended_is : c.ends.result ≡ Telling.ended_at moved.desk c.args.strand = c.ends.ensures ∙ home_ended g.S.Stage.stands i.floor.net i.budget i.journal.items i.out.items i.actors.items i.floor.desk i.floor.pool c.self.invariant.0 c.args.strand c.args.stream c.requires.may.0 may on.0 on.1 on.4 on.5 c.args.seen c.requires.may.2 space moved.desk moved.pool c.make.ensures.desk c.make.ensures.pool on.2 on.3 alone c.bytes_told-bytes.result.now bytes_is on.7 in
     let net = c.come_home.ensures.net ∙ c.make.ensures.net in
     let now : slice_set c.resume_at.new.actors.items c.args.strand (asking_for c.come_home.new.want its) ≡ slice_set i.actors.items c.args.strand (gone_on c.args.seen on.2 c.come_home.new.want on.0) =
     ap (λ l. slice_set l c.args.strand (asking_for c.come_home.new.want its)) on.6 ∙ asking g.S.Stage.stands i.floor.net i.budget i.journal.items i.out.items i.actors.items i.floor.desk i.floor.pool c.self.invariant.0 c.args.strand c.args.stream c.requires.may.0 may on.0 on.1 on.4 on.5 c.args.seen c.requires.may.2 space moved.desk moved.pool c.make.ensures.desk c.make.ensures.pool on.2 on.3 its at c.come_home.new.want in

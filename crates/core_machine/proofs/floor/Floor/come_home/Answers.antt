@@ -1,7 +1,7 @@
 -- A strand that neither writes nor asks for a commit level settles nothing for others.
 use Rattle.std.proofs.Common.{◌≡◌, ◌||◌, not, refl, sym, ap, subst, is_some, true, false, pos, negsuc}
-use Rattle.run_desk.specs.Moves.{HasCome}
-use Rattle.run_desk.specs.Pure as Pure
+use Rattle.run_desk.specs.Turns.{HasCome}
+use Rattle.run_desk.specs.Telling as Telling
 use Rattle.core_machine.specs.Floor.{FloorState, IsInUse, StaysEarly}
 use Rattle.core_machine.specs.Members.{is_member}
 use Rattle.core_machine.specs.Woken.{commits}
@@ -20,8 +20,8 @@ invariant_of-self-in_default c =
     let early = subst (λ (f : FloorState). StaysEarly f.desk f.pool s w) (sym v) (c.requires.early c.if-has_ended.false) in
     let plain : commits w ≡ false = no_commit w c.in_default.not-Commit in
     let come : HasCome d i.pool s w c.come_home.new.self c.come_home.new.pool = c.in_ok-come_home-in_default.ensures.home in
-    let low_is : true ≡ (not (commits w) || is_some (Pure.level_code d (negsuc 0))) = sym (ap (λ z. not z || is_some (Pure.level_code d (negsuc 0))) plain) in
-    let zero_is : true ≡ (not (commits w) || is_some (Pure.level_code d (pos 0))) = sym (ap (λ z. not z || is_some (Pure.level_code d (pos 0))) plain) in
+    let low_is : true ≡ (not (commits w) || is_some (Telling.level_code d (negsuc 0))) = sym (ap (λ z. not z || is_some (Telling.level_code d (negsuc 0))) plain) in
+    let zero_is : true ≡ (not (commits w) || is_some (Telling.level_code d (pos 0))) = sym (ap (λ z. not z || is_some (Telling.level_code d (pos 0))) plain) in
     record {
       formed = c.self.invariant.formed;
       size = c.self.invariant.size;

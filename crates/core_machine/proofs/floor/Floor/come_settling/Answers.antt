@@ -1,8 +1,8 @@
 -- It settled nothing for others but where they were woken.
 use Rattle.std.proofs.Common.{◌≡◌, ◌<◌, ◌||◌, not, refl, sym, ◌∙◌, ap, subst, length, is_some, true, false, pos, negsuc}
 use Rattle.run_desk.specs.Desk.{DeskState}
-use Rattle.run_desk.specs.Moves.{HasCome}
-use Rattle.run_desk.specs.Pure as Pure
+use Rattle.run_desk.specs.Turns.{HasCome}
+use Rattle.run_desk.specs.Telling as Telling
 use Rattle.core_machine.specs.Floor.{FloorState, IsInUse, StaysEarly}
 use Rattle.core_machine.specs.Members.{is_member}
 use Rattle.core_machine.specs.Woken.{IsCovering, commits}
@@ -37,10 +37,10 @@ invariant_of-self-2 c =
     let early = subst (λ (f : FloorState). StaysEarly f.desk f.pool s w) (sym v) c.requires.early in
     let before = c.settled_before-before in
     let come : HasCome d i.pool s w c.come_home.new.self c.come_home.new.pool = c.in_ok-come_home.ensures.home in
-    let low_is : before.result.low ≡ (not (commits w) || is_some (Pure.level_code d (negsuc 0))) =
-    before.ensures.low ∙ ap (λ z. not z || is_some (Pure.level_code d (negsuc 0))) (sym c.requires.commits) in
-    let zero_is : before.result.zero ≡ (not (commits w) || is_some (Pure.level_code d (pos 0))) =
-    before.ensures.zero ∙ ap (λ z. not z || is_some (Pure.level_code d (pos 0))) (sym c.requires.commits) in
+    let low_is : before.result.low ≡ (not (commits w) || is_some (Telling.level_code d (negsuc 0))) =
+    before.ensures.low ∙ ap (λ z. not z || is_some (Telling.level_code d (negsuc 0))) (sym c.requires.commits) in
+    let zero_is : before.result.zero ≡ (not (commits w) || is_some (Telling.level_code d (pos 0))) =
+    before.ensures.zero ∙ ap (λ z. not z || is_some (Telling.level_code d (pos 0))) (sym c.requires.commits) in
     let larger = c.wake_settled.ensures.larger in
     record {
       formed = c.self.invariant.formed;

@@ -2,8 +2,8 @@
 use Rattle.std.proofs.Common.{◌≡◌, ◌<◌, refl, sym, ◌∙◌, subst, length, true}
 use Rattle.pipe_model.specs.declared.step.Want.TheVariants as Asks
 use Rattle.run_desk.specs.Desk.{DeskState}
-use Rattle.run_desk.specs.Moves.{HasCome}
-use Rattle.run_desk.specs.Pure as Pure
+use Rattle.run_desk.specs.Turns.{HasCome}
+use Rattle.run_desk.specs.Telling as Telling
 use Rattle.core_machine.specs.Floor.{FloorState, IsInUse, StaysEarly}
 use Rattle.core_machine.specs.Members.{is_member}
 use Rattle.core_machine.specs.Woken.{IsCovering, IsConsumerIn, AreInside}
@@ -54,7 +54,7 @@ invariant_of-self-2 c =
     let new = c.wake_consumer.new.ready in
     let woken = c.wake_consumer.ensures in
     let come : HasCome d i.pool s w c.write_at.new.self c.write_at.new.pool = c.in_ok-write_at.ensures.ok in
-    let reader = subst (λ l. IsConsumerIn l new (Pure.out_door d s c.args.o)) c.as_slice.ensures (subst (λ z. IsConsumerIn c.as_slice.result.now new z) c.out_door-door.ensures woken.end) in
+    let reader = subst (λ l. IsConsumerIn l new (Telling.out_door d s c.args.o)) c.as_slice.ensures (subst (λ z. IsConsumerIn c.as_slice.result.now new z) c.out_door-door.ensures woken.end) in
     record {
       formed = c.self.invariant.formed;
       size = c.rest.ensures.size ∙ woken.larger.0 ∙ c.self.invariant.size;

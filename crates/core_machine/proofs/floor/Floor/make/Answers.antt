@@ -2,8 +2,8 @@
 use Rattle.std.proofs.Common.{◌≡◌, inl, ◌&&◌, ◌||◌, not, refl, sym, ◌∙◌, ap, subst, is_some, true, false, slice_get, pos, negsuc}
 use Rattle.pipe_model.proofs.Truths.{neither}
 use Rattle.run_desk.specs.Desk.{DeskState}
-use Rattle.run_desk.specs.Moves.{made, pool_moved, CanMove, ends, sees}
-use Rattle.run_desk.specs.Pure as Pure
+use Rattle.run_desk.specs.Turns.{desk_after_turn, pool_after_turn, CanTurn, ends, sees}
+use Rattle.run_desk.specs.Telling as Telling
 use Rattle.core_machine.specs.Floor.{FloorState, IsInUse}
 use Rattle.core_machine.specs.Woken.{IsCovering, AreEndsIn, AreInside, may_settle}
 use Rattle.core_machine.proofs.Outs.{covers_out, was_settled}
@@ -20,7 +20,7 @@ pub make-requires : goal.make-requires
 make-requires c =
     let i = c.self.inside in
     let v : ◌≡◌ {A = FloorState} (record { net = i.net; desk = i.desk; pool = i.pool; ready = i.ready }) c.args.self.now = c.self.view_is in
-    subst (λ (f : FloorState). CanMove f.desk f.pool c.args.strand c.args.seen) (sym v) c.requires.can
+    subst (λ (f : FloorState). CanTurn f.desk f.pool c.args.strand c.args.seen) (sym v) c.requires.can
 
 pub invariant_of-self : goal.invariant_of-self
 invariant_of-self c =
@@ -29,15 +29,15 @@ invariant_of-self c =
     let used = subst (λ (f : FloorState). IsInUse f.net f.desk) (sym v) c.requires.used in
     let s = c.args.strand in
     let seen = c.args.seen in
-    let can = subst (λ (f : FloorState). CanMove f.desk f.pool s seen) (sym v) c.requires.can in
-    let live = subst (λ (f : FloorState). Pure.ended_at f.desk s ≡ false) (sym v) c.requires.live in
+    let can = subst (λ (f : FloorState). CanTurn f.desk f.pool s seen) (sym v) c.requires.can in
+    let live = subst (λ (f : FloorState). Telling.ended_at f.desk s ≡ false) (sym v) c.requires.live in
     let d = i.desk in
     let nothing : may_settle d s seen ≡ false = sym c.may_settle.ensures ∙ c.if-may_settle.false in
-    let no_end : ends seen ≡ false = (neither (ends seen) (sees seen && not (is_some (Pure.primed_of (slice_get d.seats s)))) nothing).0 in
+    let no_end : ends seen ≡ false = (neither (ends seen) (sees seen && not (is_some (Telling.primed_of (slice_get d.seats s)))) nothing).0 in
     let new = c.wake_ends.new.ready in
-    let made_is : c.make.new.self ≡ made d s seen = c.make.ensures.desk in
-    let low_is : true ≡ (not (ends seen) || is_some (Pure.level_code d (negsuc 0))) = sym (ap (λ z. not z || is_some (Pure.level_code d (negsuc 0))) no_end) in
-    let zero_is : true ≡ (not (ends seen) || is_some (Pure.level_code d (pos 0))) = sym (ap (λ z. not z || is_some (Pure.level_code d (pos 0))) no_end) in
+    let made_is : c.make.new.self ≡ desk_after_turn d s seen = c.make.ensures.desk in
+    let low_is : true ≡ (not (ends seen) || is_some (Telling.level_code d (negsuc 0))) = sym (ap (λ z. not z || is_some (Telling.level_code d (negsuc 0))) no_end) in
+    let zero_is : true ≡ (not (ends seen) || is_some (Telling.level_code d (pos 0))) = sym (ap (λ z. not z || is_some (Telling.level_code d (pos 0))) no_end) in
     let woken = subst (λ l. AreEndsIn d l s seen new) c.as_slice.ensures c.wake_ends.ensures.ends in
     record {
       formed = c.self.invariant.formed;
@@ -58,16 +58,16 @@ pub returns-clause-desk : goal.returns-clause-desk
 returns-clause-desk c =
     let i = c.self.inside in
     let v : ◌≡◌ {A = FloorState} (record { net = i.net; desk = i.desk; pool = i.pool; ready = i.ready }) c.args.self.now = c.self.view_is in
-    c.make.ensures.desk ∙ ap (λ (f : FloorState). made f.desk c.args.strand c.args.seen) v
+    c.make.ensures.desk ∙ ap (λ (f : FloorState). desk_after_turn f.desk c.args.strand c.args.seen) v
 
 pub returns-clause-pool : goal.returns-clause-pool
 returns-clause-pool c =
     let i = c.self.inside in
     let v : ◌≡◌ {A = FloorState} (record { net = i.net; desk = i.desk; pool = i.pool; ready = i.ready }) c.args.self.now = c.self.view_is in
-    c.make.ensures.pool ∙ ap (λ (f : FloorState). pool_moved f.desk f.pool c.args.strand c.args.seen) v
+    c.make.ensures.pool ∙ ap (λ (f : FloorState). pool_after_turn f.desk f.pool c.args.strand c.args.seen) v
 
 pub returns-clause-awake : goal.returns-clause-awake
 returns-clause-awake c =
     let i = c.self.inside in
     let v : ◌≡◌ {A = FloorState} (record { net = i.net; desk = i.desk; pool = i.pool; ready = i.ready }) c.args.self.now = c.self.view_is in
-    λ k may. c.wake_ends.ensures.larger.1 c.args.strand (c.self.invariant.covers c.args.strand k (subst (λ (f : FloorState). is_some (Pure.seen_at f.desk c.args.strand k) ≡ true) (sym v) may))
+    λ k may. c.wake_ends.ensures.larger.1 c.args.strand (c.self.invariant.covers c.args.strand k (subst (λ (f : FloorState). is_some (Telling.seen_at f.desk c.args.strand k) ≡ true) (sym v) may))

@@ -1,8 +1,8 @@
 -- Whom the turn concerns was woken.
 use Rattle.std.proofs.Common.{◌≡◌, ◌<◌, ◌⊎◌, inl, inr, Bool, ◌||◌, not, refl, sym, ◌∙◌, ap, subst, length, is_some, false, true, slice_get, pos, negsuc}
 use Rattle.run_desk.specs.Desk.{DeskState}
-use Rattle.run_desk.specs.Moves.{made, pool_moved, CanMove, ends}
-use Rattle.run_desk.specs.Pure as Pure
+use Rattle.run_desk.specs.Turns.{desk_after_turn, pool_after_turn, CanTurn, ends}
+use Rattle.run_desk.specs.Telling as Telling
 use Rattle.core_machine.specs.Floor.{FloorState, IsInUse}
 use Rattle.core_machine.specs.Woken.{IsCovering, AreEndsIn, AreInside, IsWhole, IsStageIn}
 use Rattle.core_machine.proofs.Outs.{covers_out}
@@ -24,7 +24,7 @@ pub make-requires : goal.make-requires
 make-requires c =
     let i = c.self.inside in
     let v : ◌≡◌ {A = FloorState} (record { net = i.net; desk = i.desk; pool = i.pool; ready = i.ready }) c.args.self.now = c.self.view_is in
-    subst (λ (f : FloorState). CanMove f.desk f.pool c.args.strand c.args.seen) (sym v) c.requires.can
+    subst (λ (f : FloorState). CanTurn f.desk f.pool c.args.strand c.args.seen) (sym v) c.requires.can
 
 pub wake_settled-requires : goal.wake_settled-requires
 wake_settled-requires c =
@@ -39,19 +39,19 @@ invariant_of-self c =
     let used = subst (λ (f : FloorState). IsInUse f.net f.desk) (sym v) c.requires.used in
     let s = c.args.strand in
     let seen = c.args.seen in
-    let can = subst (λ (f : FloorState). CanMove f.desk f.pool s seen) (sym v) c.requires.can in
-    let live = subst (λ (f : FloorState). Pure.ended_at f.desk s ≡ false) (sym v) c.requires.live in
+    let can = subst (λ (f : FloorState). CanTurn f.desk f.pool s seen) (sym v) c.requires.can in
+    let live = subst (λ (f : FloorState). Telling.ended_at f.desk s ≡ false) (sym v) c.requires.live in
     let d = i.desk in
     let new = c.wake_settled.new.ready in
     let before = c.settled_before-before in
-    let made_is : c.make.new.self ≡ made d s seen = c.make.ensures.desk in
-    let low_is : before.result.low ≡ (not (ends seen) || is_some (Pure.level_code d (negsuc 0))) =
-    before.ensures.low ∙ ap (λ z. not z || is_some (Pure.level_code d (negsuc 0))) c.ends.ensures in
-    let zero_is : before.result.zero ≡ (not (ends seen) || is_some (Pure.level_code d (pos 0))) =
-    before.ensures.zero ∙ ap (λ z. not z || is_some (Pure.level_code d (pos 0))) c.ends.ensures in
-    let stage = subst (λ (z : DeskState). before.result.primer ≡ false → is_some (Pure.primed_of (slice_get z.seats s)) ≡ true → IsStageIn z s new) made_is c.wake_settled.ensures.stage in
-    let fills_low = subst (λ (z : DeskState). before.result.low ≡ false → is_some (Pure.level_code z (negsuc 0)) ≡ true → IsWhole new) made_is c.wake_settled.ensures.low in
-    let fills_zero = subst (λ (z : DeskState). before.result.zero ≡ false → is_some (Pure.level_code z (pos 0)) ≡ true → IsWhole new) made_is c.wake_settled.ensures.zero in
+    let made_is : c.make.new.self ≡ desk_after_turn d s seen = c.make.ensures.desk in
+    let low_is : before.result.low ≡ (not (ends seen) || is_some (Telling.level_code d (negsuc 0))) =
+    before.ensures.low ∙ ap (λ z. not z || is_some (Telling.level_code d (negsuc 0))) c.ends.ensures in
+    let zero_is : before.result.zero ≡ (not (ends seen) || is_some (Telling.level_code d (pos 0))) =
+    before.ensures.zero ∙ ap (λ z. not z || is_some (Telling.level_code d (pos 0))) c.ends.ensures in
+    let stage = subst (λ (z : DeskState). before.result.primer ≡ false → is_some (Telling.primed_of (slice_get z.seats s)) ≡ true → IsStageIn z s new) made_is c.wake_settled.ensures.stage in
+    let fills_low = subst (λ (z : DeskState). before.result.low ≡ false → is_some (Telling.level_code z (negsuc 0)) ≡ true → IsWhole new) made_is c.wake_settled.ensures.low in
+    let fills_zero = subst (λ (z : DeskState). before.result.zero ≡ false → is_some (Telling.level_code z (pos 0)) ≡ true → IsWhole new) made_is c.wake_settled.ensures.zero in
     let woken = subst (λ l. AreEndsIn d l s seen c.wake_ends.new.ready) c.as_slice.ensures c.wake_ends.ensures.ends in
     record {
       formed = c.self.invariant.formed;
@@ -60,7 +60,7 @@ invariant_of-self c =
           (covers_out i.net d c.self.invariant.formed used i.pool s seen i.ready c.wake_ends.new.ready new
           before.result.low before.result.zero c.self.invariant.size can live
           c.wake_ends.ensures.larger woken c.wake_settled.ensures.larger low_is zero_is
-          (before_or_woken before.result.primer (is_some (Pure.primed_of (slice_get d.seats s))) before.ensures.primer stage) fills_low fills_zero c.self.invariant.covers);
+          (before_or_woken before.result.primer (is_some (Telling.primed_of (slice_get d.seats s))) before.ensures.primer stage) fills_low fills_zero c.self.invariant.covers);
     }
 
 pub returns-clause-net : goal.returns-clause-net
@@ -73,16 +73,16 @@ pub returns-clause-desk : goal.returns-clause-desk
 returns-clause-desk c =
     let i = c.self.inside in
     let v : ◌≡◌ {A = FloorState} (record { net = i.net; desk = i.desk; pool = i.pool; ready = i.ready }) c.args.self.now = c.self.view_is in
-    c.make.ensures.desk ∙ ap (λ (f : FloorState). made f.desk c.args.strand c.args.seen) v
+    c.make.ensures.desk ∙ ap (λ (f : FloorState). desk_after_turn f.desk c.args.strand c.args.seen) v
 
 pub returns-clause-pool : goal.returns-clause-pool
 returns-clause-pool c =
     let i = c.self.inside in
     let v : ◌≡◌ {A = FloorState} (record { net = i.net; desk = i.desk; pool = i.pool; ready = i.ready }) c.args.self.now = c.self.view_is in
-    c.make.ensures.pool ∙ ap (λ (f : FloorState). pool_moved f.desk f.pool c.args.strand c.args.seen) v
+    c.make.ensures.pool ∙ ap (λ (f : FloorState). pool_after_turn f.desk f.pool c.args.strand c.args.seen) v
 
 pub returns-clause-awake : goal.returns-clause-awake
 returns-clause-awake c =
     let i = c.self.inside in
     let v : ◌≡◌ {A = FloorState} (record { net = i.net; desk = i.desk; pool = i.pool; ready = i.ready }) c.args.self.now = c.self.view_is in
-    λ k may. c.wake_settled.ensures.larger.1 c.args.strand (c.wake_ends.ensures.larger.1 c.args.strand (c.self.invariant.covers c.args.strand k (subst (λ (f : FloorState). is_some (Pure.seen_at f.desk c.args.strand k) ≡ true) (sym v) may)))
+    λ k may. c.wake_settled.ensures.larger.1 c.args.strand (c.wake_ends.ensures.larger.1 c.args.strand (c.self.invariant.covers c.args.strand k (subst (λ (f : FloorState). is_some (Telling.seen_at f.desk c.args.strand k) ≡ true) (sym v) may)))

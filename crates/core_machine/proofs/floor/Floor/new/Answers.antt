@@ -1,7 +1,7 @@
 use Rattle.std.proofs.Common.{rules, length, sym, subst}
 use Rattle.pipe_model.specs.State.{nothing_yet}
 use Rattle.record_pool.specs.PoolState.{PoolState}
-use Rattle.run_desk.specs.Order.{IsRun, out_from}
+use Rattle.run_desk.specs.Holding.{RunStands, out_from}
 use Rattle.core_machine.proofs.Starts.{covers_first}
 use Rattle.core_machine.proofs.floor.Floor.new.Goals as goal
 
@@ -15,4 +15,4 @@ invariant_of-result c =
     }
 
 pub returns-clause-run : goal.returns-clause-run
-returns-clause-run c = subst (λ (p : PoolState). IsRun c.args.net nothing_yet (out_from 0 (length c.args.net.strands)) c.in_ok-desk.desk p) (sym c.new-pool.ensures) c.in_ok-desk.ensures
+returns-clause-run c = subst (λ (p : PoolState). RunStands c.args.net nothing_yet (out_from 0 (length c.args.net.strands)) c.in_ok-desk.desk p) (sym c.new-pool.ensures) c.in_ok-desk.ensures

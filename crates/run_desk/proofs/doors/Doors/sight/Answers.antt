@@ -1,7 +1,7 @@
 -- The sights of the inputs are numbered from the first one's on.
 use Rattle.std.proofs.Common.{◌≡◌, ◌+◌, ◌<◌, ◌≤◌, length, sym, subst, arith, Some, None, slice_get}
 use Rattle.run_desk.specs.Desk.{DoorsState}
-use Rattle.run_desk.specs.Pure.{joined, numbered}
+use Rattle.run_desk.specs.Telling.{joined, numbered}
 use Rattle.run_desk.proofs.SightDoors.{numbered_in, numbered_out}
 use Rattle.run_desk.proofs.doors.Doors.sight.Goals as goal
 

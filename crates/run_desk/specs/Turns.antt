@@ -15,19 +15,19 @@ use Rattle.run_desk.specs.declared.seat.Ask.{Ask}
 use Rattle.run_desk.specs.declared.seat.Ask.TheVariants.{Nothing, Commit, Read, Any, Gate, Take, Write, Primed, Issue, Join, Cut, Done}
 use Rattle.run_desk.specs.declared.seat.Seat.{Seat}
 use Rattle.run_desk.specs.Desk.{DeskState}
-use Rattle.run_desk.specs.Pure.{inputs_of, outputs_of, in_door, out_door, sights_of, sight_door, sight_through, through, wire_in, wire_out}
+use Rattle.run_desk.specs.Telling.{inputs_of, outputs_of, in_door, out_door, sights_of, sight_door, sight_through, through, wire_in, wire_out}
 
 -- Lists
 
 -- the list, where what was found at a place is changed
-abbrev pub placed : {A : Type 0} → List A → ℕ → (A → A) → Option A → List A
-placed xs k f None = xs
-placed xs k f (Some x) = slice_set xs k (f x)
+abbrev pub list_changed_at : {A : Type 0} → List A → ℕ → (A → A) → Option A → List A
+list_changed_at xs k f None = xs
+list_changed_at xs k f (Some x) = slice_set xs k (f x)
 
 -- the list, where the item behind a door is changed
-abbrev pub changed : {A : Type 0} → List A → (A → A) → Option ℕ → List A
-changed xs f None = xs
-changed xs f (Some k) = placed xs k f (slice_get xs k)
+abbrev pub list_changed_behind : {A : Type 0} → List A → (A → A) → Option ℕ → List A
+list_changed_behind xs f None = xs
+list_changed_behind xs f (Some k) = list_changed_at xs k f (slice_get xs k)
 
 -- Wires
 
@@ -50,16 +50,16 @@ abbrev pub in_shut : WireState → WireState
 in_shut wire = record wire { in_closed = true }
 
 -- the wires, where those behind these doors are changed, one after the other
-abbrev pub all_changed : (WireState → WireState) → List (Option ℕ) → List WireState → List WireState
-all_changed f [] wires = wires
-all_changed f (door ∷ doors) wires = all_changed f doors (changed wires f door)
+abbrev pub wires_changed : (WireState → WireState) → List (Option ℕ) → List WireState → List WireState
+wires_changed f [] wires = wires
+wires_changed f (door ∷ doors) wires = wires_changed f doors (list_changed_behind wires f door)
 
 -- Sights
 
 -- the sights after a look at this record
 abbrev pub sights_seen : List (Option ℕ) → Option ℕ → Option ℕ → List (Option ℕ)
 sights_seen sights door None = sights
-sights_seen sights door (Some grip) = changed sights (λ sight. Some grip) door
+sights_seen sights door (Some grip) = list_changed_behind sights (λ sight. Some grip) door
 
 -- the pool after a look at this record, which takes the place of the one seen before
 abbrev pub pool_seen : PoolState → Option ℕ → Option ℕ → PoolState
@@ -67,22 +67,22 @@ pool_seen pool before None = pool
 pool_seen pool before (Some grip) = given_in (shared pool grip) before
 
 -- a sight that was given back
-abbrev pub unseen : Option ℕ → Option ℕ
-unseen sight = None
+abbrev pub no_sight : Option ℕ → Option ℕ
+no_sight sight = None
 
 -- the sights, and the pool, after those of these numbers were given back
 abbrev pub sights_without : List (Option ℕ) → List (Option ℕ) → List (Option ℕ)
 sights_without [] sights = sights
-sights_without (door ∷ doors) sights = sights_without doors (changed sights unseen door)
+sights_without (door ∷ doors) sights = sights_without doors (list_changed_behind sights no_sight door)
 
 abbrev pub pool_without : List (Option ℕ) → List (Option ℕ) → PoolState → PoolState
 pool_without [] sights pool = pool
-pool_without (door ∷ doors) sights pool = pool_without doors (changed sights unseen door) (given_in pool (sight_through sights door))
+pool_without (door ∷ doors) sights pool = pool_without doors (list_changed_behind sights no_sight door) (given_in pool (sight_through sights door))
 
 -- and each of them is held when its turn comes
 abbrev pub CanForget : List (Option ℕ) → List (Option ℕ) → PoolState → Type 0
 CanForget [] sights pool = Unit {0}
-CanForget (door ∷ doors) sights pool = IsHeldIn pool (sight_through sights door) × CanForget doors (changed sights unseen door) (given_in pool (sight_through sights door))
+CanForget (door ∷ doors) sights pool = IsHeldIn pool (sight_through sights door) × CanForget doors (list_changed_behind sights no_sight door) (given_in pool (sight_through sights door))
 
 -- Turns
 
@@ -99,37 +99,37 @@ abbrev pub seat_after : Seen → Seat → Seat
 seat_after seen seat = record { ask = Nothing; has_ended = seat.has_ended || ends seen; has_seen = seat.has_seen || sees seen }
 
 -- the desk after the strand's ends of its wires were closed, and its sights given back
-abbrev pub closed : DeskState → ℕ → DeskState
-closed d s = record d {
-  wires = all_changed in_shut (inputs_of (slice_get d.doors s)) (all_changed out_shut (outputs_of (slice_get d.doors s)) d.wires);
+abbrev pub desk_without_ends : DeskState → ℕ → DeskState
+desk_without_ends d s = record d {
+  wires = wires_changed in_shut (inputs_of (slice_get d.doors s)) (wires_changed out_shut (outputs_of (slice_get d.doors s)) d.wires);
   sights = sights_without (sights_of (slice_get d.doors s)) d.sights;
 }
 
 -- and after the strand ended with this code
-abbrev pub ended : DeskState → ℕ → ℤ → DeskState
-ended d s code = record (closed d s) { unit = ended_by d.unit s code }
+abbrev pub desk_after_end : DeskState → ℕ → ℤ → DeskState
+desk_after_end d s code = record (desk_without_ends d s) { unit = ended_by d.unit s code }
 
 -- the desk after a strand was told this, but for its seat
-abbrev pub moved : DeskState → ℕ → Seen → DeskState
-moved d s (Up level code) = record d { unit = reached_by d.unit s level }
-moved d s (Saw i) = record d { sights = sights_seen d.sights (sight_door d s i) (hand_on (wire_in d s i)) }
-moved d s (Took i) = record d { wires = changed d.wires taken (in_door d s i) }
-moved d s (Put o) = record d { wires = changed d.wires settled (out_door d s o) }
-moved d s (Refused o) = record d { wires = changed d.wires cleared (out_door d s o) }
-moved d s (Ended code) = ended d s code
-moved d s _ = d
+abbrev pub rest_after_turn : DeskState → ℕ → Seen → DeskState
+rest_after_turn d s (Up level code) = record d { unit = reached_by d.unit s level }
+rest_after_turn d s (Saw i) = record d { sights = sights_seen d.sights (sight_door d s i) (hand_on (wire_in d s i)) }
+rest_after_turn d s (Took i) = record d { wires = list_changed_behind d.wires taken (in_door d s i) }
+rest_after_turn d s (Put o) = record d { wires = list_changed_behind d.wires settled (out_door d s o) }
+rest_after_turn d s (Refused o) = record d { wires = list_changed_behind d.wires cleared (out_door d s o) }
+rest_after_turn d s (Ended code) = desk_after_end d s code
+rest_after_turn d s _ = d
 
 -- the desk after a turn
-abbrev pub made : DeskState → ℕ → Seen → DeskState
-made d s seen = record (moved d s seen) { seats = changed d.seats (seat_after seen) (Some s) }
+abbrev pub desk_after_turn : DeskState → ℕ → Seen → DeskState
+desk_after_turn d s seen = record (rest_after_turn d s seen) { seats = list_changed_behind d.seats (seat_after seen) (Some s) }
 
 -- and the pool
-abbrev pub pool_moved : DeskState → PoolState → ℕ → Seen → PoolState
-pool_moved d pool s (Saw i) = pool_seen pool (sight_through d.sights (sight_door d s i)) (hand_on (wire_in d s i))
-pool_moved d pool s (Put o) = given_in pool (offer_on (wire_out d s o))
-pool_moved d pool s (Refused o) = given_in pool (offer_on (wire_out d s o))
-pool_moved d pool s (Ended code) = pool_without (sights_of (slice_get d.doors s)) d.sights pool
-pool_moved d pool s _ = pool
+abbrev pub pool_after_turn : DeskState → PoolState → ℕ → Seen → PoolState
+pool_after_turn d pool s (Saw i) = pool_seen pool (sight_through d.sights (sight_door d s i)) (hand_on (wire_in d s i))
+pool_after_turn d pool s (Put o) = given_in pool (offer_on (wire_out d s o))
+pool_after_turn d pool s (Refused o) = given_in pool (offer_on (wire_out d s o))
+pool_after_turn d pool s (Ended code) = pool_without (sights_of (slice_get d.doors s)) d.sights pool
+pool_after_turn d pool s _ = pool
 
 -- When a turn may be made
 
@@ -142,26 +142,26 @@ abbrev pub HasSight : List (Option ℕ) → Option ℕ → Type 0
 HasSight sights door = (n : ℕ) × (door ≡ Some n) × (n < length sights)
 
 -- what the event needs of the desk and the pool: a sight for the record, grips that are held, counts that are less than 64 bits hold, and a strand that hasn't ended
-abbrev pub CanMove : DeskState → PoolState → ℕ → Seen → Type 0
-CanMove d pool s (Up level code) = (s < length d.unit) × IsLive d.unit s × IsLevel level × IsAt d.unit s level Asked
-CanMove d pool s (Saw i) =
+abbrev pub CanTurn : DeskState → PoolState → ℕ → Seen → Type 0
+CanTurn d pool s (Up level code) = (s < length d.unit) × IsLive d.unit s × IsLevel level × IsAt d.unit s level Asked
+CanTurn d pool s (Saw i) =
     ((grip : ℕ) → hand_on (wire_in d s i) ≡ Some grip → HasSight d.sights (sight_door d s i))
     × ((grip : ℕ) → hand_on (wire_in d s i) ≡ Some grip → IsHeld pool grip)
     × ((grip : ℕ) → hand_on (wire_in d s i) ≡ Some grip → holders_at pool grip < 4294967295)
     × IsHeldIn pool (sight_through d.sights (sight_door d s i))
-CanMove d pool s (Took i) =
+CanTurn d pool s (Took i) =
     Behind (λ wire. IsSome (at_hand wire)) d.wires (in_door d s i)
     × Behind (λ wire. IsHeldIn pool wire.offer) d.wires (in_door d s i)
     × Behind (λ wire. wire.tooks < 2 ^ 64 - 1) d.wires (in_door d s i)
-CanMove d pool s (Put o) =
+CanTurn d pool s (Put o) =
     Behind (λ wire. wire.tooks ≡ wire.puts + 1) d.wires (out_door d s o)
     × Behind (λ wire. IsHeldIn pool wire.offer) d.wires (out_door d s o)
-CanMove d pool s (Refused o) =
+CanTurn d pool s (Refused o) =
     Behind (λ wire. IsSome wire.offer) d.wires (out_door d s o)
     × Behind (λ wire. wire.tooks ≡ wire.puts) d.wires (out_door d s o)
     × Behind (λ wire. IsHeldIn pool wire.offer) d.wires (out_door d s o)
-CanMove d pool s (Ended code) = (s < length d.unit) × IsLive d.unit s × CanForget (sights_of (slice_get d.doors s)) d.sights pool
-CanMove d pool s _ = Unit {0}
+CanTurn d pool s (Ended code) = (s < length d.unit) × IsLive d.unit s × CanForget (sights_of (slice_get d.doors s)) d.sights pool
+CanTurn d pool s _ = Unit {0}
 
 -- Coming home
 
@@ -187,17 +187,17 @@ abbrev pub asking : Ask → Seat → Seat
 asking ask seat = record seat { ask = ask }
 
 -- the unit after a strand that asks for this came home
-abbrev pub unit_home : List Member → ℕ → Ask → List Member
-unit_home unit s (Commit level) = asked_by unit s level
-unit_home unit s _ = unit
+abbrev pub unit_at_home : List Member → ℕ → Ask → List Member
+unit_at_home unit s (Commit level) = asked_by unit s level
+unit_at_home unit s _ = unit
 
 -- the desk after a strand that writes nothing came home
-abbrev pub home : DeskState → ℕ → Ask → DeskState
-home d s ask = record d { seats = changed d.seats (asking ask) (Some s); unit = unit_home d.unit s ask }
+abbrev pub desk_at_home : DeskState → ℕ → Ask → DeskState
+desk_at_home d s ask = record d { seats = list_changed_behind d.seats (asking ask) (Some s); unit = unit_at_home d.unit s ask }
 
 -- and after one that writes the record of this grip
-abbrev pub home_writing : DeskState → ℕ → ℕ → ℕ → DeskState
-home_writing d s o grip = record (home d s (Write o)) { wires = changed d.wires (offers grip) (out_door d s o) }
+abbrev pub desk_at_home_writing : DeskState → ℕ → ℕ → ℕ → DeskState
+desk_at_home_writing d s o grip = record (desk_at_home d s (Write o)) { wires = list_changed_behind d.wires (offers grip) (out_door d s o) }
 
 -- what home asks of the desk and the pool: a level that the strand hasn't asked for, or a connected output with no offer, and a sight that is there and can be shared
 abbrev pub CanAsk : DeskState → ℕ → Ask → Type 0
@@ -253,5 +253,5 @@ bare w = w
 
 -- the desk and the pool after the strand came home with this want
 abbrev pub HasCome : DeskState → PoolState → ℕ → Want → DeskState → PoolState → Type 0
-HasCome d pool s (want.Write o out) new after = (grip : ℕ) × IsHold d pool s out grip after × (new ≡ home_writing d s o grip)
-HasCome d pool s w new after = (new ≡ home d s (ask_for w)) × (after ≡ pool)
+HasCome d pool s (want.Write o out) new after = (grip : ℕ) × IsHold d pool s out grip after × (new ≡ desk_at_home_writing d s o grip)
+HasCome d pool s w new after = (new ≡ desk_at_home d s (ask_for w)) × (after ≡ pool)

@@ -8,8 +8,8 @@ use Rattle.record_pool.specs.PoolState.{Held, PoolState}
 use Rattle.record_pool.specs.Places.{record_at, holders_at, bytes_at}
 use Rattle.connectors.specs.WireState.{WireState, IsPaced, at_hand}
 use Rattle.run_desk.specs.Desk.{DeskState}
-use Rattle.run_desk.specs.Kept.{IsKept}
-use Rattle.run_desk.specs.Pure as Pure
+use Rattle.run_desk.specs.Standing.{DeskStands}
+use Rattle.run_desk.specs.Telling as Telling
 
 -- an offer or a sight holds the record of a grip
 abbrev pub holds : ℕ → Option ℕ → Bool
@@ -31,14 +31,14 @@ pub record IsPooled (wires : List WireState) (sights : List (Option ℕ)) (pool 
 -- each wire has as many records taken as put, or one more; and where a strand has seen a record and not taken it, the record is still at hand
 pub record IsPacing (st : State) (d : DeskState) : Type 0 where
   pub paced : (j : ℕ) (wire : WireState) → slice_get d.wires j ≡ Some wire → IsPaced wire.offer wire.puts wire.tooks
-  pub shown : (s : Who) (i : ℕ) (wire : WireState) → has_ended (past st s) ≡ false → in_sight i (past st s) ≡ true → Pure.wire_in d s i ≡ Some wire → IsSome (at_hand wire)
+  pub shown : (s : Who) (i : ℕ) (wire : WireState) → has_ended (past st s) ≡ false → in_sight i (past st s) ≡ true → Telling.wire_in d s i ≡ Some wire → IsSome (at_hand wire)
 
 -- the strands from this one on are out
 abbrev pub out_from : ℕ → ℕ → Left
 out_from s count = λ t. not (nat_lt t s) && nat_lt t count
 
 -- the desk and the pool stand for the state, where these strands are out
-pub record IsRun (net : Net) (st : State) (left : Left) (d : DeskState) (pool : PoolState) : Type 0 where
-  pub kept : IsKept net (bytes_at pool) st left d
+pub record RunStands (net : Net) (st : State) (left : Left) (d : DeskState) (pool : PoolState) : Type 0 where
+  pub kept : DeskStands net (bytes_at pool) st left d
   pub pooled : IsPooled d.wires d.sights pool
   pub pacing : IsPacing st d

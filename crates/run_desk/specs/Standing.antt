@@ -15,7 +15,7 @@ use Rattle.run_desk.specs.declared.seat.Ask.{Ask}
 use Rattle.run_desk.specs.declared.seat.Ask.TheVariants as Now
 use Rattle.run_desk.specs.declared.seat.Seat.{Seat}
 use Rattle.run_desk.specs.Desk.{DeskState}
-use Rattle.run_desk.specs.Pure.{in_door, out_door, first_of, sight_door, sight_through}
+use Rattle.run_desk.specs.Telling.{in_door, out_door, first_of, sight_door, sight_through}
 
 -- a want without the record that it writes
 abbrev pub asked : Option Want → Ask
@@ -76,7 +76,7 @@ pub record IsLaid (net : Net) (st : State) (d : DeskState) : Type 0 where
   pub rendezvous : (j : ℕ) (link : Link) → slice_get net.links j ≡ Some link → link.queue ≡ false
 
 -- the desk stands for the state
-pub record IsKept (net : Net) (texts : ℕ → List ℕ) (st : State) (left : Left) (d : DeskState) : Type 0 where
+pub record DeskStands (net : Net) (texts : ℕ → List ℕ) (st : State) (left : Left) (d : DeskState) : Type 0 where
   pub laid : IsLaid net st d
   pub seats : (s : Who) (seat : Seat) → slice_get d.seats s ≡ Some seat → IsSeat net st left s seat
   -- who has no seat has no history
