@@ -39,7 +39,7 @@ loop-strand-preserved c =
     let at = slice_get_read c.as_slice.result.now (length c.as_slice.result.now) c.loop-strand.strand c.index-as_slice-strand.result refl within c.index-as_slice-strand.is in
     let there : slice_get c.loop-strand.net.strands c.loop-strand.strand ≡ Some c.index-as_slice-strand.result = subst (λ xs. slice_get xs c.loop-strand.strand ≡ Some c.index-as_slice-strand.result) c.as_slice.ensures at in
     let front : (files : Files) → slice_get (fed_front c.args.bytes.items files c.loop-strand.strand c.args.net.now).strands c.loop-strand.strand ≡ Some c.index-as_slice-strand.result =
-        λ files. subst (λ (z : Net). slice_get z.strands c.loop-strand.strand ≡ Some c.index-as_slice-strand.result) (c.loop-strand.invariant.fed files) there in
+    λ files. subst (λ (z : Net). slice_get z.strands c.loop-strand.strand ≡ Some c.index-as_slice-strand.result) (c.loop-strand.invariant.fed files) there in
     record {
       within = omega (arith, end, some);
       end = end;
@@ -55,7 +55,7 @@ loop-strand-preserved c =
             ∙ c.loop-strand.invariant.fed files
             ∙ front_unread c.args.bytes.items files c.args.net.now c.requires.built c.loop-strand.strand c.index-as_slice-strand.result (front files) (sym c.reads.ensures ∙ w.if-reads.false))
       ])
-      ∙ ap (λ k. fed_front c.args.bytes.items files k c.args.net.now) (let next : suc c.loop-strand.strand ≡ c.loop-strand.strand + 1 = omega arith in next));
+          ∙ ap (λ k. fed_front c.args.bytes.items files k c.args.net.now) (let next : suc c.loop-strand.strand ≡ c.loop-strand.strand + 1 = omega arith in next));
     }
 
 pub returns : goal.returns
