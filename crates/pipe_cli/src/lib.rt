@@ -23,6 +23,8 @@ pub use status::{Outcome, Status};
 pub use words::read_words;
 
 #[cfg(test)]
+mod gate_tests;
+#[cfg(test)]
 mod tests;
 #[cfg(test)]
 mod word_tests;

@@ -6,13 +6,12 @@ use pipe_model::Rec;
 use std::alloc::Global;
 use std::process::Abort;
 use std::sync::Wait;
-use std::sync::atomic::{AtomicU64, Ordering};
 use std::test::Fail;
 use std::thread::Threads;
 
 // A source, a sink for the output and a sink for the text, in memory.
 #[derive(Drop)]
-struct Streams {
+pub(crate) struct Streams {
     input: MemSource,
     output: MemSink,
     diag: MemSink,
@@ -20,7 +19,7 @@ struct Streams {
 
 // Streams over these bytes, which give and take `piece` bytes a call and fail at the calls that are named. `room` bytes
 // of text can be told.
-fn in_memory(
+pub(crate) fn in_memory(
     alloc: Global,
     input: &[u8],
     piece: usize,
@@ -41,7 +40,7 @@ fn in_memory(
     })
 }
 
-fn strings(alloc: Global, words: &[&str]) -> Result<Vec<String>, Fail> {
+pub(crate) fn strings(alloc: Global, words: &[&str]) -> Result<Vec<String>, Fail> {
     let mut owned = Vec::new(alloc);
     for word in words {
         owned.push(String::from_str(alloc, word)?)?;
@@ -50,7 +49,7 @@ fn strings(alloc: Global, words: &[&str]) -> Result<Vec<String>, Fail> {
 }
 
 // The call's status, as a number.
-fn call<R: Threads + Wait + Sync, G: Gate + Sync>(
+pub(crate) fn call<R: Threads + Wait + Sync, G: Gate + Sync>(
     rt: &R,
     alloc: Global,
     words: &[String],
@@ -179,46 +178,4 @@ fn a_value_can_go_to_another_thread() {
     is_send::<WordsFault>();
     is_send::<Outcome>();
     is_send::<Status>();
-}
-
-// A gate that counts how often each of the first three strands entered it, and how often any other did.
-#[derive(Drop)]
-struct Entries {
-    counts: [AtomicU64; 4],
-}
-
-impl Gate for Entries {
-    fn enter(&self, strand: u32) {
-        let place = strand.min(3) as usize;
-        self.counts[place].fetch_add(1, Ordering::SeqCst);
-    }
-}
-
-fn none_entered() -> Entries {
-    Entries {
-        counts: [
-            AtomicU64::new(0),
-            AtomicU64::new(0),
-            AtomicU64::new(0),
-            AtomicU64::new(0),
-        ],
-    }
-}
-
-// LOCATE sees three records, the CONSOLE behind it two, and the reading CONSOLE none.
-#[test]
-fn the_gate_is_entered_once_for_each_record_seen(rt: HostRuntime) -> Result<(), Fail> {
-    let alloc = rt.alloc();
-    let entries = none_entered();
-    let words = strings(alloc, &[LINE])?;
-    let mut streams = in_memory(alloc, TEXT, 2, &[], &[], 64)?;
-    assert_eq!(rt; call(&rt, alloc, &words, &mut streams, &entries), 0);
-    for (strand, count) in [(0, 0), (1, 3), (2, 2), (3, 0)] {
-        assert_eq!(rt;
-            entries.counts[strand].load(Ordering::SeqCst),
-            count,
-            "at {strand}"
-        );
-    }
-    Ok(())
 }

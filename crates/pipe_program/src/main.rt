@@ -1,13 +1,22 @@
 //! The program `pipe`: its words and its standard streams, handed to the one call that does the work.
 #![tactic(auto)]
 
+ghost use Rattle.std.specs.Prelude.{map};
+ghost use Rattle.std.specs.String.{string_bytes};
+ghost use Rattle.outside.specs.Device.{Device, device};
+ghost use Rattle.pipe_cli.specs.Devices.{Outside};
+ghost use Rattle.pipe_cli.specs.Answer.{Answers};
+ghost use Rattle.pipe_program.specs.Call.{Leaves, objects};
+
 use outside::{MemShelf, OpenGate, StdSink, StdSource};
 use pipe_cli::{Status, pipe_main};
-use std::alloc::AllocError;
+use std::alloc::{AllocError, Global};
 use std::env;
-use std::io::ErrorKind;
+use std::io::{ErrorKind, Read, Write};
 use std::process::ExitCode;
 use std::rt::Env;
+use std::sync::Wait;
+use std::thread::Threads;
 
 // The words after the program's name. A word that isn't UTF-8 makes the command line faulty, as does no word at all.
 fn words(rt: &(impl AllocGlobal + Env)) -> Result<Vec<String>, AllocError> {
@@ -18,25 +27,47 @@ fn words(rt: &(impl AllocGlobal + Env)) -> Result<Vec<String>, AllocError> {
     }
 }
 
+// Does what the words say with these streams, with no file and an open gate, and gives back what is left of the streams.
+fn call<Rt: Threads + Wait + Sync, I: Read, O: Write, D: Write>(
+    rt: &Rt,
+    alloc: Global,
+    words: &[String],
+    input: I,
+    output: O,
+    diag: D,
+) -> (Status, I, O, D)
+    ensures { (after : Outside) × (told : Device)
+        × Answers (map (λ word. string_bytes word) words.now) (objects (I.remaining input) (O.contents output)) after (device (D.contents diag) 0) told result.0
+        × Leaves after told (I.remaining result.1) (O.contents result.2) (D.contents result.3) }
+{
+    let mut source = StdSource::new(input);
+    let mut sink = StdSink::new(output);
+    let mut texts = StdSink::new(diag);
+    let mut shelf = MemShelf::new(alloc, Vec::new(alloc));
+    let status = pipe_main(
+        rt,
+        alloc,
+        words,
+        &mut source,
+        &mut sink,
+        &mut texts,
+        &mut shelf,
+        &OpenGate,
+    );
+    (
+        status,
+        source.into_inner(),
+        sink.into_inner(),
+        texts.into_inner(),
+    )
+}
+
 fn main(rt: HostRuntime) -> ExitCode {
     let alloc = rt.alloc();
     let Ok(words) = words(&rt) else {
         let _ = eprintln!(rt; "out of memory");
         return ExitCode::from(Status::NoMemory.number());
     };
-    let mut input = StdSource::new(rt.stdin());
-    let mut output = StdSink::new(rt.stdout());
-    let mut diag = StdSink::new(rt.stderr());
-    let mut shelf = MemShelf::new(alloc, Vec::new(alloc));
-    let status = pipe_main(
-        &rt,
-        alloc,
-        &words,
-        &mut input,
-        &mut output,
-        &mut diag,
-        &mut shelf,
-        &OpenGate,
-    );
+    let (status, _, _, _) = call(&rt, alloc, &words, rt.stdin(), rt.stdout(), rt.stderr());
     ExitCode::from(status.number())
 }
