@@ -20,52 +20,76 @@ fn made(
     Ok(SelectStage::new(alloc, &strand)?)
 }
 
-// What a stage does with the lines of a text: for each record that it writes the output and its bytes, for each that it
-// takes a `.`, and at its end a `!`.
-fn done(alloc: Global, mut stage: SelectStage, text: &[u8]) -> Result<Vec<u8>, Fail> {
+// Notes a record that is written with its output, a record that is taken as `.`, and the end as `!`.
+fn note(done: &mut Vec<u8>, want: &Want, rec: &[u8]) -> Result<(), NoMemory> {
+    match want {
+        Want::Take(_) => done.push(b'.')?,
+        Want::Write(output, out) => {
+            done.push(if *output == 0 { b'0' } else { b'1' })?;
+            match out {
+                Out::Same(_) => done.extend_from_slice(rec)?,
+                Out::Fresh(new) => done.extend_from_slice(new.bytes())?,
+            }
+        }
+        Want::Done(_) => done.push(b'!')?,
+        _ => {}
+    }
+    Ok(())
+}
+
+// The event that answers a want, where there are more records or not.
+fn answer(want: &Want, more: bool) -> Seen {
+    match want {
+        Want::Commit(level) => Seen::Up(*level, 0),
+        Want::Read(i) => if more {
+            Seen::Saw(*i)
+        } else {
+            Seen::SawEnd(*i)
+        },
+        Want::Take(i) => Seen::Took(*i),
+        Want::Write(output, _) => Seen::Put(*output),
+        _ => Seen::Ended(0),
+    }
+}
+
+// What a stage does with the lines of a text, in notes.
+fn done(alloc: Global, stage: &mut SelectStage, text: &[u8]) -> Result<Vec<u8>, NoMemory> {
     let mut recs = Lines::new(text);
+    let mut next = recs.next();
     let mut rec: &[u8] = b"";
     let mut seen = Seen::Up(-1, 0);
     let mut done = Vec::new(alloc);
     for _ in 0..99 {
-        let bytes: &[u8] = match seen {
-            Seen::Saw(_) => rec,
-            _ => b"",
-        };
-        match stage.resume(alloc, seen, bytes)? {
-            Want::Commit(level) => seen = Seen::Up(level, 0),
-            Want::Read(i) => match recs.next() {
-                Some(next) => {
-                    rec = next;
-                    seen = Seen::Saw(i);
-                }
-                None => seen = Seen::SawEnd(i),
-            },
-            Want::Take(i) => {
-                done.push(b'.')?;
-                seen = Seen::Took(i);
-            }
-            Want::Write(output, out) => {
-                done.push(if output == 0 { b'0' } else { b'1' })?;
-                match out {
-                    Out::Same(_) => done.extend_from_slice(rec)?,
-                    Out::Fresh(new) => done.extend_from_slice(new.bytes())?,
-                }
-                seen = Seen::Put(output);
-            }
-            _ => {
-                done.push(b'!')?;
-                return Ok(done);
-            }
+        if let Seen::Ended(_) = seen {
+            break;
+        }
+        let want = stage.resume(alloc, seen, rec)?;
+        note(&mut done, &want, rec)?;
+        seen = answer(&want, next.is_some());
+        if let (Seen::Saw(_), Some(line)) = (seen, next) {
+            rec = line;
+            next = recs.next();
         }
     }
     Ok(done)
 }
 
+// The same of a kind whose output 0 is connected, and output 1 or not.
+fn ran(
+    rt: &impl Abort,
+    alloc: Global,
+    kind: Kind,
+    second: bool,
+    text: &[u8],
+) -> Result<Vec<u8>, Fail> {
+    let mut stage = made(rt, alloc, kind, [true, second])?;
+    Ok(done(alloc, &mut stage, text)?)
+}
+
 #[test]
 fn locate_asks_by_what_it_is_told(rt: HostRuntime) -> Result<(), Fail> {
     let alloc = rt.alloc();
-    let steps: [(Seen, &[u8], &str); 9] = [
+    let steps: [(Seen, &[u8], &str); 10] = [
         (Seen::Up(-1, 0), b"", "Commit(0)"),
         (Seen::Up(0, 0), b"", "Read(0)"),
         (Seen::Saw(0), b"ab", "Write(0, Same(0))"),
@@ -73,6 +97,7 @@ fn locate_asks_by_what_it_is_told(rt: HostRuntime) -> Result<(), Fail> {
         (Seen::Took(0), b"", "Read(0)"),
         (Seen::Saw(0), b"cd", "Write(1, Same(0))"),
         (Seen::Refused(1), b"", "Take(0)"),
+        (Seen::Took(0), b"", "Read(0)"),
         (Seen::SawEnd(0), b"", "Done(0)"),
         (Seen::Ended(0), b"", "Done(0)"),
     ];
@@ -166,11 +191,10 @@ fn the_first_records_are_taken_and_dropped(rt: HostRuntime) -> Result<(), Fail> 
         (Times::All, false, b"0a.0b.!", b"..!"),
     ];
     for (times, second, taken, dropped) in rows {
-        let stage = made(&rt, alloc, Kind::TakeFirst(times), [true, second])?;
-        assert!(rt; !stage.looks());
-        assert_eq!(rt; done(alloc, stage, b"a\nb")?.as_slice(), taken);
-        let stage = made(&rt, alloc, Kind::DropFirst(times), [true, second])?;
-        assert_eq!(rt; done(alloc, stage, b"a\nb")?.as_slice(), dropped);
+        let came = ran(&rt, alloc, Kind::TakeFirst(times), second, b"a\nb")?;
+        assert_eq!(rt; came.as_slice(), taken);
+        let came = ran(&rt, alloc, Kind::DropFirst(times), second, b"a\nb")?;
+        assert_eq!(rt; came.as_slice(), dropped);
     }
     Ok(())
 }
@@ -178,48 +202,49 @@ fn the_first_records_are_taken_and_dropped(rt: HostRuntime) -> Result<(), Fail> 
 #[test]
 fn the_last_records_are_taken_and_dropped(rt: HostRuntime) -> Result<(), Fail> {
     let alloc = rt.alloc();
-    let rows: [(Times, &[u8], &[u8]); 4] = [
-        (Times::Only(0), b".1a.1b.1c!", b".0a.0b.0c!"),
-        (Times::Only(1), b"..1a.1b0c!", b"..0a.0b1c!"),
-        (Times::Only(2), b"...1a0b0c!", b"...0a1b1c!"),
-        (Times::All, b"...0a0b0c!", b"...1a1b1c!"),
+    let rows: [(Times, bool, &[u8], &[u8]); 5] = [
+        (Times::Only(0), true, b".1a.1b.1c!", b".0a.0b.0c!"),
+        (Times::Only(1), true, b"..1a.1b0c!", b"..0a.0b1c!"),
+        (Times::Only(1), false, b"...0c!", b"..0a.0b!"),
+        (Times::Only(2), true, b"...1a0b0c!", b"...0a1b1c!"),
+        (Times::All, true, b"...0a0b0c!", b"...1a1b1c!"),
     ];
-    for (times, taken, dropped) in rows {
-        let stage = made(&rt, alloc, Kind::TakeLast(times), [true, true])?;
-        assert_eq!(rt; done(alloc, stage, b"a\nb\nc")?.as_slice(), taken);
-        let stage = made(&rt, alloc, Kind::DropLast(times), [true, true])?;
-        assert_eq!(rt; done(alloc, stage, b"a\nb\nc")?.as_slice(), dropped);
+    for (times, second, taken, dropped) in rows {
+        let came = ran(&rt, alloc, Kind::TakeLast(times), second, b"a\nb\nc")?;
+        assert_eq!(rt; came.as_slice(), taken);
+        let came = ran(&rt, alloc, Kind::DropLast(times), second, b"a\nb\nc")?;
+        assert_eq!(rt; came.as_slice(), dropped);
     }
-    let stage = made(&rt, alloc, Kind::TakeLast(Times::Only(1)), [true, false])?;
-    assert_eq!(rt;
-        done(alloc, stage, b"a\nb\nc")?.as_slice(),
-        b"...0c!".as_slice()
-    );
     Ok(())
 }
 
 #[test]
 fn parts_are_selected_between_two_strings(rt: HostRuntime) -> Result<(), Fail> {
     let alloc = rt.alloc();
-    let rows: [(&[u8], &[u8], &[u8], &[u8]); 4] = [
-        (b"b", b"e", b"x\nbx\nx\ne\nx", b"1x.0bx.0x.0e.1x.!"),
-        (b"b", b"b", b"b\nb\nb", b"0b.0b.0b.!"),
-        (b"b", b"e", b"b\nb\n\ne\nb", b"0b.0b.0.0e.0b.!"),
-        (b"bx", b"e", b"b\ne", b"1b.1e.!"),
+    let rows: [(bool, &[u8], &[u8], &[u8], &[u8]); 5] = [
+        (true, b"b", b"e", b"x\nbx\nx\ne\nx", b"1x.0bx.0x.0e.1x.!"),
+        (true, b"b", b"b", b"b\nb\nb", b"0b.0b.0b.!"),
+        (true, b"b", b"e", b"b\nb\n\ne\nb", b"0b.0b.0.0e.0b.!"),
+        (true, b"bx", b"e", b"b\ne", b"1b.1e.!"),
+        (
+            false,
+            b"b",
+            b"e",
+            b"b\nx\nb\ne\nb\ne",
+            b"1b.0x.0b.1e.1b.1e.!",
+        ),
     ];
-    for (first, second, text, selected) in rows {
+    for (outer, first, second, text, selected) in rows {
         let first = Rec::from_slice(alloc, first)?;
         let second = Rec::from_slice(alloc, second)?;
-        let stage = made(&rt, alloc, Kind::Between { first, second }, [true, true])?;
-        assert_eq!(rt; done(alloc, stage, text)?.as_slice(), selected);
+        let kind = if outer {
+            Kind::Between { first, second }
+        } else {
+            Kind::Inside { first, second }
+        };
+        let came = ran(&rt, alloc, kind, true, text)?;
+        assert_eq!(rt; came.as_slice(), selected);
     }
-    let first = Rec::from_slice(alloc, b"b")?;
-    let second = Rec::from_slice(alloc, b"e")?;
-    let stage = made(&rt, alloc, Kind::Inside { first, second }, [true, true])?;
-    assert_eq!(rt;
-        done(alloc, stage, b"b\nx\nb\ne\nb\ne")?.as_slice(),
-        b"1b.0x.0b.1e.1b.1e.!".as_slice()
-    );
     Ok(())
 }
 
@@ -235,11 +260,11 @@ fn records_are_parted_at_a_label(rt: HostRuntime) -> Result<(), Fail> {
     ];
     for (label, second, before, from) in rows {
         let text = Rec::from_slice(alloc, label)?;
-        let stage = made(&rt, alloc, Kind::ToLabel { text }, [true, second])?;
-        assert_eq!(rt; done(alloc, stage, b"a\nlx\nb")?.as_slice(), before);
+        let came = ran(&rt, alloc, Kind::ToLabel { text }, second, b"a\nlx\nb")?;
+        assert_eq!(rt; came.as_slice(), before);
         let text = Rec::from_slice(alloc, label)?;
-        let stage = made(&rt, alloc, Kind::FrLabel { text }, [true, second])?;
-        assert_eq!(rt; done(alloc, stage, b"a\nlx\nb")?.as_slice(), from);
+        let came = ran(&rt, alloc, Kind::FrLabel { text }, second, b"a\nlx\nb")?;
+        assert_eq!(rt; came.as_slice(), from);
     }
     Ok(())
 }
