@@ -1,0 +1,4 @@
+pub mod FirstRecords
+pub mod LastRecords
+pub mod Parts
+pub mod WindowSteps

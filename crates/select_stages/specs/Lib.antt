@@ -1,4 +1,7 @@
 pub mod AnyPick
+pub mod Choices
 pub mod PickLists
 pub mod Picks
 pub mod Select
+pub mod SelectLists
+pub mod Windows

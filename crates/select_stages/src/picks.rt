@@ -3,7 +3,7 @@ ghost use Rattle.pipe_model.specs.Shape.{Records};
 ghost use Rattle.select_stages.specs.Picks.{Choice, PicksNext, Says};
 
 use pipe_model::{NoMemory, Rec};
-use stage_steps::{Group, Listed, Lists, Order, take_waiting};
+use stage_steps::{Group, Lists, take_waiting};
 use std::alloc::Global;
 
 /// What a stage does that writes each record on output 0, where it selects it, or else on output 1: a value that has
@@ -33,7 +33,7 @@ pub trait Picks: Sized + Drop {
         ensures { result ≡ is_looking self.now };
 }
 
-/// Selects the records that the other rejects, and rejects those that it selects: NLOCATE.
+/// Selects the records that the other rejects, and rejects those that it selects: NLOCATE, and DROP FIRST of TAKE FIRST.
 #[derive(Drop)]
 pub struct Rejects<P: Picks> {
     pub(crate) picks: P,
@@ -69,33 +69,9 @@ impl<P: Picks> Picks for Rejects<P> {
 /// The lists of such a stage: one pair for each record.
 #[derive(Drop)]
 pub struct Picked<P: Picks> {
-    picks: P,
+    pub(crate) picks: P,
     /// The output on which the record at hand is still to be written.
-    waiting: Option<u16>,
-}
-
-impl<P: Picks> Picked<P> {
-    ghost use Rattle.std.specs.Prelude.{IfOk, []};
-    ghost use Rattle.pipe_model.specs.declared.kind.Kind.{Kind};
-    ghost use Rattle.stage_steps.specs.Drivers.{IsStageOf};
-    ghost use Rattle.select_stages.specs.Picks.{Choice};
-    ghost use Rattle.select_stages.specs.PickLists.{PickedStand, picked_look, IsChoosing};
-
-    // The stage of the kinds that choose their records so, before the first record.
-    pub(crate) fn stage(
-        alloc: Global,
-        picks: P,
-        outputs: &[bool],
-    ) -> Result<Listed<Picked<P>>, NoMemory>
-        ensures { IfOk result (λ stage. (kind : Kind) (choice : Choice) → IsChoosing choice (P.is_looking picks) kind → P.stands picks choice [] →
-            IsStageOf (PickedStand P.stands) (picked_look P.is_looking) kind outputs.now stage) }
-    {
-        let lists = Picked {
-            picks,
-            waiting: None,
-        };
-        Listed::new(alloc, lists, Order::WritesFirst, outputs, false)
-    }
+    pub(crate) waiting: Option<u16>,
 }
 
 // The output of a record.

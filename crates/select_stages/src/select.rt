@@ -2,28 +2,67 @@ ghost use Rattle.std.specs.Prelude.{◌≡◌};
 ghost use Rattle.select_stages.specs.Select.{is_select};
 
 use crate::any_pick::AnyPick;
-use crate::locate::Locates;
-use crate::picks::{Picked, Rejects};
+use crate::picks::Picked;
+use crate::select_lists::SelectLists;
+use crate::window::Window;
 use pipe_model::{Kind, NoMemory, Seen, Strand, Want};
-use stage_steps::{Listed, Stage};
+use stage_steps::{Listed, Order, Stage};
 use std::alloc::Global;
 
 /// A stage of Selection.
 #[derive(Drop)]
 pub struct SelectStage {
-    stage: Listed<Picked<AnyPick>>,
+    stage: Listed<SelectLists>,
 }
 
 /// Whether the kind is one of Selection.
 pub fn is_select(kind: &Kind) -> bool
     ensures { result ≡ is_select kind.now }
 {
-    matches!(kind, Kind::Locate { .. } | Kind::Nlocate { .. })
+    matches!(
+        kind,
+        Kind::Locate { .. }
+            | Kind::Nlocate { .. }
+            | Kind::Find { .. }
+            | Kind::Nfind { .. }
+            | Kind::TakeFirst(_)
+            | Kind::TakeLast(_)
+            | Kind::DropFirst(_)
+            | Kind::DropLast(_)
+            | Kind::Between { .. }
+            | Kind::Inside { .. }
+            | Kind::ToLabel { .. }
+            | Kind::FrLabel { .. }
+    )
 }
 
 impl SelectStage {
     ghost use Rattle.std.specs.Prelude.{◌≡◌, [], true, IfOk};
-    ghost use Rattle.select_stages.specs.Select.{is_select, SelectStands};
+    ghost use Rattle.pipe_model.specs.declared.kind.Kind.{Kind as KindIs};
+    ghost use Rattle.select_stages.specs.AnyPick.{IsPickOf};
+    ghost use Rattle.select_stages.specs.Windows.{IsWindowOf};
+    ghost use Rattle.select_stages.specs.Select.{is_select, SelectStands, IsSelectOf};
+
+    // The stage of the kind that picks so.
+    fn of_picks(alloc: Global, picks: AnyPick, outputs: &[bool]) -> Result<SelectStage, NoMemory>
+        ensures { IfOk result (λ stage. (kind : KindIs) → IsPickOf picks kind outputs.now → IsSelectOf kind outputs.now stage) }
+    {
+        let lists = SelectLists::Pick(Picked {
+            picks,
+            waiting: None,
+        });
+        let stage = Listed::new(alloc, lists, Order::WritesFirst, outputs, false)?;
+        Ok(SelectStage { stage })
+    }
+
+    // The stage of the kind that holds such a window.
+    fn of_window(alloc: Global, window: Window, outputs: &[bool]) -> Result<SelectStage, NoMemory>
+        ensures { IfOk result (λ stage. (kind : KindIs) → IsWindowOf window kind → IsSelectOf kind outputs.now stage) }
+    {
+        let lists = SelectLists::Hold(window);
+        let stage = Listed::new(alloc, lists, Order::TakesFirst, outputs, false)?;
+        Ok(SelectStage { stage })
+    }
 
     /// The stage of a strand, before its first event.
     pub fn new(alloc: Global, strand: &Strand) -> Result<SelectStage, NoMemory>
@@ -32,20 +71,18 @@ impl SelectStage {
     {
         let outputs = strand.ports.has_output.as_slice();
         match &strand.kind {
-            Kind::Locate { range, text } => {
-                let picks = AnyPick::Locate(Locates::new(alloc, *range, text)?);
-                Ok(SelectStage {
-                    stage: Picked::stage(alloc, picks, outputs)?,
-                })
+            Kind::TakeLast(times) => {
+                let window = Window::new(alloc, *times, 1, 0);
+                SelectStage::of_window(alloc, window, outputs)
             }
-            Kind::Nlocate { range, text } => {
-                let picks = Locates::new(alloc, *range, text)?;
-                let picks = AnyPick::Nlocate(Rejects { picks });
-                Ok(SelectStage {
-                    stage: Picked::stage(alloc, picks, outputs)?,
-                })
+            Kind::DropLast(times) => {
+                let window = Window::new(alloc, *times, 0, 1);
+                SelectStage::of_window(alloc, window, outputs)
             }
-            _ => unreachable!(),
+            kind => {
+                let picks = AnyPick::new(alloc, kind, outputs)?;
+                SelectStage::of_picks(alloc, picks, outputs)
+            }
         }
     }
 }
