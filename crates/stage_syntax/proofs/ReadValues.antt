@@ -1,5 +1,5 @@
 -- What is read of an argument is as the table wants it: a range is proper, a string isn't empty, a number is within its limits.
-use Rattle.std.proofs.Common.{◌≡◌, ◌⊎◌, inl, inr, ℕ, ◌+◌, ◌≤◌, ◌<◌, Bool, true, List, [], ◌∷◌, ◌++◌, length, refl, sym, ◌∙◌, ap, subst, arith, append-nil, append_assoc, Option, Some, le-leb, false, ne_eqb, length-append}
+use Rattle.std.proofs.Common.{◌≡◌, ◌⊎◌, inl, inr, ℕ, ◌+◌, ◌≤◌, ◌<◌, Bool, true, List, [], ◌∷◌, ◌++◌, length, refl, sym, ◌∙◌, ap, subst, arith, append-nil, append_assoc, Option, Some, None, le-leb, false, ne_eqb, length-append}
 use Rattle.std.specs.Prelude.{⊤}
 use Rattle.std.specs.List.{Contains, list_all}
 use Rattle.std.proofs.lemmas.List.Elements.{Contains-append_right}
@@ -8,7 +8,7 @@ use Rattle.std.specs.Int.{is_in_range}
 use Rattle.pipe_model.specs.declared.kind.Kind.{Kind}
 use Rattle.pipe_model.specs.declared.range.Range.{Range}
 use Rattle.pipe_model.specs.declared.range.Span.{Span}
-use Rattle.pipe_model.specs.Proper.{greatest, is_count, is_filled, is_last, is_name, is_range, is_size}
+use Rattle.pipe_model.specs.Proper.{are_columns, greatest, is_count, is_length, is_filled, is_last, is_name, is_range, is_size}
 use Rattle.pipe_model.specs.Members.{has}
 use Rattle.pipe_model.specs.declared.kind.Times.{Times}
 use Rattle.pipe_model.specs.declared.kind.Times.TheVariants.{Only, All}
@@ -167,6 +167,35 @@ pub count_of_times : (times : Times) → IsOfOne (Asked.Times ∷ []) (Read.Time
 count_of_times times (inl is) = let value = is.1 in let same : is.0 ≡ times = cc in subst (λ (times : Times). is_count times ≡ true) same is.2
 count_of_times times (inr is) = absurd is
 
+times_of_part : (part : Part) (times : Times) → IsValueOf part (Read.Times times) → is_count times ≡ true
+times_of_part Asked.Range times is = let value = is.1 in cc
+times_of_part Asked.Columns times is = let value = is.1 in cc
+times_of_part Asked.String times is = let value = is.1 in cc
+times_of_part Asked.AnyString times is = let value = is.1 in cc
+times_of_part Asked.Strings times is = let value = is.2 in cc
+times_of_part Asked.Byte times is = let value = is.1 in cc
+times_of_part (Asked.Number least most) times is = let value = is.1 in cc
+times_of_part Asked.Times times is = let value = is.1 in let same : is.0 ≡ times = cc in subst (λ (times : Times). is_count times ≡ true) same is.2
+times_of_part (Asked.Word key) times is = cc
+times_of_part Asked.Name times is = let value = is.1 in cc
+
+-- nor can another one of several parts be read
+pub times_of_one : (parts : List Part) (times : Times) → IsOfOne parts (Read.Times times) → is_count times ≡ true
+times_of_one [] times is = absurd is
+times_of_one (part ∷ parts) times (inl is) = times_of_part part times is
+times_of_one (part ∷ parts) times (inr is) = times_of_one parts times is
+
+-- a range of columns names columns, where two strings may stand in its place
+pub columns_of : (range : Range) → IsOfOne (Asked.Columns ∷ (Asked.Strings ∷ [])) (Read.Range range) → are_columns range.span ≡ true
+columns_of range (inl is) = let value = is.1 in let same : is.0 ≡ range = cc in subst (λ (range : Range). are_columns range.span ≡ true) same (ap are_columns is.3)
+columns_of range (inr (inl is)) = let value = is.2 in cc
+columns_of range (inr (inr is)) = absurd is
+
+-- a length is none above the greatest
+pub length_of : (n : ℕ) → IsOfOne (Asked.Number 0 greatest ∷ []) (Read.Number n) → is_length n ≡ true
+length_of n (inl is) = let value = is.1 in let same : is.0 ≡ n = cc in le-leb n greatest (subst (λ (n : ℕ). n ≤ greatest) same is.3)
+length_of n (inr is) = absurd is
+
 -- values that a row's arguments after some others may have
 abbrev pub AreOfRow : Row → List Value → List Value → Type 0
 AreOfRow row before [] = ⊤
@@ -199,3 +228,39 @@ made_of {row} (GoesOn values lefts text value rest kind next right makes) =
 -- a row makes its kinds of values that its arguments may have
 pub made_of_row : (row : Row) (text : List ℕ) (kind : Kind) → Makes row [] [] text kind → (values : List Value) × (row.kind values ≡ Some kind) × AreOfRow row [] values
 made_of_row row text kind makes = let made = made_of makes in (made.values, made.made, made.are)
+
+-- and none of the values that it was made of is wrong
+record AreRight (row : Row) (before : List Value) (kind : Kind) : Type 0 where
+  values : List Value
+  made : row.kind (before ++ values) ≡ Some kind
+  are : AreOfRow row before values
+  lefts : List ℕ
+  each : length lefts ≡ length (before ++ values)
+  right : row.wrong (before ++ values) lefts ≡ None
+
+right_of : {row : Row} {before : List Value} {lefts text : List ℕ} {kind : Kind} → length lefts ≡ length before → row.wrong before lefts ≡ None → Makes row before lefts text kind → AreRight row before kind
+right_of {row} each right (Ended values lefts text kind ended is) =
+    record {
+      values = [];
+      made = ap row.kind (append-nil values) ∙ is;
+      are = tt;
+      lefts = lefts;
+      each = each ∙ ap (λ (values : List Value). length values) (sym (append-nil values));
+      right = ap (λ (values : List Value). row.wrong values lefts) (append-nil values) ∙ right;
+    }
+right_of {row} each right (GoesOn values lefts text value rest kind next none makes) =
+    let more = right_of (length-append lefts _ ∙ (ap (λ (n : ℕ). n + 1) each ∙ sym (length-append values (value ∷ [])))) none makes in
+    let all : values ++ value ∷ more.values ≡ (values ++ value ∷ []) ++ more.values = sym (append_assoc values (value ∷ []) more.values) in
+    record {
+      values = value ∷ more.values;
+      made = ap row.kind all ∙ more.made;
+      are = (next_of_one (row.next values) text value rest next, more.are);
+      lefts = more.lefts;
+      each = more.each ∙ ap (λ (values : List Value). length values) (sym all);
+      right = ap (λ (values : List Value). row.wrong values more.lefts) all ∙ more.right;
+    }
+
+-- the same of a row whose values may be wrong, each with how many bytes are left of the text where it begins
+pub right_of_row : (row : Row) (text : List ℕ) (kind : Kind) → row.wrong [] [] ≡ None → Makes row [] [] text kind
+    → (values : List Value) × (lefts : List ℕ) × (row.kind values ≡ Some kind) × AreOfRow row [] values × (length lefts ≡ length values) × (row.wrong values lefts ≡ None)
+right_of_row row text kind none makes = let made = right_of refl none makes in (made.values, made.lefts, made.made, made.are, made.each, made.right)

@@ -1,29 +1,31 @@
 -- The kinds that can be typed: what is known of the line that the table has for each, shown once for each running row.
-use Rattle.std.proofs.Common.{◌≡◌, ℕ, Bool, true, false, ◌&&◌, List, [], ◌∷◌, refl, subst, Option, Some, None}
+use Rattle.std.proofs.Common.{◌≡◌, inl, inr, ℕ, Bool, true, false, ◌&&◌, ◌==◌, List, [], ◌∷◌, length, refl, subst, arith, Option, Some, None}
 use Rattle.std.specs.Prelude.{⊤, if◌then◌else◌, is_some}
 use Rattle.std.specs.Option.{IfSome}
 use Rattle.std.specs.Str.{bytes_eq, str_to_ascii_lowercase}
 use Rattle.pipe_model.specs.declared.kind.Kind.{Kind}
 use Rattle.pipe_model.specs.declared.kind.Kind.TheVariants as Kinds
 use Rattle.pipe_model.specs.declared.kind.Times.{Times}
-use Rattle.pipe_model.specs.declared.kind.Times.TheVariants.{Only}
+use Rattle.pipe_model.specs.declared.kind.Times.TheVariants.{Only, All}
+use Rattle.pipe_model.specs.declared.kind.Mapping.{Mapping}
+use Rattle.pipe_model.specs.declared.kind.Mapping.TheVariants as Maps
 use Rattle.pipe_model.specs.declared.range.Range.{Range}
-use Rattle.pipe_model.specs.Proper.{is_count, is_filled, is_locate, is_range}
+use Rattle.pipe_model.specs.Proper.{are_columns, is_count, is_filled, is_length, is_locate, is_mapping, is_range}
 use Rattle.pipe_model.specs.Straight.{all_columns}
 use Rattle.pipe_model.specs.Table.{line_of}
 use Rattle.stage_syntax.proofs.PlainLines.{IsPlain, is_plain, plain_line}
-use Rattle.stage_syntax.proofs.ReadValues.{AreOfRow, count_of_times, made_of_row, range_of_one, string_of_one}
+use Rattle.stage_syntax.proofs.ReadValues.{AreOfRow, IsOfOne, columns_of, count_of_times, length_of, made_of_row, range_of_one, right_of_row, string_of_one, times_of_one}
 use Rattle.stage_syntax.specs.Arg.{ArgText}
 use Rattle.stage_syntax.specs.DeviceForms.{literal_of}
-use Rattle.stage_syntax.specs.EditingForms.{before_strip, blank, of_strip}
-use Rattle.stage_syntax.specs.Forms.{row, none_next, before_times, of_times}
+use Rattle.stage_syntax.specs.EditingForms.{before_change, of_change, before_strip, blank, of_strip, before_chop, of_chop, before_pad, of_pad, before_split, of_split, before_join, of_join, before_xlate, wrong_xlate, of_xlate}
+use Rattle.stage_syntax.specs.Forms.{row, none_next, before_times, of_times, of_text as of_text_of}
 use Rattle.stage_syntax.specs.Kinds.{IsKind}
 use Rattle.stage_syntax.specs.Names.{Named, arguments_of, named_in, stages}
 use Rattle.stage_syntax.specs.Rows.{Arguments, Makes, Reads, Row, text_in}
-use Rattle.stage_syntax.specs.SelectionForms.{before_locate, of_locate}
+use Rattle.stage_syntax.specs.SelectionForms.{before_locate, of_locate, of_some_text, before_end, of_end, before_two, of_two}
 use Rattle.stage_syntax.specs.declared.part.Value.{Value}
 use Rattle.stage_syntax.specs.declared.part.Value.TheVariants as Read
-use Rattle.stage_syntax.specs.declared.part.Word.TheVariants.{Both, Leading, Trailing}
+use Rattle.stage_syntax.specs.declared.part.Word.TheVariants.{Both, First, Last, Leading, Left, Lower, Right, Trailing, Upper}
 
 -- what is known of a kind that was read
 pub record IsTyped (first : Bool) (kind : Kind) : Type 0 where
@@ -59,6 +61,10 @@ module _ (P : Arguments → Type 0) (arguments : Arguments) where
   of_named [] name each is = cc
   of_named (stage ∷ more) name each is =
       found_here stage.runs (bytes_eq (str_to_ascii_lowercase name) stage.name) stage.arguments (named_in more name) (OfEach P more) each (of_named more name) is
+
+-- XLATE's arguments
+abbrev xlate_row : Row
+xlate_row = record { next = before_xlate; wrong = wrong_xlate; kind = of_xlate }
 
 -- Of what a form makes
 
@@ -111,6 +117,109 @@ module _ (first : Bool) where
   stripping (Read.Word Trailing ∷ (Read.String set ∷ [])) are = strip_known false true set (string_of_one (before_strip (Read.Word Trailing ∷ [])) set refl are.1.0)
   stripping _ are = tt
 
+  -- Selection
+
+  some_text : (kind : List ℕ → Kind) → ((text : List ℕ) → is_filled text ≡ true → IsTyped first (kind text)) → (text : Option (List ℕ)) → IfSome (of_some_text kind text) (IsTyped first)
+  some_text kind each None = tt
+  some_text kind each (Some []) = tt
+  some_text kind each (Some (byte ∷ text)) = each (byte ∷ text) refl
+
+  any_text : (kind : List ℕ → Kind) → ((text : List ℕ) → IsTyped first (kind text)) → (text : Option (List ℕ)) → IfSome (of_text_of kind text) (IsTyped first)
+  any_text kind each None = tt
+  any_text kind each (Some text) = each text
+
+  ending : (one last : Times → Kind) → ((times : Times) → is_count times ≡ true → IsTyped first (one times)) → ((times : Times) → is_count times ≡ true → IsTyped first (last times))
+      → (values : List Value) → AreOfRow (row before_end (of_end one last)) [] values → IfSome (of_end one last values) (IsTyped first)
+  ending one last ones lasts [] are = ones (Only 1) refl
+  ending one last ones lasts (Read.Times times ∷ []) are = ones times (times_of_one (before_end []) times are.0)
+  ending one last ones lasts (Read.Word First ∷ []) are = ones (Only 1) refl
+  ending one last ones lasts (Read.Word Last ∷ []) are = lasts (Only 1) refl
+  ending one last ones lasts (Read.Word First ∷ (Read.Times times ∷ [])) are = ones times (count_of_times times are.1.0)
+  ending one last ones lasts (Read.Word Last ∷ (Read.Times times ∷ [])) are = lasts times (count_of_times times are.1.0)
+  ending one last ones lasts _ are = tt
+
+  enclosing : (kind : List ℕ → List ℕ → Kind) → ((opening closing : List ℕ) → (is_filled opening && is_filled closing) ≡ true → IsTyped first (kind opening closing))
+      → (values : List Value) → AreOfRow (row before_two (of_two kind)) [] values → IfSome (of_two kind values) (IsTyped first)
+  enclosing kind each (Read.String opening ∷ (Read.String closing ∷ [])) are =
+      let opens = string_of_one (before_two []) opening refl are.0 in
+      let closes = string_of_one (before_two (Read.String opening ∷ [])) closing refl are.1.0 in
+      each opening closing (rw (opens, closes) refl)
+  enclosing kind each _ are = tt
+
+  -- Editing
+
+  change_known : (range : Range) (sought put : List ℕ) (times : Times) → are_columns range.span ≡ true → is_range range ≡ true → is_count times ≡ true → IsTyped first (Kinds.Change range sought put times)
+  change_known range sought put times columns proper count = known first (Kinds.Change range sought put times) refl refl (rw (columns, proper, count) refl)
+
+  changing : (values : List Value) → AreOfRow (row before_change of_change) [] values → IfSome (of_change values) (IsTyped first)
+  changing (Read.Strings sought put ∷ []) are = change_known all_columns sought put All refl refl refl
+  changing (Read.Strings sought put ∷ (Read.Times times ∷ [])) are = change_known all_columns sought put times refl refl (count_of_times times are.1.0)
+  changing (Read.Range range ∷ (Read.Strings sought put ∷ [])) are = change_known range sought put All (columns_of range are.0) (range_of_one (before_change []) range are.0) refl
+  changing (Read.Range range ∷ (Read.Strings sought put ∷ (Read.Times times ∷ []))) are =
+      change_known range sought put times (columns_of range are.0) (range_of_one (before_change []) range are.0) (count_of_times times are.1.1.0)
+  changing _ are = tt
+
+  chopping : (values : List Value) → AreOfRow (row before_chop of_chop) [] values → IfSome (of_chop values) (IsTyped first)
+  chopping [] are = known first (Kinds.Chop 80) refl refl refl
+  chopping (Read.Number n ∷ []) are = known first (Kinds.Chop n) refl refl (length_of n are.0)
+  chopping _ are = tt
+
+  pad_known : (left : Bool) (n byte : ℕ) → is_length n ≡ true → IsTyped first (Kinds.Pad left n byte)
+  pad_known left n byte proper = known first (Kinds.Pad left n byte) refl refl proper
+
+  width_of : (n : ℕ) → IsOfOne (before_pad []) (Read.Number n) → is_length n ≡ true
+  width_of n (inl is) = cc
+  width_of n (inr (inl is)) = cc
+  width_of n (inr (inr is)) = length_of n is
+
+  padding : (values : List Value) → AreOfRow (row before_pad of_pad) [] values → IfSome (of_pad values) (IsTyped first)
+  padding (Read.Number n ∷ []) are = pad_known false n 32 (width_of n are.0)
+  padding (Read.Number n ∷ (Read.Byte byte ∷ [])) are = pad_known false n byte (width_of n are.0)
+  padding (Read.Word Left ∷ (Read.Number n ∷ [])) are = pad_known true n 32 (length_of n are.1.0)
+  padding (Read.Word Right ∷ (Read.Number n ∷ [])) are = pad_known false n 32 (length_of n are.1.0)
+  padding (Read.Word Left ∷ (Read.Number n ∷ (Read.Byte byte ∷ []))) are = pad_known true n byte (length_of n are.1.0)
+  padding (Read.Word Right ∷ (Read.Number n ∷ (Read.Byte byte ∷ []))) are = pad_known false n byte (length_of n are.1.0)
+  padding _ are = tt
+
+  splitting : (values : List Value) → AreOfRow (row before_split of_split) [] values → IfSome (of_split values) (IsTyped first)
+  splitting [] are = known first (Kinds.Split blank) refl refl refl
+  splitting (Read.String set ∷ []) are = known first (Kinds.Split set) refl refl (string_of_one (before_split []) set refl are.0)
+  splitting _ are = tt
+
+  join_known : (more : Times) (between : List ℕ) → is_count more ≡ true → IsTyped first (Kinds.Join more between)
+  join_known more between proper = known first (Kinds.Join more between) refl refl proper
+
+  joining : (values : List Value) → AreOfRow (row before_join of_join) [] values → IfSome (of_join values) (IsTyped first)
+  joining [] are = join_known (Only 1) [] refl
+  joining (Read.Times more ∷ []) are = join_known more [] (times_of_one (before_join []) more are.0)
+  joining (Read.String between ∷ []) are = join_known (Only 1) between refl
+  joining (Read.Times more ∷ (Read.String between ∷ [])) are = join_known more between (times_of_one (before_join []) more are.0)
+  joining _ are = tt
+
+  xlate_known : (mapping : Mapping) → is_mapping mapping ≡ true → IsTyped first (Kinds.Xlate mapping)
+  xlate_known mapping proper = known first (Kinds.Xlate mapping) refl refl proper
+
+  -- where it isn't wrong it is what is asked
+  is_asked : {A : Type 0} (asked : Bool) (wrong : A) → (if asked then None else Some wrong) ≡ None → asked ≡ true
+  is_asked true wrong right = refl
+  is_asked false wrong right = cc
+
+  mapping : (values : List Value) → AreOfRow xlate_row [] values → (lefts : List ℕ) → length lefts ≡ length values → wrong_xlate values lefts ≡ None → IfSome (of_xlate values) (IsTyped first)
+  mapping [] are lefts each right = xlate_known Maps.Upper refl
+  mapping (Read.Word Upper ∷ []) are lefts each right = xlate_known Maps.Upper refl
+  mapping (Read.Word Lower ∷ []) are lefts each right = xlate_known Maps.Lower refl
+  mapping (Read.String from ∷ (Read.String to ∷ [])) are (left ∷ (second_left ∷ [])) each right =
+      let filled = string_of_one (before_xlate []) from refl are.0 in
+      let same = is_asked (length from == length to) _ right in
+      xlate_known (Maps.Bytes from to) (rw (filled, same) refl)
+  mapping (Read.String from ∷ (Read.String to ∷ [])) are lefts each right = absurd (omega (arith, each))
+  mapping _ are lefts each right = tt
+
+  of_mapping : (text : List ℕ) (kind : Kind) → Makes xlate_row [] [] text kind → IsTyped first kind
+  of_mapping text kind makes =
+      let made = right_of_row xlate_row text kind refl makes in
+      subst (λ (o : Option Kind). IfSome o (IsTyped first)) made.2 (mapping made.0 made.3 made.1 made.4 made.5)
+
   literal_typed : (text : Option (List ℕ)) → IfSome (literal_of text) (IsTyped first)
   literal_typed None = known first (Kinds.Literal []) refl refl refl
   literal_typed (Some text) = known first (Kinds.Literal text) refl refl refl
@@ -133,12 +242,57 @@ rows_typed first = (
         (
           of_parts first _ (located first Kinds.Nlocate (λ range text proper. known first (Kinds.Nlocate range text) refl refl proper)),
           (
-            of_parts first _ (stripping first),
+            λ text kind reads. of_text first (of_some_text Kinds.Find) (some_text first Kinds.Find (λ text filled. known first (Kinds.Find text) refl refl filled)) (text_in text) kind reads,
             (
-              of_parts first _ (alone first Kinds.Reverse (known first Kinds.Reverse refl refl refl)),
+              λ text kind reads. of_text first (of_some_text Kinds.Nfind) (some_text first Kinds.Nfind (λ text filled. known first (Kinds.Nfind text) refl refl filled)) (text_in text) kind reads,
               (
-                of_parts first _ (counted first Kinds.Duplicate (λ times proper. known first (Kinds.Duplicate times) refl refl proper)),
-                (of_parts first _ (alone first Kinds.Copy (known first Kinds.Copy refl refl refl)), tt),
+                of_parts first _ (ending first Kinds.TakeFirst Kinds.TakeLast (λ times proper. known first (Kinds.TakeFirst times) refl refl proper) (λ times proper. known first (Kinds.TakeLast times) refl refl proper)),
+                (
+                  of_parts first _ (ending first Kinds.DropFirst Kinds.DropLast (λ times proper. known first (Kinds.DropFirst times) refl refl proper) (λ times proper. known first (Kinds.DropLast times) refl refl proper)),
+                  (
+                    of_parts first _ (enclosing first Kinds.Between (λ opening closing filled. known first (Kinds.Between opening closing) refl refl filled)),
+                    (
+                      of_parts first _ (enclosing first Kinds.Inside (λ opening closing filled. known first (Kinds.Inside opening closing) refl refl filled)),
+                      (
+                        λ text kind reads. of_text first (of_text_of Kinds.ToLabel) (any_text first Kinds.ToLabel (λ text. known first (Kinds.ToLabel text) refl refl refl)) (text_in text) kind reads,
+                        (
+                          λ text kind reads. of_text first (of_text_of Kinds.FrLabel) (any_text first Kinds.FrLabel (λ text. known first (Kinds.FrLabel text) refl refl refl)) (text_in text) kind reads,
+                          (
+                            of_parts first _ (changing first),
+                            (
+                              of_parts first _ (stripping first),
+                              (
+                                of_parts first _ (chopping first),
+                                (
+                                  of_parts first _ (padding first),
+                                  (
+                                    of_parts first _ (splitting first),
+                                    (
+                                      of_parts first _ (joining first),
+                                      (
+                                        of_mapping first,
+                                        (
+                                          of_parts first _ (alone first Kinds.Reverse (known first Kinds.Reverse refl refl refl)),
+                                          (
+                                            of_parts first _ (counted first Kinds.Duplicate (λ times proper. known first (Kinds.Duplicate times) refl refl proper)),
+                                            (
+                                              of_parts first _ (alone first Kinds.Copy (known first Kinds.Copy refl refl refl)),
+                                              tt,
+                                            ),
+                                          ),
+                                        ),
+                                      ),
+                                    ),
+                                  ),
+                                ),
+                              ),
+                            ),
+                          ),
+                        ),
+                      ),
+                    ),
+                  ),
+                ),
               ),
             ),
           ),

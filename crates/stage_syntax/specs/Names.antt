@@ -51,21 +51,21 @@ stages first =
     ∷ (running (codes "hole") (no_arguments Kinds.Hole)
     ∷ (running (codes "locate") locate
     ∷ (running (codes "nlocate") nlocate
-    ∷ (coming (codes "find") find
-    ∷ (coming (codes "nfind") nfind
-    ∷ (coming (codes "take") takes
-    ∷ (coming (codes "drop") drops
-    ∷ (coming (codes "between") between
-    ∷ (coming (codes "inside") inside
-    ∷ (coming (codes "tolabel") to_label
-    ∷ (coming (codes "frlabel") fr_label
-    ∷ (coming (codes "change") change
+    ∷ (running (codes "find") find
+    ∷ (running (codes "nfind") nfind
+    ∷ (running (codes "take") takes
+    ∷ (running (codes "drop") drops
+    ∷ (running (codes "between") between
+    ∷ (running (codes "inside") inside
+    ∷ (running (codes "tolabel") to_label
+    ∷ (running (codes "frlabel") fr_label
+    ∷ (running (codes "change") change
     ∷ (running (codes "strip") strip
-    ∷ (coming (codes "chop") chop
-    ∷ (coming (codes "pad") pad
-    ∷ (coming (codes "split") split
-    ∷ (coming (codes "join") join
-    ∷ (coming (codes "xlate") xlate
+    ∷ (running (codes "chop") chop
+    ∷ (running (codes "pad") pad
+    ∷ (running (codes "split") split
+    ∷ (running (codes "join") join
+    ∷ (running (codes "xlate") xlate
     ∷ (running (codes "reverse") reversed
     ∷ (running (codes "duplicate") duplicate
     ∷ (coming (codes "unique") unique
