@@ -1,6 +1,6 @@
 -- How occurrences of a string are replaced from the left.
-use Rattle.std.proofs.Common.{◌≡◌, ℕ, zero, suc, ◌+◌, ◌-◌, ◌<◌, ◌≤◌, Bool, true, false, cond, List, [], ◌∷◌, ◌++◌, length, take, drop, refl, sym, ◌∙◌, ap, arith, Option, Some, None}
-use Rattle.std.proofs.lemmas.Bool.{cases_Bool, false_from_ne_true}
+use Rattle.std.proofs.Common.{◌≡◌, ℕ, zero, suc, ◌+◌, ◌-◌, ◌<◌, ◌≤◌, true, cond, List, [], ◌∷◌, ◌++◌, length, take, drop, refl, sym, ◌∙◌, ap, arith, Option, Some, None}
+use Rattle.std.proofs.lemmas.Bool.{false_from_ne_true}
 use Rattle.pipe_model.specs.EditingRows.{replaced}
 use Rattle.pipe_model.specs.Search.{begins}
 use Rattle.stage_steps.specs.Strings.{StandsAt, IsFirstPlace}
@@ -60,6 +60,10 @@ pub next_first : (string : List ℕ) (left : ℕ) (text : List ℕ) (place : Opt
 next_first [] left text place filled some is within = absurd (omega (arith, filled))
 next_first (x ∷ tail) zero text place filled some is within = absurd (omega (arith, some))
 next_first (x ∷ tail) (suc left) text None filled some is within = λ put. nowhere x tail put (suc left) text is
-next_first (x ∷ tail) (suc left) text (Some k) filled some is within = (some, within k refl, λ put.
-    let less : suc left - 1 ≡ left = omega arith in
-    first x tail put left k text is.0 is.1 ∙ ap (λ n. take k text ++ (put ++ replaced (x ∷ tail) put n 0 (drop (k + length (x ∷ tail)) text))) (sym less))
+next_first (x ∷ tail) (suc left) text (Some k) filled some is within = (
+  some,
+  within k refl,
+  λ put.
+      let less : suc left - 1 ≡ left = omega arith in
+      first x tail put left k text is.0 is.1 ∙ ap (λ n. take k text ++ (put ++ replaced (x ∷ tail) put n 0 (drop (k + length (x ∷ tail)) text))) (sym less),
+)

@@ -1,5 +1,5 @@
 -- The runs of a record, from the first on.
-use Rattle.std.proofs.Common.{◌≡◌, ℕ, zero, suc, ◌+◌, ◌-◌, ◌<◌, ◌≤◌, ◌==◌, Bool, true, false, cond, not, List, [], ◌∷◌, ◌++◌, length, take, drop, get_or, refl, sym, ◌∙◌, ap, arith, ⊎_elim, Some}
+use Rattle.std.proofs.Common.{◌≡◌, ℕ, zero, suc, ◌+◌, ◌-◌, ◌<◌, ◌≤◌, ◌==◌, Bool, true, false, cond, not, List, [], ◌∷◌, length, take, drop, get_or, refl, sym, ◌∙◌, ap, arith, ⊎_elim, Some}
 use Rattle.std.specs.List.{prefix_len, position_or_len, slice_split, filter}
 use Rattle.std.proofs.lemmas.Bool.{cases_lt, ne_eqb}
 use Rattle.std.proofs.lemmas.List.{nil_from_length, take_all, drop_all, drop_more, drop-drop, length-drop, length-take-le, get_or-drop}
@@ -37,7 +37,7 @@ module _ (set text : List ℕ) where
   ends_before some within =
       let size : length (take end text) ≡ end = length-take-le end text (omega (arith, within)) in
       let behind : runs set (drop end text) ≡ filter is_filled (slice_split (has set) (drop (end + 1) text)) =
-          ap (runs set) (drop_more text end 0 within) ∙ ap (filter is_filled) (slice_split-cons_yes (has set) (get_or text end 0) (drop (end + 1) text) (passes_at_first (has set) text 0 within)) in
+      ap (runs set) (drop_more text end 0 within) ∙ ap (filter is_filled) (slice_split-cons_yes (has set) (get_or text end 0) (drop (end + 1) text) (passes_at_first (has set) text 0 within)) in
       ap (filter is_filled) (slice_split_first (has set) text 0 within) ∙ filled_first (take end text) (slice_split (has set) (drop (end + 1) text)) (omega (arith, size, some)) ∙ ap (λ l. take end text ∷ l) (sym behind)
 
   ends_with : 0 < end → length text ≤ end → runs set text ≡ take end text ∷ runs set (drop end text)
@@ -90,9 +90,9 @@ module _ (set text rest : List ℕ) (rest_is : rest ≡ front_stripped set text)
       let rest_at : rest ≡ drop gap text = rest_is ∙ ap (λ n. drop n text) (sym here) in
       let short = prefix_len-le-length (λ b. not (has set b)) rest in (
         all_runs ∙ run_first set rest (filled_run some)
-        ∙ ap (λ n. take n rest ∷ runs set (drop n rest)) (sym size_is)
-        ∙ ap (λ l. take size l ∷ runs set (drop size l)) rest_at
-        ∙ ap (λ l. take size (drop gap text) ∷ runs set l) (drop-drop size gap text),
+            ∙ ap (λ n. take n rest ∷ runs set (drop n rest)) (sym size_is)
+            ∙ ap (λ l. take size l ∷ runs set (drop size l)) rest_at
+            ∙ ap (λ l. take size (drop gap text) ∷ runs set l) (drop-drop size gap text),
         (let filled = filled_run some in omega (arith, size_is, filled)),
         omega (arith, size_is, short, here, cut, long, few),
       )

@@ -4,7 +4,7 @@ use Rattle.std.specs.declared.option.Option.{Option}
 use Rattle.std.specs.declared.option.Option.TheVariants.{Some, None}
 use Rattle.pipe_model.specs.declared.kind.Kind.{Kind}
 use Rattle.pipe_model.specs.Row.{Act}
-use Rattle.pipe_model.specs.Shape.{Records, Stream, Shape}
+use Rattle.pipe_model.specs.Shape.{Records, Stream}
 use Rattle.pipe_model.specs.Shape.Shape.{Lists}
 use Rattle.pipe_model.specs.Table.{line_of}
 use Rattle.stage_steps.specs.declared.order.Order.{Order}

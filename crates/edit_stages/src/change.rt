@@ -27,11 +27,7 @@ fn next_place(sought: &Sought, left: usize, text: &[u8]) -> Option<usize>
     requires { 0 < length sought.now }
     ensures { IsNext sought.now left text.now result }
 {
-    if left == 0 {
-        None
-    } else {
-        sought.find(text)
-    }
+    if left == 0 { None } else { sought.find(text) }
 }
 
 // Adds a text in which the first so many occurrences of a string are replaced.
@@ -63,7 +59,7 @@ fn add_replaced(
 fn put_in(alloc: Global, put: &[u8], at: usize, rec: &[u8]) -> Result<Vec<u8>, NoMemory>
     ensures { IfOk result (λ out. out.items ≡ put_in put.now at rec.now) }
 {
-    let mut out = Vec::new(alloc);
+    let mut out = Vec::with_capacity(alloc, rec.len() + put.len())?;
     if at <= rec.len() {
         out.extend_from_slice(&rec[..at])?;
         out.extend_from_slice(put)?;
@@ -131,8 +127,16 @@ impl Changes {
         }
         let part = part_of(self.range, rec);
         let count = of_all(self.times, rec.len());
-        let mut out = Vec::from_slice(alloc, front(rec, at))?;
-        add_replaced(&mut out, &self.sought, self.size, self.put.bytes(), count, part)?;
+        let mut out = Vec::with_capacity(alloc, rec.len())?;
+        out.extend_from_slice(front(rec, at))?;
+        add_replaced(
+            &mut out,
+            &self.sought,
+            self.size,
+            self.put.bytes(),
+            count,
+            part,
+        )?;
         out.extend_from_slice(behind(rec, at + part.len()))?;
         Ok(out)
     }

@@ -17,7 +17,7 @@ impl Edits for Pads {
 
     fn edit(&self, alloc: Global, rec: &[u8]) -> Result<Rec, NoMemory> {
         let lacking = (self.width as usize).saturating_sub(rec.len());
-        let mut bytes = Vec::new(alloc);
+        let mut bytes = Vec::with_capacity(alloc, rec.len() + lacking)?;
         if self.left {
             bytes.resize(lacking, self.fill)?;
             bytes.extend_from_slice(rec)?;

@@ -98,10 +98,7 @@ impl EachRecord for Splits {
     }
 
     fn hand_over(&mut self, alloc: Global) -> Result<Rec, NoMemory> {
-        Rec::from_slice(
-            alloc,
-            front(behind(self.rec.bytes(), self.from), self.size),
-        )
+        Rec::from_slice(alloc, front(behind(self.rec.bytes(), self.from), self.size))
     }
 
     fn looks(&self) -> bool {

@@ -1,4 +1,4 @@
-use Rattle.std.proofs.Common.{◌≡◌, ◌<◌, length, ◌∙◌, sym, arith}
+use Rattle.std.proofs.Common.{◌<◌, length, ◌∙◌, sym, arith}
 use Rattle.std.proofs.lemmas.Bool.{eqb-true, eqb-false}
 use Rattle.edit_stages.proofs.RunLists.{no_run, a_run}
 use Rattle.edit_stages.proofs.split.first_run.Goals as goal

@@ -9,7 +9,7 @@ one_further : (first second : List ℕ) (at b : ℕ) → at < length first → a
 one_further first second at b low there other = sym (
     ap (λ l. mapped l (drop at second) b) (drop_more first at 0 low) ∙ ap (λ l. mapped (get_or first at 0 ∷ drop (at + 1) first) l b) (drop_more second at 0 there)
     ∙ ap (λ t. cond t (get_or second at 0) (mapped (drop (at + 1) first) (drop (at + 1) second) b)) (ne_eqb (get_or first at 0) b other)
-  )
+    )
 
 -- where nothing stands in the second, the byte stays
 stays : (first : List ℕ) (b : ℕ) → mapped first [] b ≡ b

@@ -1,4 +1,4 @@
-use Rattle.std.proofs.Common.{◌≡◌, ℕ, true, false, List, [], map, refl, sym, ap, subst, ◌∙◌}
+use Rattle.std.proofs.Common.{◌≡◌, ℕ, true, false, List, [], map, refl, sym, ap, subst}
 use Rattle.pipe_model.specs.declared.kind.Kind.{Kind}
 use Rattle.pipe_model.specs.declared.kind.Kind.TheVariants as Kinds
 use Rattle.pipe_model.specs.declared.kind.Mapping.{Mapping}
@@ -12,7 +12,7 @@ use Rattle.stage_steps.specs.declared.each.Each.{Each}
 use Rattle.stage_steps.specs.Lists.{of_each}
 use Rattle.edit_stages.specs.declared.any_edit.AnyEdit.{AnyEdit}
 use Rattle.edit_stages.specs.declared.any_edit.AnyEdit.TheVariants.{Reverse, Strip, Xlate, Pad, Change}
-use Rattle.edit_stages.specs.declared.any_lists.AnyLists.TheVariants.{Duplicate, Edit, Chop, Split, Join}
+use Rattle.edit_stages.specs.declared.any_lists.AnyLists.TheVariants.{Duplicate, Edit, Chop, Split}
 use Rattle.edit_stages.specs.declared.edits.Edited.{Edited}
 use Rattle.edit_stages.specs.declared.strip.Strips.{Strips}
 use Rattle.edit_stages.specs.AnyEdit.{any_made}

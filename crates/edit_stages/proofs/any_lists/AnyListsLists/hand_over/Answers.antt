@@ -1,5 +1,5 @@
 use Rattle.std.proofs.Common.{sym, subst, IfOk}
-use Rattle.edit_stages.specs.declared.any_lists.AnyLists.TheVariants.{Duplicate, Edit, Chop, Split, Join}
+use Rattle.edit_stages.specs.declared.any_lists.AnyLists.TheVariants.{Edit, Chop, Split, Join}
 use Rattle.stage_steps.specs.Lists.{HandsOver}
 use Rattle.edit_stages.specs.AnyLists.{AnyListsStand, any_given}
 use Rattle.edit_stages.proofs.any_lists.AnyListsLists.hand_over.Goals as goal

@@ -1,4 +1,4 @@
-use Rattle.std.proofs.Common.{◌≡◌, Bool, false, List, ◌∙◌, refl, sym, ap, Some}
+use Rattle.std.proofs.Common.{◌≡◌, Bool, false, List, ◌∙◌, sym, ap, Some}
 use Rattle.pipe_model.specs.declared.kind.Kind.{Kind}
 use Rattle.stage_steps.specs.declared.listed.Listed.{Listed}
 use Rattle.stage_steps.specs.declared.order.Order.{Order}

@@ -1,4 +1,4 @@
-use Rattle.std.proofs.Common.{◌≡◌, ◌∷◌, [], ◌++◌, ◌∙◌, refl, sym, ap}
+use Rattle.std.proofs.Common.{◌∷◌, [], ◌++◌, ◌∙◌, refl, sym, ap}
 use Rattle.pipe_model.specs.Counts.{all_on}
 use Rattle.pipe_model.specs.EditingRows.{runs}
 use Rattle.pipe_model.specs.Shape.{Outs, acts_of, writes}
