@@ -1,20 +1,25 @@
 -- What the lists of Editing stand for.
-use Rattle.std.specs.Prelude.{◌≡◌, ◌<◌, length, ℕ, Bool, true, false, List, [], ◌∷◌}
+use Rattle.std.specs.Prelude.{◌≡◌, ◌<◌, length, ℕ, Bool, true, false, List, [], ◌∷◌, take, drop}
 use Rattle.std.specs.declared.option.Option.{Option}
 use Rattle.std.specs.declared.option.Option.TheVariants.{Some, None}
-use Rattle.pipe_model.specs.declared.kind.Kind.{Kind}
 use Rattle.pipe_model.specs.declared.kind.Times.{Times}
-use Rattle.pipe_model.specs.EditingRows.{edits, duplicate}
+use Rattle.pipe_model.specs.EditingRows.{edits, chopped, runs, splits, join, duplicate}
+use Rattle.pipe_model.specs.Counts.{all_on}
 use Rattle.pipe_model.specs.Row.{Act}
 use Rattle.pipe_model.specs.Row.Act.{Writes}
-use Rattle.pipe_model.specs.Shape.{Records, Outs, each_record, at_hand_of}
+use Rattle.pipe_model.specs.Shape.{Records, Outs, Stream, writes, at_hand_of}
 use Rattle.pipe_model.specs.Shape.Outs.{Pairs}
-use Rattle.pipe_model.specs.Table.{line_of, through}
 use Rattle.stage_steps.specs.Group.{acts_by}
+use Rattle.edit_stages.specs.declared.chop.Chops.{Chops}
+use Rattle.edit_stages.specs.declared.chop.Owed.{Owed}
+use Rattle.edit_stages.specs.declared.chop.Owed.TheVariants as Owing
 use Rattle.edit_stages.specs.declared.duplicate.Due.{Due}
 use Rattle.edit_stages.specs.declared.duplicate.Due.TheVariants.{Nothing, Copies, All}
 use Rattle.edit_stages.specs.declared.duplicate.Duplicates.{Duplicates}
 use Rattle.edit_stages.specs.declared.edits.Edited.{Edited}
+use Rattle.edit_stages.specs.declared.join.Joins.{Joins}
+use Rattle.edit_stages.specs.declared.split.Splits.{Splits}
+use Rattle.edit_stages.specs.Groups.{left_over, in_one}
 
 -- Stages that make one record of each
 
@@ -39,10 +44,6 @@ EditedStand made x outs recs acts = (outs ≡ Pairs (edits (made x.edits))) × (
 -- all of them look at records
 abbrev pub edited_look : {E : Type 0} → Edited E → Bool
 edited_look x = true
-
--- the stage table says of the kind that this is made of each record
-abbrev pub IsEditing : (List ℕ → List ℕ) → Kind → Type 0
-IsEditing made kind = ((line_of kind).shape ≡ through (each_record (edits made))) × ((line_of kind).looks ≡ true)
 
 -- DUPLICATE
 
@@ -69,3 +70,54 @@ DuplicatesStand x outs recs acts = (outs ≡ (duplicate x.copies).outs) × (acts
 -- DUPLICATE doesn't look at records
 abbrev pub duplicates_look : Duplicates → Bool
 duplicates_look x = false
+
+-- CHOP
+
+-- the acts that are left of the two parts of a record
+abbrev pub parts_acts : Owed → List ℕ → List ℕ → List Act
+parts_acts Owing.Nothing front rest = []
+parts_acts Owing.Rest front rest = Writes 1 rest ∷ []
+parts_acts Owing.Both front rest = Writes 0 front ∷ Writes 1 rest ∷ []
+
+-- the part that was given last
+abbrev pub part_given : Owed → List ℕ → List ℕ → Option (List ℕ)
+part_given Owing.Nothing front rest = Some rest
+part_given Owing.Rest front rest = Some front
+part_given Owing.Both front rest = None
+
+abbrev pub owed_count : Owed → ℕ
+owed_count Owing.Nothing = 0
+owed_count Owing.Rest = 1
+owed_count Owing.Both = 2
+
+-- the two parts of each record, of which some may be left
+abbrev pub ChopsStand : Chops → Outs → Records → List Act → Type 0
+ChopsStand x outs recs acts = (outs ≡ Pairs (chopped x.width)) × (acts ≡ parts_acts x.owed x.front x.rest)
+
+-- CHOP looks at records
+abbrev pub chops_look : Chops → Bool
+chops_look x = true
+
+-- SPLIT
+
+-- the runs of each record, of which those from a place on are left
+abbrev pub SplitsStand : Splits → Outs → Records → List Act → Type 0
+SplitsStand x outs recs acts = (outs ≡ Pairs (splits x.set)) × (acts ≡ writes (all_on 0 (runs x.set (drop x.at x.rec))))
+
+-- the run that was given last
+abbrev pub run_given : Splits → List ℕ
+run_given x = take x.size (drop x.from x.rec)
+
+-- SPLIT looks at records
+abbrev pub splits_look : Splits → Bool
+splits_look x = true
+
+-- JOIN
+
+-- each group in one record with its last, and the group that hasn't ended at the end of input; its records so far are held
+abbrev pub JoinsStand : Joins → Stream → Records → List Act → Type 0
+JoinsStand x t recs acts = (t ≡ join x.more x.between) × (x.count ≡ length (left_over x.more recs)) × (x.group.items ≡ in_one x.between (left_over x.more recs)) × (acts ≡ new_act x.due x.new)
+
+-- JOIN looks at records
+abbrev pub joins_look : Joins → Bool
+joins_look x = true

@@ -1,15 +1,20 @@
+use crate::change::Changes;
 use crate::edits::Edits;
+use crate::pad::Pads;
 use crate::reverse::Reverses;
 use crate::strip::Strips;
+use crate::xlate::Xlates;
 use pipe_model::{NoMemory, Rec};
 use std::alloc::Global;
 
-/// One of the stages that make one record of each. They are one stage to their driver, so that a further one adds no
-/// driver to the loop that runs them.
+/// One of the stages that make one record of each.
 #[derive(Drop)]
 pub enum AnyEdit {
     Reverse(Reverses),
     Strip(Strips),
+    Xlate(Xlates),
+    Pad(Pads),
+    Change(Changes),
 }
 
 impl Edits for AnyEdit {
@@ -21,6 +26,9 @@ impl Edits for AnyEdit {
         match self {
             AnyEdit::Reverse(edits) => edits.edit(alloc, rec),
             AnyEdit::Strip(edits) => edits.edit(alloc, rec),
+            AnyEdit::Xlate(edits) => edits.edit(alloc, rec),
+            AnyEdit::Pad(edits) => edits.edit(alloc, rec),
+            AnyEdit::Change(edits) => edits.edit(alloc, rec),
         }
     }
 }

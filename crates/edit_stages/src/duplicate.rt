@@ -1,5 +1,5 @@
 use pipe_model::{NoMemory, Rec, Times};
-use stage_steps::{Each, EachRecord, Group, Listed, Order, Repeat};
+use stage_steps::{Each, EachRecord, Group, Repeat};
 use std::alloc::Global;
 
 /// What is still to be written of the record at hand.
@@ -20,25 +20,20 @@ pub struct Duplicates {
 }
 
 impl Duplicates {
-    ghost use Rattle.std.specs.Prelude.{IfOk};
-    ghost use Rattle.pipe_model.specs.declared.kind.Kind.TheVariants.{Duplicate};
-    ghost use Rattle.stage_steps.specs.Drivers.{IsStageOf};
-    ghost use Rattle.stage_steps.specs.Each.{EachStand, each_look};
-    ghost use Rattle.edit_stages.specs.EditLists.{DuplicatesStand, duplicates_look};
+    ghost use Rattle.std.specs.Prelude.{[]};
+    ghost use Rattle.pipe_model.specs.EditingRows.{duplicate};
+    ghost use Rattle.edit_stages.specs.EditLists.{DuplicatesStand};
 
-    // DUPLICATE with so many copies.
-    pub(crate) fn stage(
-        alloc: Global,
-        copies: Times,
-        outputs: &[bool],
-    ) -> Result<Listed<Each<Duplicates>>, NoMemory>
-        ensures { IfOk result (IsStageOf (EachStand DuplicatesStand) (each_look duplicates_look) (Duplicate copies) outputs.now) }
+    // DUPLICATE with so many copies, before the first record.
+    pub(crate) fn lists(copies: Times) -> Each<Duplicates>
+        ensures { DuplicatesStand result.each (duplicate copies).outs [] [] }
     {
-        let each = Duplicates {
-            copies,
-            due: Due::Nothing,
-        };
-        Listed::new(alloc, Each { each }, Order::WritesFirst, outputs, false)
+        Each {
+            each: Duplicates {
+                copies,
+                due: Due::Nothing,
+            },
+        }
     }
 }
 

@@ -1,7 +1,7 @@
 ghost use Rattle.std.specs.Prelude.{◌≡◌, ℕ, List, IfOk};
 
 use pipe_model::{NoMemory, Rec};
-use stage_steps::{Each, EachRecord, Group, Listed, Order};
+use stage_steps::{Each, EachRecord, Group};
 use std::alloc::Global;
 use std::mem;
 
@@ -26,26 +26,20 @@ pub struct Edited<E: Edits> {
 }
 
 impl<E: Edits> Edited<E> {
-    ghost use Rattle.std.specs.Prelude.{IfOk};
-    ghost use Rattle.pipe_model.specs.declared.kind.Kind.{Kind};
-    ghost use Rattle.stage_steps.specs.Drivers.{IsStageOf};
-    ghost use Rattle.stage_steps.specs.Each.{EachStand, each_look};
-    ghost use Rattle.edit_stages.specs.EditLists.{EditedStand, edited_look, IsEditing};
+    ghost use Rattle.std.specs.Prelude.{◌≡◌, [], false};
+    ghost use Rattle.edit_stages.specs.declared.edits.Edited.{Edited};
 
-    // The stage of the kinds that make these edits.
-    pub(crate) fn stage(
-        alloc: Global,
-        edits: E,
-        outputs: &[bool],
-    ) -> Result<Listed<Each<Edited<E>>>, NoMemory>
-        ensures { IfOk result (λ stage. (kind : Kind) → IsEditing (E.made edits) kind → IsStageOf (EachStand (EditedStand E.made)) (each_look edited_look) kind outputs.now stage) }
+    // The lists of these edits, before the first record.
+    pub(crate) fn lists(alloc: Global, edits: E) -> Each<Edited<E>>
+        ensures { result.each ≡ record { edits = edits; new = []; due = false } }
     {
-        let each = Edited {
-            edits,
-            new: Rec::from_vec(Vec::new(alloc)),
-            due: false,
-        };
-        Listed::new(alloc, Each { each }, Order::WritesFirst, outputs, false)
+        Each {
+            each: Edited {
+                edits,
+                new: Rec::from_vec(Vec::new(alloc)),
+                due: false,
+            },
+        }
     }
 }
 

@@ -2,12 +2,21 @@
 #![tactic(auto)]
 
 mod any_edit;
+mod any_lists;
+mod byte_set;
+mod change;
+mod chop;
 mod duplicate;
 mod edit;
 mod edits;
+mod join;
 mod laws;
+mod pad;
 mod reverse;
+mod slices;
+mod split;
 mod strip;
+mod xlate;
 
 pub use edit::{EditStage, is_edit};
 pub use laws::lists;

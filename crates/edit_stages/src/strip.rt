@@ -1,7 +1,7 @@
 ghost use Rattle.std.specs.Prelude.{◌≡◌};
 ghost use Rattle.pipe_model.specs.EditingRows.{front_stripped, back_stripped};
-ghost use Rattle.pipe_model.specs.Members.{has};
 
+use crate::byte_set::ByteSet;
 use crate::edits::Edits;
 use pipe_model::{NoMemory, Rec};
 use std::alloc::Global;
@@ -11,34 +11,26 @@ use std::alloc::Global;
 pub struct Strips {
     leading: bool,
     trailing: bool,
-    set: Rec,
-}
-
-// Whether a set of bytes has this one.
-#[inline(always)]
-fn has(set: &[u8], byte: u8) -> bool
-    ensures { result ≡ has set.now byte }
-{
-    set.contains(&byte)
+    set: ByteSet,
 }
 
 // The record without the bytes of the set at its front.
-fn front_stripped<'a>(set: &[u8], rec: &'a [u8]) -> &'a [u8]
+pub(crate) fn front_stripped<'a>(set: &ByteSet, rec: &'a [u8]) -> &'a [u8]
     ensures { result.now ≡ front_stripped set.now rec.now }
 {
     let mut at = 0;
-    while at < rec.len() && has(set, rec[at]) {
+    while at < rec.len() && set.has(rec[at]) {
         at += 1;
     }
     &rec[at..]
 }
 
 // The same at its back.
-fn back_stripped<'a>(set: &[u8], rec: &'a [u8]) -> &'a [u8]
+fn back_stripped<'a>(set: &ByteSet, rec: &'a [u8]) -> &'a [u8]
     ensures { result.now ≡ back_stripped set.now rec.now }
 {
     let mut end = rec.len();
-    while end > 0 && has(set, rec[end - 1]) {
+    while end > 0 && set.has(rec[end - 1]) {
         end -= 1;
     }
     &rec[..end]
@@ -60,14 +52,14 @@ impl Strips {
         Ok(Strips {
             leading,
             trailing,
-            set: set.copy(alloc)?,
+            set: ByteSet::new(alloc, set)?,
         })
     }
 
     fn stripped<'a>(&self, rec: &'a [u8]) -> &'a [u8]
         ensures { result.now ≡ stripped self.now.leading self.now.trailing self.now.set rec.now }
     {
-        let set = self.set.bytes();
+        let set = &self.set;
         let rec = if self.leading {
             front_stripped(set, rec)
         } else {

@@ -1,10 +1,13 @@
-use crate::EditStage;
-use crate::duplicate::Duplicates;
+use crate::any_lists::AnyLists;
+use crate::change::Changes;
 use crate::edits::Edits;
+use crate::pad::Pads;
 use crate::reverse::Reverses;
 use crate::strip::Strips;
-use pipe_model::{Rec, Seen, Times};
-use stage_steps::Stage;
+use crate::xlate::Xlates;
+use crate::{EditStage, is_edit};
+use pipe_model::{Kind, Mapping, Range, Rec, Seen, Span, Times};
+use stage_steps::{Group, Lists, Stage};
 use std::alloc::Global;
 use std::process::Abort;
 use std::test::Fail;
@@ -16,7 +19,7 @@ fn driven(
     copies: Times,
     steps: &[(Seen, &str)],
 ) -> Result<(), Fail> {
-    let mut stage = Duplicates::stage(alloc, copies, &[true])?;
+    let mut stage = EditStage::of(alloc, &Kind::Duplicate(copies), &[true])?;
     assert!(rt; !stage.looks());
     for (seen, want) in steps {
         let asked = format!(in alloc; "{:?}", stage.resume(alloc, *seen, b"")?)?;
@@ -91,6 +94,154 @@ fn ends_are_stripped(rt: HostRuntime) -> Result<(), Fail> {
         assert_eq!(rt; made.bytes(), stripped, "of {rec:?}");
     }
     Ok(())
+}
+
+#[test]
+fn strings_are_changed(rt: HostRuntime) -> Result<(), Fail> {
+    let alloc = rt.alloc();
+    let all = (1, None);
+    // The columns, what is sought, what is put, how often, the record, and what is made of it.
+    let rows: [((u32, Option<u32>), &[u8], &[u8], Times, &[u8], &[u8]); 13] = [
+        (all, b"a", b"bb", Times::All, b"banana", b"bbbnbbnbb"),
+        (all, b"aa", b"x", Times::All, b"aaaaa", b"xxa"),
+        (all, b"a", b"", Times::Only(2), b"banana", b"bnna"),
+        (all, b"a", b"b", Times::Only(0), b"aa", b"aa"),
+        (all, b"a", b"b", Times::All, b"", b""),
+        ((1, Some(3)), b"an", b"x", Times::All, b"banan", b"bxan"),
+        ((1, Some(2)), b"an", b"x", Times::All, b"banan", b"banan"),
+        ((4, None), b"a", b"x", Times::All, b"aaab", b"aaab"),
+        (all, b"", b"x", Times::All, b"abc", b"xabc"),
+        (all, b"", b"x", Times::All, b"", b"x"),
+        ((4, None), b"", b"x", Times::All, b"abc", b"abcx"),
+        ((5, None), b"", b"x", Times::All, b"abc", b"abc"),
+        (all, b"", b"x", Times::Only(0), b"abc", b"abc"),
+    ];
+    for ((first, last), sought, put, times, rec, changed) in rows {
+        let span = Span::Columns;
+        let sought = Rec::from_slice(alloc, sought)?;
+        let put = Rec::from_slice(alloc, put)?;
+        let changes = Changes::new(alloc, Range { span, first, last }, &sought, &put, times)?;
+        let made = changes.edit(alloc, rec)?;
+        assert_eq!(rt; made.bytes(), changed, "of {rec:?}");
+    }
+    Ok(())
+}
+
+#[test]
+fn records_are_padded(rt: HostRuntime) -> Result<(), Fail> {
+    let rows: [(bool, u32, u8, &[u8], &[u8]); 5] = [
+        (false, 4, b' ', b"ab", b"ab  "),
+        (true, 4, b'.', b"ab", b"..ab"),
+        (true, 2, b'.', b"abc", b"abc"),
+        (true, 3, b'x', b"", b"xxx"),
+        (false, 0, b'x', b"", b""),
+    ];
+    for (left, width, fill, rec, padded) in rows {
+        let pads = Pads { left, width, fill };
+        let made = pads.edit(rt.alloc(), rec)?;
+        assert_eq!(rt; made.bytes(), padded, "of {rec:?}");
+    }
+    Ok(())
+}
+
+#[test]
+fn bytes_are_translated(rt: HostRuntime) -> Result<(), Fail> {
+    let alloc = rt.alloc();
+    let first = Rec::from_slice(alloc, b"aba")?;
+    let second = Rec::from_slice(alloc, b"xyz")?;
+    let rows: [(Mapping, &[u8], &[u8]); 4] = [
+        (Mapping::Upper, b"a`{Zz1\xe4", b"A`{ZZ1\xe4"),
+        (Mapping::Lower, b"A@[zZ1\xc4", b"a@[zz1\xc4"),
+        (Mapping::Bytes(first, second), b"abcab", b"xycxy"),
+        (Mapping::Upper, b"", b""),
+    ];
+    for (mapping, rec, translated) in &rows {
+        let made = Xlates::new(alloc, mapping)?.edit(alloc, rec)?;
+        assert_eq!(rt; made.bytes(), *translated, "of {rec:?}");
+    }
+    Ok(())
+}
+
+// Compares all records that lists give with these, each on its output.
+fn gives(
+    rt: &impl Abort,
+    alloc: Global,
+    lists: &mut AnyLists,
+    wanted: &[(u16, &[u8])],
+) -> Result<(), Fail> {
+    for (output, bytes) in wanted {
+        let given = match lists.next(alloc)? {
+            Some(Group::New(on)) => Some(on),
+            _ => None,
+        };
+        assert_eq!(rt; given, Some(*output), "for {bytes:?}");
+        assert_eq!(rt; lists.hand_over(alloc)?.bytes(), *bytes);
+    }
+    assert!(rt; lists.next(alloc)?.is_none());
+    Ok(())
+}
+
+// The lists of a kind of Editing.
+fn lists_of(rt: &impl Abort, alloc: Global, kind: &Kind) -> Result<AnyLists, Fail> {
+    assert!(rt; is_edit(kind));
+    Ok(AnyLists::new(alloc, kind)?)
+}
+
+#[test]
+fn records_are_chopped(rt: HostRuntime) -> Result<(), Fail> {
+    let alloc = rt.alloc();
+    let rows: [(u32, &[u8], &[u8], &[u8]); 4] = [
+        (2, b"abc", b"ab", b"c"),
+        (2, b"a", b"a", b""),
+        (0, b"abc", b"", b"abc"),
+        (2, b"", b"", b""),
+    ];
+    for (width, rec, front, rest) in rows {
+        let mut lists = lists_of(&rt, alloc, &Kind::Chop(width))?;
+        lists.see(alloc, rec)?;
+        gives(&rt, alloc, &mut lists, &[(0, front), (1, rest)])?;
+    }
+    Ok(())
+}
+
+#[test]
+fn runs_are_split(rt: HostRuntime) -> Result<(), Fail> {
+    let alloc = rt.alloc();
+    let set = Rec::from_slice(alloc, b" ,")?;
+    let mut lists = lists_of(&rt, alloc, &Kind::Split { set })?;
+    lists.see(alloc, b", a, bc ")?;
+    gives(&rt, alloc, &mut lists, &[(0, b"a"), (0, b"bc")])?;
+    lists.see(alloc, b" ,,")?;
+    gives(&rt, alloc, &mut lists, &[])?;
+    lists.see(alloc, b"")?;
+    gives(&rt, alloc, &mut lists, &[])?;
+    lists.see(alloc, b"ab")?;
+    gives(&rt, alloc, &mut lists, &[(0, b"ab")])
+}
+
+#[test]
+fn groups_are_joined(rt: HostRuntime) -> Result<(), Fail> {
+    let alloc = rt.alloc();
+    let between = Rec::from_slice(alloc, b"-")?;
+    let more = Times::Only(1);
+    let mut lists = lists_of(&rt, alloc, &Kind::Join { more, between })?;
+    lists.see(alloc, b"")?;
+    gives(&rt, alloc, &mut lists, &[])?;
+    lists.see(alloc, b"")?;
+    gives(&rt, alloc, &mut lists, &[(0, b"-")])?;
+    lists.see(alloc, b"c")?;
+    gives(&rt, alloc, &mut lists, &[])?;
+    lists.end(alloc)?;
+    gives(&rt, alloc, &mut lists, &[(0, b"c")])?;
+    let between = Rec::from_slice(alloc, b"")?;
+    let more = Times::All;
+    let mut lists = lists_of(&rt, alloc, &Kind::Join { more, between })?;
+    lists.end(alloc)?;
+    gives(&rt, alloc, &mut lists, &[])?;
+    lists.see(alloc, b"a")?;
+    lists.see(alloc, b"b")?;
+    lists.end(alloc)?;
+    gives(&rt, alloc, &mut lists, &[(0, b"ab")])
 }
 
 // Calls for this type show that its values can be moved to another thread.

@@ -1,4 +1,4 @@
-use Rattle.std.proofs.Common.{◌≡◌, ◌∷◌, [], ◌++◌, ◌∙◌, refl, sym, ap}
+use Rattle.std.proofs.Common.{◌∷◌, [], ◌++◌, ◌∙◌, refl, sym, ap}
 use Rattle.pipe_model.specs.Row.Act.{Writes}
 use Rattle.pipe_model.specs.Shape.{Outs, acts_of}
 use Rattle.stage_steps.proofs.Walks.{at_hand}

@@ -1,0 +1,90 @@
+use crate::slices::{behind, front};
+use pipe_model::{NoMemory, Rec};
+use stage_steps::{Each, EachRecord, Group};
+use std::alloc::Global;
+use std::mem;
+
+/// Which parts of the record at hand are still to be given.
+#[derive(Clone, Copy)]
+enum Owed {
+    Nothing,
+    Rest,
+    /// The front, and then the rest.
+    Both,
+}
+
+/// CHOP: the first bytes of each record on output 0, and the rest on output 1.
+#[derive(Drop)]
+pub struct Chops {
+    width: u32,
+    front: Rec,
+    rest: Rec,
+    owed: Owed,
+}
+
+impl Chops {
+    ghost use Rattle.std.specs.Prelude.{[]};
+    ghost use Rattle.pipe_model.specs.EditingRows.{chopped};
+    ghost use Rattle.pipe_model.specs.Shape.Outs.{Pairs};
+    ghost use Rattle.edit_stages.specs.EditLists.{ChopsStand};
+
+    // CHOP behind so many bytes, before the first record.
+    pub(crate) fn lists(alloc: Global, width: u32) -> Each<Chops>
+        ensures { ChopsStand result.each (Pairs (chopped width)) [] [] }
+    {
+        Each {
+            each: Chops {
+                width,
+                front: Rec::from_vec(Vec::new(alloc)),
+                rest: Rec::from_vec(Vec::new(alloc)),
+                owed: Owed::Nothing,
+            },
+        }
+    }
+}
+
+impl EachRecord for Chops {
+    ghost use Rattle.edit_stages.specs.EditLists.{ChopsStand, chops_look, part_given, owed_count};
+
+    ghost stands = { ChopsStand };
+
+    ghost is_looking = { chops_look };
+
+    ghost made = { λ x. part_given x.owed x.front x.rest };
+
+    ghost left = { λ x. owed_count x.owed };
+
+    fn see(&mut self, alloc: Global, bytes: &[u8]) -> Result<(), NoMemory> {
+        let width = self.width as usize;
+        self.front = Rec::from_slice(alloc, front(bytes, width))?;
+        self.rest = Rec::from_slice(alloc, behind(bytes, width))?;
+        self.owed = Owed::Both;
+        Ok(())
+    }
+
+    fn next(&mut self) -> Option<Group> {
+        match self.owed {
+            Owed::Nothing => None,
+            Owed::Rest => {
+                self.owed = Owed::Nothing;
+                Some(Group::New(1))
+            }
+            Owed::Both => {
+                self.owed = Owed::Rest;
+                Some(Group::New(0))
+            }
+        }
+    }
+
+    fn hand_over(&mut self, alloc: Global) -> Result<Rec, NoMemory> {
+        let empty = Rec::from_vec(Vec::new(alloc));
+        match self.owed {
+            Owed::Rest => Ok(mem::replace(&mut self.front, empty)),
+            _ => Ok(mem::replace(&mut self.rest, empty)),
+        }
+    }
+
+    fn looks(&self) -> bool {
+        true
+    }
+}
