@@ -1,5 +1,5 @@
 -- What a window gives when it sees one more record.
-use Rattle.std.proofs.Common.{◌≡◌, ◌<◌, ℕ, suc, ◌+◌, Bool, true, false, List, [], ◌∷◌, ◌++◌, length, drop, refl, sym, ◌∙◌, ap, subst, arith, Some, None, Option}
+use Rattle.std.proofs.Common.{◌≡◌, ℕ, suc, true, false, List, [], ◌∷◌, ◌++◌, length, drop, refl, sym, ◌∙◌, ap, subst, arith, Some, None, Option}
 use Rattle.std.specs.Prelude.{is_some, option_to_list}
 use Rattle.std.proofs.lemmas.List.{length_push}
 use Rattle.pipe_model.specs.Counts.{of_all, is_reached, last_of, all_on}
@@ -12,7 +12,7 @@ use Rattle.select_stages.specs.declared.window.Due.{Due}
 use Rattle.select_stages.specs.declared.window.Due.TheVariants.{Nothing, AtHand, Gone, Rest}
 use Rattle.select_stages.specs.declared.window.Window.{Window}
 use Rattle.select_stages.specs.Windows.{WindowStands, IsHolding, IsDue, due_acts, gone_act, is_over}
-use Rattle.select_stages.proofs.LastRecords.{Shifts, adds, moves, passes}
+use Rattle.select_stages.proofs.LastRecords.{adds, moves, passes}
 
 -- up to the end of input it holds the last records
 holds_last : (d : Due) (x : Window) (recs : Records) → is_over d ≡ false → IsHolding d x recs → x.records.items ≡ last_of (of_all x.times (length recs)) recs

@@ -1,4 +1,4 @@
-use Rattle.std.proofs.Common.{◌≡◌, ◌≤◌, length, drop}
+use Rattle.std.proofs.Common.{◌≡◌, drop}
 use Rattle.pipe_model.specs.SelectionRows.{agrees}
 use Rattle.select_stages.proofs.find.agrees.Given as goal
 

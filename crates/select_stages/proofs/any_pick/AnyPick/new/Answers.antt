@@ -1,4 +1,4 @@
-use Rattle.std.proofs.Common.{◌≡◌, true, false, not, [], refl, sym, ap, subst}
+use Rattle.std.proofs.Common.{true, false, not, [], refl, sym, ap, subst}
 use Rattle.pipe_model.specs.Members.{flag_at}
 use Rattle.pipe_model.specs.Ranges.{locates}
 use Rattle.pipe_model.specs.SelectionRows.{agrees}
