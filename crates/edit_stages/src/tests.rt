@@ -1,63 +1,49 @@
-use crate::any_lists::AnyLists;
+use crate::EditStage;
 use crate::change::Changes;
+use crate::chop::Chops;
+use crate::duplicate::Duplicates;
 use crate::edits::Edits;
+use crate::join::Joins;
 use crate::pad::Pads;
 use crate::reverse::Reverses;
+use crate::split::Splits;
 use crate::strip::Strips;
 use crate::xlate::Xlates;
-use crate::{EditStage, is_edit};
-use pipe_model::{Kind, Mapping, Range, Rec, Seen, Span, Times};
-use stage_steps::{Group, Lists, Stage};
+use pipe_model::{Mapping, Range, Rec, Span, Times};
+use stage_steps::{Group, Lists};
 use std::alloc::Global;
 use std::process::Abort;
 use std::test::Fail;
 
-// Goes through these events with a DUPLICATE, and looks at what is asked for after each.
-fn driven(
+// DUPLICATE gives the record at hand so often, group by group; None stands for no end.
+fn repeats(
     rt: &impl Abort,
     alloc: Global,
     copies: Times,
-    steps: &[(Seen, &str)],
+    wanted: &[Option<u32>],
 ) -> Result<(), Fail> {
-    let mut stage = EditStage::of(alloc, &Kind::Duplicate(copies), &[true])?;
-    assert!(rt; !stage.looks());
-    for (seen, want) in steps {
-        let asked = format!(in alloc; "{:?}", stage.resume(alloc, *seen, b"")?)?;
-        assert_eq!(rt; asked.as_str(), *want, "after {seen:?}");
+    let mut lists = Duplicates::lists(copies);
+    lists.see(alloc, b"")?;
+    for count in wanted {
+        let Some(Group::AtHand(repeat)) = lists.next(alloc)? else {
+            return Err("no group")?;
+        };
+        let given = match repeat.times {
+            Times::Only(n) => Some(n),
+            Times::All => None,
+        };
+        assert_eq!(rt; [given, Some(u32::from(repeat.output))], [*count, Some(0)]);
     }
+    assert!(rt; lists.next(alloc)?.is_none());
     Ok(())
 }
 
 #[test]
 fn a_record_is_written_once_and_its_copies(rt: HostRuntime) -> Result<(), Fail> {
     let alloc = rt.alloc();
-    let steps = [
-        (Seen::Up(-1, 0), "Commit(0)"),
-        (Seen::Up(0, 0), "Read(0)"),
-        (Seen::Saw(0), "Write(0, Same(0))"),
-        (Seen::Put(0), "Take(0)"),
-        (Seen::Took(0), "Read(0)"),
-        (Seen::SawEnd(0), "Done(0)"),
-    ];
-    driven(&rt, alloc, Times::Only(0), &steps)?;
-    let steps = [
-        (Seen::Up(-1, 0), "Commit(0)"),
-        (Seen::Up(0, 0), "Read(0)"),
-        (Seen::Saw(0), "Write(0, Same(0))"),
-        (Seen::Put(0), "Write(0, Same(0))"),
-        (Seen::Put(0), "Write(0, Same(0))"),
-        (Seen::Put(0), "Take(0)"),
-    ];
-    driven(&rt, alloc, Times::Only(2), &steps)?;
-    let steps = [
-        (Seen::Up(-1, 0), "Commit(0)"),
-        (Seen::Up(0, 0), "Read(0)"),
-        (Seen::Saw(0), "Write(0, Same(0))"),
-        (Seen::Put(0), "Write(0, Same(0))"),
-        (Seen::Put(0), "Write(0, Same(0))"),
-        (Seen::Refused(0), "Done(0)"),
-    ];
-    driven(&rt, alloc, Times::All, &steps)
+    repeats(&rt, alloc, Times::Only(0), &[Some(1), Some(0)])?;
+    repeats(&rt, alloc, Times::Only(2), &[Some(1), Some(2)])?;
+    repeats(&rt, alloc, Times::All, &[None])
 }
 
 #[test]
@@ -144,29 +130,41 @@ fn records_are_padded(rt: HostRuntime) -> Result<(), Fail> {
     Ok(())
 }
 
-#[test]
-fn bytes_are_translated(rt: HostRuntime) -> Result<(), Fail> {
-    let alloc = rt.alloc();
-    let first = Rec::from_slice(alloc, b"aba")?;
-    let second = Rec::from_slice(alloc, b"xyz")?;
-    let rows: [(Mapping, &[u8], &[u8]); 4] = [
-        (Mapping::Upper, b"a`{Zz1\xe4", b"A`{ZZ1\xe4"),
-        (Mapping::Lower, b"A@[zZ1\xc4", b"a@[zz1\xc4"),
-        (Mapping::Bytes(first, second), b"abcab", b"xycxy"),
-        (Mapping::Upper, b"", b""),
-    ];
-    for (mapping, rec, translated) in &rows {
-        let made = Xlates::new(alloc, mapping)?.edit(alloc, rec)?;
-        assert_eq!(rt; made.bytes(), *translated, "of {rec:?}");
-    }
+// XLATE by this mapping makes this of a record.
+fn translates(
+    rt: &impl Abort,
+    alloc: Global,
+    mapping: &Mapping,
+    rec: &[u8],
+    translated: &[u8],
+) -> Result<(), Fail> {
+    let made = Xlates::new(alloc, mapping)?.edit(alloc, rec)?;
+    assert_eq!(rt; made.bytes(), translated, "of {rec:?}");
     Ok(())
 }
 
+#[test]
+fn bytes_are_translated(rt: HostRuntime) -> Result<(), Fail> {
+    let alloc = rt.alloc();
+    translates(&rt, alloc, &Mapping::Upper, b"a`{Zz1\xe4", b"A`{ZZ1\xe4")?;
+    translates(&rt, alloc, &Mapping::Lower, b"A@[zZ1\xc4", b"a@[zz1\xc4")?;
+    translates(&rt, alloc, &Mapping::Upper, b"", b"")?;
+    let first = Rec::from_slice(alloc, b"aba")?;
+    let second = Rec::from_slice(alloc, b"xyz")?;
+    translates(
+        &rt,
+        alloc,
+        &Mapping::Bytes(first, second),
+        b"abcab",
+        b"xycxy",
+    )
+}
+
 // Compares all records that lists give with these, each on its output.
-fn gives(
+fn gives<L: Lists>(
     rt: &impl Abort,
     alloc: Global,
-    lists: &mut AnyLists,
+    lists: &mut L,
     wanted: &[(u16, &[u8])],
 ) -> Result<(), Fail> {
     for (output, bytes) in wanted {
@@ -181,12 +179,6 @@ fn gives(
     Ok(())
 }
 
-// The lists of a kind of Editing.
-fn lists_of(rt: &impl Abort, alloc: Global, kind: &Kind) -> Result<AnyLists, Fail> {
-    assert!(rt; is_edit(kind));
-    Ok(AnyLists::new(alloc, kind)?)
-}
-
 #[test]
 fn records_are_chopped(rt: HostRuntime) -> Result<(), Fail> {
     let alloc = rt.alloc();
@@ -197,7 +189,7 @@ fn records_are_chopped(rt: HostRuntime) -> Result<(), Fail> {
         (2, b"", b"", b""),
     ];
     for (width, rec, front, rest) in rows {
-        let mut lists = lists_of(&rt, alloc, &Kind::Chop(width))?;
+        let mut lists = Chops::lists(alloc, width);
         lists.see(alloc, rec)?;
         gives(&rt, alloc, &mut lists, &[(0, front), (1, rest)])?;
     }
@@ -208,12 +200,10 @@ fn records_are_chopped(rt: HostRuntime) -> Result<(), Fail> {
 fn runs_are_split(rt: HostRuntime) -> Result<(), Fail> {
     let alloc = rt.alloc();
     let set = Rec::from_slice(alloc, b" ,")?;
-    let mut lists = lists_of(&rt, alloc, &Kind::Split { set })?;
+    let mut lists = Splits::lists(alloc, &set)?;
     lists.see(alloc, b", a, bc ")?;
     gives(&rt, alloc, &mut lists, &[(0, b"a"), (0, b"bc")])?;
     lists.see(alloc, b" ,,")?;
-    gives(&rt, alloc, &mut lists, &[])?;
-    lists.see(alloc, b"")?;
     gives(&rt, alloc, &mut lists, &[])?;
     lists.see(alloc, b"ab")?;
     gives(&rt, alloc, &mut lists, &[(0, b"ab")])
@@ -223,25 +213,19 @@ fn runs_are_split(rt: HostRuntime) -> Result<(), Fail> {
 fn groups_are_joined(rt: HostRuntime) -> Result<(), Fail> {
     let alloc = rt.alloc();
     let between = Rec::from_slice(alloc, b"-")?;
-    let more = Times::Only(1);
-    let mut lists = lists_of(&rt, alloc, &Kind::Join { more, between })?;
-    lists.see(alloc, b"")?;
-    gives(&rt, alloc, &mut lists, &[])?;
-    lists.see(alloc, b"")?;
-    gives(&rt, alloc, &mut lists, &[(0, b"-")])?;
-    lists.see(alloc, b"c")?;
-    gives(&rt, alloc, &mut lists, &[])?;
-    lists.end(alloc)?;
-    gives(&rt, alloc, &mut lists, &[(0, b"c")])?;
-    let between = Rec::from_slice(alloc, b"")?;
-    let more = Times::All;
-    let mut lists = lists_of(&rt, alloc, &Kind::Join { more, between })?;
-    lists.end(alloc)?;
-    gives(&rt, alloc, &mut lists, &[])?;
-    lists.see(alloc, b"a")?;
-    lists.see(alloc, b"b")?;
-    lists.end(alloc)?;
-    gives(&rt, alloc, &mut lists, &[(0, b"ab")])
+    let mut pairs = Joins::new(alloc, Times::Only(1), &between)?;
+    pairs.see(alloc, b"")?;
+    gives(&rt, alloc, &mut pairs, &[])?;
+    pairs.see(alloc, b"")?;
+    gives(&rt, alloc, &mut pairs, &[(0, b"-")])?;
+    pairs.see(alloc, b"c")?;
+    pairs.end(alloc)?;
+    gives(&rt, alloc, &mut pairs, &[(0, b"c")])?;
+    let mut all = Joins::new(alloc, Times::All, &between)?;
+    all.see(alloc, b"a")?;
+    all.see(alloc, b"b")?;
+    all.end(alloc)?;
+    gives(&rt, alloc, &mut all, &[(0, b"a-b")])
 }
 
 // Calls for this type show that its values can be moved to another thread.
