@@ -26,8 +26,8 @@ due_count Nothing = 0
 due_count _ = 1
 
 -- the text, and then each record
-abbrev pub LiteralsStand : Literals → Stream → Records → List Act → Type 0
-LiteralsStand x t recs acts = (t ≡ literal x.text) × (acts ≡ due_acts x.due x.text (at_hand_of recs)) × IsDue x.due recs
+abbrev pub LiteralsStand : Literals → Bool → Stream → Records → List Act → Type 0
+LiteralsStand x over t recs acts = (t ≡ literal x.text) × (acts ≡ due_acts x.due x.text (at_hand_of recs)) × IsDue x.due recs
 
 -- LITERAL doesn't look at records
 abbrev pub literals_look : Literals → Bool

@@ -17,7 +17,7 @@ use Rattle.edit_stages.specs.AnyEdit.{any_made}
 use Rattle.edit_stages.specs.EditLists.{DuplicatesStand, duplicates_look, due_count, EditedStand, edited_look, new_given, new_count, ChopsStand, chops_look, part_given, owed_count, SplitsStand, splits_look, run_given, JoinsStand, joins_look}
 use Rattle.std.specs.Prelude.{◌-◌, length}
 
-abbrev pub AnyListsStand : AnyLists → Stream → Records → List Act → Type 0
+abbrev pub AnyListsStand : AnyLists → Bool → Stream → Records → List Act → Type 0
 AnyListsStand (Duplicate x) = EachStand DuplicatesStand x
 AnyListsStand (Edit x) = EachStand (EditedStand any_made) x
 AnyListsStand (Chop x) = EachStand ChopsStand x
@@ -54,4 +54,4 @@ any_order _ = WritesFirst
 
 -- the lists are those that the stage table says of the kind, before the first record
 abbrev pub AreListsOf : Kind → AnyLists → Type 0
-AreListsOf kind x = (t : Stream) × ((line_of kind).shape ≡ Lists (order_of (any_order x)) (λ outputs. t)) × (any_look x ≡ (line_of kind).looks) × AnyListsStand x t [] []
+AreListsOf kind x = (t : Stream) × ((line_of kind).shape ≡ Lists (order_of (any_order x)) (λ outputs. t)) × (any_look x ≡ (line_of kind).looks) × AnyListsStand x false t [] []

@@ -114,9 +114,14 @@ splits_look x = true
 
 -- JOIN
 
+-- up to the end of input it has in one the records of the group that hasn't ended
+abbrev pub IsGathering : Bool → Joins → Records → Type 0
+IsGathering false x recs = (x.count ≡ length (left_over x.more recs)) × (x.group.items ≡ in_one x.between (left_over x.more recs))
+IsGathering true x recs = Unit {0}
+
 -- each group in one record with its last, and the group that hasn't ended at the end of input; its records so far are held
-abbrev pub JoinsStand : Joins → Stream → Records → List Act → Type 0
-JoinsStand x t recs acts = (t ≡ join x.more x.between) × (x.count ≡ length (left_over x.more recs)) × (x.group.items ≡ in_one x.between (left_over x.more recs)) × (acts ≡ new_act x.due x.new)
+abbrev pub JoinsStand : Joins → Bool → Stream → Records → List Act → Type 0
+JoinsStand x over t recs acts = (t ≡ join x.more x.between) × IsGathering over x recs × (acts ≡ new_act x.due x.new)
 
 -- JOIN looks at records
 abbrev pub joins_look : Joins → Bool

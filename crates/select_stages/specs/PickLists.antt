@@ -21,8 +21,8 @@ use Rattle.select_stages.specs.Choices.{taking, left_behind, enclosing, meeting}
 use Rattle.select_stages.specs.Picks.{Choice, choice_by, rejected, chosen}
 
 -- each record goes on the output that is picked, where it may wait for it
-abbrev pub PickedStand : {P : Type 0} → (P → Choice → Records → Type 0) → Picked P → Stream → Records → List Act → Type 0
-PickedStand stands x t recs acts = (choice : Choice) × (t ≡ chosen choice) × stands x.picks choice recs × (acts ≡ waiting_act x.waiting (at_hand_of recs)) × IsWaiting x.waiting recs
+abbrev pub PickedStand : {P : Type 0} → (P → Choice → Records → Type 0) → Picked P → Bool → Stream → Records → List Act → Type 0
+PickedStand stands x over t recs acts = (choice : Choice) × (t ≡ chosen choice) × stands x.picks choice recs × (acts ≡ waiting_act x.waiting (at_hand_of recs)) × IsWaiting x.waiting recs
 
 -- they look where what picks does
 abbrev pub picked_look : {P : Type 0} → (P → Bool) → Picked P → Bool

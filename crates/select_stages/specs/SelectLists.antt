@@ -11,9 +11,9 @@ use Rattle.select_stages.specs.AnyPick.{AnyPicksStand, any_pick_looks}
 use Rattle.select_stages.specs.PickLists.{PickedStand, picked_look}
 use Rattle.select_stages.specs.Windows.{WindowStands, window_looks, window_made, window_left}
 
-abbrev pub SelectListsStand : SelectLists → Stream → Records → List Act → Type 0
-SelectListsStand (Pick x) t recs acts = PickedStand AnyPicksStand x t recs acts
-SelectListsStand (Hold x) t recs acts = WindowStands x t recs acts
+abbrev pub SelectListsStand : SelectLists → Bool → Stream → Records → List Act → Type 0
+SelectListsStand (Pick x) over t recs acts = PickedStand AnyPicksStand x over t recs acts
+SelectListsStand (Hold x) over t recs acts = WindowStands x over t recs acts
 
 abbrev pub select_lists_look : SelectLists → Bool
 select_lists_look (Pick x) = picked_look any_pick_looks x

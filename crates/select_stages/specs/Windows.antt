@@ -31,17 +31,17 @@ is_over Rest = true
 is_over _ = false
 
 -- up to the end of input it holds the last records
-abbrev pub IsHolding : Due → Window → Records → Type 0
-IsHolding Rest x recs = Unit {0}
-IsHolding _ x recs = x.records.items ≡ last_of (of_all x.times (length recs)) recs
+abbrev pub IsHolding : Bool → Window → Records → Type 0
+IsHolding false x recs = x.records.items ≡ last_of (of_all x.times (length recs)) recs
+IsHolding true x recs = Unit {0}
 
 -- where the record at hand is due, there was one
 abbrev pub IsDue : Due → Records → Type 0
 IsDue AtHand recs = 0 < length recs
 IsDue _ recs = Unit {0}
 
-abbrev pub WindowStands : Window → Stream → Records → List Act → Type 0
-WindowStands x t recs acts = (t ≡ window x.leaving x.staying x.times) × IsHolding x.due x recs × (acts ≡ due_acts x.due x recs) × IsDue x.due recs
+abbrev pub WindowStands : Window → Bool → Stream → Records → List Act → Type 0
+WindowStands x over t recs acts = (t ≡ window x.leaving x.staying x.times) × (is_over x.due ≡ over) × IsHolding over x recs × (acts ≡ due_acts x.due x recs) × IsDue x.due recs
 
 -- TAKE LAST and DROP LAST look at records
 abbrev pub window_looks : Window → Bool
@@ -67,4 +67,4 @@ window_left x = left_by x.due (length x.records.items)
 
 -- before the first record the window stands for what the stage table says of the kind
 abbrev pub IsWindowOf : Window → Kind → Type 0
-IsWindowOf x kind = (t : Stream) × ((line_of kind).shape ≡ hold t) × ((line_of kind).looks ≡ true) × WindowStands x t [] []
+IsWindowOf x kind = (t : Stream) × ((line_of kind).shape ≡ hold t) × ((line_of kind).looks ≡ true) × WindowStands x false t [] []

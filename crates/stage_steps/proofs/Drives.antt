@@ -44,7 +44,7 @@ some_is f None = refl
 some_is f (Some k) = refl
 
 -- where it ends with a code, it is in the place where it is to end with it
-ends_at : {L : Type 0} (stands : L → Stream → Records → List Act → Type 0) (order : RowOrder) (t : Stream) (x : L) (f : Place) (hand : Option Repeat) (flags : List Bool) (p : Past) (code : ℤ) →
+ends_at : {L : Type 0} (stands : L → Bool → Stream → Records → List Act → Type 0) (order : RowOrder) (t : Stream) (x : L) (f : Place) (hand : Option Repeat) (flags : List Bool) (p : Past) (code : ℤ) →
     PlaceIs stands order t true x f hand flags p → answers (want_in p.phase) (Ended code) ≡ true → f ≡ Ending code
 ends_at stands order t x Starting hand flags p code is fits = let z : answers (want_in (Reaching (negsuc 0))) (Ended code) ≡ true = subst (λ f. answers (want_in f) (Ended code) ≡ true) is.3 fits in cc
 ends_at stands order t x Committing hand flags p code is fits = let z : answers (want_in (Reaching (pos 0))) (Ended code) ≡ true = subst (λ f. answers (want_in f) (Ended code) ≡ true) is.3 fits in cc
@@ -57,7 +57,7 @@ ends_at stands order t x Taking hand flags p code is fits =
     let z : answers (want_in (Doing (Takes 0 ∷ live flags is.0) (next_record t (records_of p.known.seen)))) (Ended code) ≡ true = subst (λ f. answers (want_in f) (Ended code) ≡ true) is.4 fits in cc
 ends_at stands order t x (Ending code') hand flags p code is fits = ap Ending (sym ((Decides-int_eq code code').0 (subst (λ f. answers (want_in f) (Ended code) ≡ true) is fits)))
 
-module _ {L : Type 0} (stands : L → Stream → Records → List Act → Type 0) (made : L → Option (List ℕ)) (looks : Bool) (x y z : L) (seen : Seen) (bytes : List ℕ) (w : Walk) (kept' : Option KeptText) (outputs' : Outputs)
+module _ {L : Type 0} (stands : L → Bool → Stream → Records → List Act → Type 0) (made : L → Option (List ℕ)) (looks : Bool) (x y z : L) (seen : Seen) (bytes : List ℕ) (w : Walk) (kept' : Option KeptText) (outputs' : Outputs)
     (place1 place2 : Place) (hand' : Option Repeat) (asked : Asked) (s : Strand) (h : List Event) (e : Event)
     (is : ListedIs stands looks x w s h) (answer : answers (next s h) e ≡ true) (seen_is : told e ≡ seen) (came : bytes_with (form s).looks e ≡ bytes) (room : length h < 50000000)
     (kept_is : kept' ≡ option_map (kept_after seen bytes) w.kept) (flags_is : outputs'.flags.items ≡ open_after seen w.outputs.flags.items) (connected_is : outputs'.connected ≡ w.outputs.connected)
@@ -174,7 +174,7 @@ module _ {L : Type 0} (stands : L → Stream → Records → List Act → Type 0
         subst (λ a. IsSeenBefore a (e ∷ h)) (sym at.1) tt,
       )
 
-module _ {L : Type 0} (stands : L → Stream → Records → List Act → Type 0) (made : L → Option (List ℕ)) (looks : Bool) (x y z : L) (seen : Seen) (bytes : List ℕ) (w : Walk) (kept' : Option KeptText) (outputs' : Outputs)
+module _ {L : Type 0} (stands : L → Bool → Stream → Records → List Act → Type 0) (made : L → Option (List ℕ)) (looks : Bool) (x y z : L) (seen : Seen) (bytes : List ℕ) (w : Walk) (kept' : Option KeptText) (outputs' : Outputs)
     (place1 : Place) (v : Walk) (looks' : Bool) (asked : Asked) (s : Strand) (h : List Event) where
   abbrev Stepped : Event → Type 0
   Stepped e = ListedIs stands looks z (record { order = w.order; place = v.place; hand = v.hand; outputs = outputs'; kept = kept' }) s (e ∷ h) × (Some (meaning asked (last_seen (e ∷ h))) ≡ owed s (e ∷ h)) × IsSeenBefore asked (e ∷ h)

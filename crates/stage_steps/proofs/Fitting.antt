@@ -17,7 +17,7 @@ use Rattle.stage_steps.specs.Each.{EachStand, each_look}
 use Rattle.stage_steps.specs.SharedLists.{LinesStand, fresh_lines, CopiesStand, copies_look, fresh_copies}
 
 -- by the stream of the kind for the connected outputs
-pub stage_of : {L : Type 0} (stands : L → Stream → Records → List Act → Type 0) (is_looking : L → Bool) (kind : Kind) (t : List Bool → Stream) (lists : L) (order : Order) (outputs : List Bool) (keeps : Bool) (x : Listed L) →
+pub stage_of : {L : Type 0} (stands : L → Bool → Stream → Records → List Act → Type 0) (is_looking : L → Bool) (kind : Kind) (t : List Bool → Stream) (lists : L) (order : Order) (outputs : List Bool) (keeps : Bool) (x : Listed L) →
     IsFresh stands is_looking lists order outputs keeps x →
     ((s : Strand) → lists_of s (line_of kind).shape ≡ Some (record { order = order_of order; keeps = keeps; stream = t s.ports.has_output })) →
     is_looking lists ≡ (line_of kind).looks → (keeps ≡ true → is_looking lists ≡ true) → stands lists (t outputs) [] [] →

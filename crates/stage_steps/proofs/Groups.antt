@@ -12,10 +12,10 @@ use Rattle.stage_steps.specs.Walk.{Fetches}
 use Rattle.stage_steps.proofs.Acts.{not_due}
 
 -- what is left to write on open outputs is the same, though some groups were passed over
-abbrev pub Passes : {L : Type 0} → (L → Stream → Records → List Act → Type 0) → List Bool → L → Option Repeat → L → Type 0
+abbrev pub Passes : {L : Type 0} → (L → Bool → Stream → Records → List Act → Type 0) → List Bool → L → Option Repeat → L → Type 0
 Passes stands flags x hand y = (t : Stream) (recs : Records) (acts : List Act) → stands x t recs acts → (rest : List Act) × (live flags (held_acts (at_hand_of recs) hand ++ acts) ≡ live flags rest) × stands y t recs rest
 
-module _ {L : Type 0} (stands : L → Stream → Records → List Act → Type 0) (made : L → Option (List ℕ)) (flags : List Bool) where
+module _ {L : Type 0} (stands : L → Bool → Stream → Records → List Act → Type 0) (made : L → Option (List ℕ)) (flags : List Bool) where
   -- at first none
   pub passes_none : (x : L) → Passes stands flags x None x
   passes_none x t recs acts is = (acts, refl, is)

@@ -21,7 +21,7 @@ all_open : (k : ℕ) (flags : List Bool) → flags ≡ open_from k flags []
 all_open k [] = refl
 all_open k (flag ∷ flags) = ap (λ b. b ∷ flags) (sym (and-true flag)) ∙ ap (λ l. (flag && true) ∷ l) (all_open (suc k) flags)
 
-module _ {L : Type 0} (stands : L → Stream → Records → List Act → Type 0) (looks : Bool) (lists : L) (order : Order) (flags : List Bool) (keeps : Bool) (outputs : Outputs) (kept : Option KeptText) (s : Strand) (t : Stream)
+module _ {L : Type 0} (stands : L → Bool → Stream → Records → List Act → Type 0) (looks : Bool) (lists : L) (order : Order) (flags : List Bool) (keeps : Bool) (outputs : Outputs) (kept : Option KeptText) (s : Strand) (t : Stream)
     (fits : Fits stands looks lists order flags keeps s t) (connected_is : outputs.connected ≡ list_any (λ flag. flag) flags) (flags_are : outputs.flags.items ≡ flags) (kept_is : kept ≡ cond keeps (Some nothing_kept) None) where
   some_is : (b : Bool) → is_some (cond b (Some nothing_kept) None) ≡ b
   some_is true = refl

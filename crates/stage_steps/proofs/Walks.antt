@@ -69,7 +69,7 @@ none_before RowWritesFirst = refl
 none_before RowTakesFirst = tt
 
 -- the next record, or the end
-look_by : {L : Type 0} (stands : L → Stream → Records → List Act → Type 0) (order : RowOrder) (t : Stream) (has_asked : Bool) (x : L) (hand : Option Repeat) (flags : List Bool) (p : Past) →
+look_by : {L : Type 0} (stands : L → Bool → Stream → Records → List Act → Type 0) (order : RowOrder) (t : Stream) (has_asked : Bool) (x : L) (hand : Option Repeat) (flags : List Bool) (p : Past) →
     stands x t (records_of p.known.seen) [] → hand ≡ None → p.phase ≡ Doing [] (next_record t (records_of p.known.seen)) →
     PlaceIs stands order t has_asked x (look_place t (records_of p.known.seen)) hand flags p
 look_by stands order t has_asked x hand flags p stood none is =
@@ -78,7 +78,7 @@ look_by stands order t has_asked x hand flags p stood none is =
 
 -- One event
 
-module _ {L : Type 0} (stands : L → Stream → Records → List Act → Type 0) (looks keeps : Bool) (order : Order) (t : Stream) (outputs : List Bool) (h : List Event) (bytes : List ℕ)
+module _ {L : Type 0} (stands : L → Bool → Stream → Records → List Act → Type 0) (looks keeps : Bool) (order : Order) (t : Stream) (outputs : List Bool) (h : List Event) (bytes : List ℕ)
     (x y : L) (hand : Option Repeat) (place' : Place) (p : Past) where
   -- what is so after an event
   pub record After (f : Place) (e : Event) (q : Past) : Type 0 where
@@ -86,7 +86,7 @@ module _ {L : Type 0} (stands : L → Stream → Records → List Act → Type 0
     pub all : (kept : KeptText) → bytes_with true e ≡ bytes → AllIs f kept.all h → AllIs place' (kept_after (told e) bytes kept).all (e ∷ h)
     pub taken : (kept : KeptText) → AllIs f kept.all h → kept.taken ≡ text (taken_from 0 h) → (kept_after (told e) bytes kept).taken ≡ text (taken_from 0 (e ∷ h))
 
-module _ {L : Type 0} (stands : L → Stream → Records → List Act → Type 0) (looks keeps : Bool) (order : Order) (t : Stream) (outputs : List Bool) (h : List Event) (bytes : List ℕ)
+module _ {L : Type 0} (stands : L → Bool → Stream → Records → List Act → Type 0) (looks keeps : Bool) (order : Order) (t : Stream) (outputs : List Bool) (h : List Event) (bytes : List ℕ)
     (ends_it : Bool) (x y : L) (hand : Option Repeat) (place' : Place) (p : Past) (sight_is : last_seen_on 0 h ≡ at_hand_of (records_of p.known.seen)) (seen_is : 0 < length (records_of p.known.seen) → IsSome (record_seen_on 0 h)) (few : length (records_of p.known.seen) ≤ length h) where
   abbrev Next : Place → Event → Past → Type 0
   Next f e q = After stands looks keeps order t outputs h bytes x y hand place' p f e q
@@ -347,7 +347,7 @@ plain_seen h Taking = tt
 plain_seen h (Ending code) = tt
 plain_seen h (Writing follow) = tt
 
-module _ {L : Type 0} (stands : L → Stream → Records → List Act → Type 0) (made : L → Option (List ℕ)) (order : RowOrder) (t : Stream) (outputs : List Bool) (h : List Event)
+module _ {L : Type 0} (stands : L → Bool → Stream → Records → List Act → Type 0) (made : L → Option (List ℕ)) (order : RowOrder) (t : Stream) (outputs : List Bool) (h : List Event)
     (x y : L) (hand hand' : Option Repeat) (place' : Place) (flags : List Bool) (asked : Asked) (p : Past) where
   -- what is so when it has asked
   abbrev pub HasAsked : Place → Type 0

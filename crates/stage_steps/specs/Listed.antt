@@ -81,6 +81,11 @@ abbrev pub goal_behind : Follow → Stream → Records → Goal
 goal_behind End t recs = Ends (t.code recs)
 goal_behind _ t recs = next_record t recs
 
+-- the input has ended
+abbrev pub is_last : Follow → Bool
+is_last End = true
+is_last _ = false
+
 -- the rest is to be done, before the walk asks, or when it has asked for a record before it
 abbrev pub IsDoing : Bool → List Act → Goal → Phase → Type 0
 IsDoing false rest goal phase = phase ≡ Doing rest goal
@@ -92,14 +97,14 @@ IsBeforeTake WritesFirst acts = acts ≡ []
 IsBeforeTake TakesFirst acts = Unit {0}
 
 -- the walk's place, before it asks or when it has asked
-abbrev pub PlaceIs : {L : Type 0} → (L → Stream → Records → List Act → Type 0) → RowOrder → Stream → Bool → L → Place → Option Repeat → List Bool → Past → Type 0
-PlaceIs stands order t has_asked x Starting hand flags p = stands x t [] [] × (hand ≡ None) × (p.known ≡ nothing_known) × (p.phase ≡ Reaching (negsuc 0))
-PlaceIs stands order t has_asked x Committing hand flags p = stands x t [] [] × (hand ≡ None) × (p.known ≡ nothing_known) × (p.phase ≡ Reaching (pos 0))
-PlaceIs stands order t has_asked x Looking hand flags p = stands x t (records_of p.known.seen) [] × (hand ≡ None) × (p.phase ≡ Doing [] (Asks (Read 0)))
-PlaceIs stands order t has_asked x (Writing follow) hand flags p = (acts : List Act) × stands x t (records_of p.known.seen) acts
+abbrev pub PlaceIs : {L : Type 0} → (L → Bool → Stream → Records → List Act → Type 0) → RowOrder → Stream → Bool → L → Place → Option Repeat → List Bool → Past → Type 0
+PlaceIs stands order t has_asked x Starting hand flags p = stands x false t [] [] × (hand ≡ None) × (p.known ≡ nothing_known) × (p.phase ≡ Reaching (negsuc 0))
+PlaceIs stands order t has_asked x Committing hand flags p = stands x false t [] [] × (hand ≡ None) × (p.known ≡ nothing_known) × (p.phase ≡ Reaching (pos 0))
+PlaceIs stands order t has_asked x Looking hand flags p = stands x false t (records_of p.known.seen) [] × (hand ≡ None) × (p.phase ≡ Doing [] (Asks (Read 0)))
+PlaceIs stands order t has_asked x (Writing follow) hand flags p = (acts : List Act) × stands x (is_last follow) t (records_of p.known.seen) acts
     × IsDoing has_asked (live flags (and_behind follow (held_acts (at_hand_of (records_of p.known.seen)) hand ++ acts))) (goal_behind follow t (records_of p.known.seen)) p.phase
     × IsLeftOfRecord (records_of p.known.seen) hand
-PlaceIs stands order t has_asked x Taking hand flags p = (acts : List Act) × stands x t (records_of p.known.seen) acts × (hand ≡ None) × IsBeforeTake order acts
+PlaceIs stands order t has_asked x Taking hand flags p = (acts : List Act) × stands x false t (records_of p.known.seen) acts × (hand ≡ None) × IsBeforeTake order acts
     × (p.phase ≡ Doing (Takes 0 ∷ live flags acts) (next_record t (records_of p.known.seen)))
 PlaceIs stands order t has_asked x (Ending code) hand flags p = p.phase ≡ Doing [] (Ends code)
 
@@ -119,7 +124,7 @@ KeptIs place (Some kept) keeping h = ((g : List Event) → kept_by keeping g ≡
 -- The driver
 
 -- the walk stands for the past of a history
-pub record WalkIs {L : Type 0} (stands : L → Stream → Records → List Act → Type 0) (order : RowOrder) (t : Stream) (has_asked : Bool) (outputs : List Bool)
+pub record WalkIs {L : Type 0} (stands : L → Bool → Stream → Records → List Act → Type 0) (order : RowOrder) (t : Stream) (has_asked : Bool) (outputs : List Bool)
     (x : L) (place : Place) (hand : Option Repeat) (flags : List Bool) (h : List Event) (p : Past) : Type 0 where
   pub flags_are : flags ≡ open_from 0 outputs p.refused
   pub sight_is : last_seen_on 0 h ≡ at_hand_of (records_of p.known.seen)
@@ -128,7 +133,7 @@ pub record WalkIs {L : Type 0} (stands : L → Stream → Records → List Act �
   pub place_is : has_ended h ≡ false → PlaceIs stands order t has_asked x place hand flags p
 
 -- these parts of a driver, which has asked, stand for a strand's history
-pub record ListedIs {L : Type 0} (stands : L → Stream → Records → List Act → Type 0) (looks : Bool) (x : L) (w : Walk) (s : Strand) (h : List Event) : Type 0 where
+pub record ListedIs {L : Type 0} (stands : L → Bool → Stream → Records → List Act → Type 0) (looks : Bool) (x : L) (w : Walk) (s : Strand) (h : List Event) : Type 0 where
   pub keeps : Bool
   pub keeps_is : is_some w.kept ≡ keeps
   pub stream : Stream

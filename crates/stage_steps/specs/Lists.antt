@@ -1,5 +1,5 @@
 -- What the calls of a stage of lists do, where the value stands for a stream of the stage table, the records so far, and what is left to write of the list that it gives now.
-use Rattle.std.specs.Prelude.{◌≡◌, ◌<◌, ℕ, Bool, true, List, [], ◌∷◌, ◌++◌, length, is_some, unwrap_or}
+use Rattle.std.specs.Prelude.{◌≡◌, ◌<◌, ℕ, Bool, true, false, List, [], ◌∷◌, ◌++◌, length, is_some, unwrap_or}
 use Rattle.std.specs.declared.option.Option.{Option}
 use Rattle.std.specs.declared.option.Option.TheVariants.{Some, None}
 use Rattle.pipe_model.specs.Row.{Act}
@@ -8,40 +8,44 @@ use Rattle.stage_steps.specs.declared.group.Group.{Group}
 use Rattle.stage_steps.specs.Group.{group_acts, IsHeld, IsOfRecord}
 
 -- it gives the pairs at the start
-abbrev pub Begins : {L : Type 0} → (L → Stream → Records → List Act → Type 0) → L → L → Type 0
-Begins stands x y = (t : Stream) → stands x t [] [] → stands y t [] (writes t.before)
+abbrev pub Begins : {L : Type 0} → (L → Bool → Stream → Records → List Act → Type 0) → L → L → Type 0
+Begins stands x y = (t : Stream) → stands x false t [] [] → stands y false t [] (writes t.before)
 
 -- it gives the pairs of one more record, whose bytes come with it where it looks
-abbrev pub Sees : {L : Type 0} → (L → Stream → Records → List Act → Type 0) → Bool → L → L → List ℕ → Type 0
+abbrev pub Sees : {L : Type 0} → (L → Bool → Stream → Records → List Act → Type 0) → Bool → L → L → List ℕ → Type 0
 Sees stands looks x y bytes = (t : Stream) (recs : Records) (rec : List ℕ) →
-    stands x t recs [] → length recs < 50000000 → (looks ≡ true → bytes ≡ rec) → stands y t (recs ++ rec ∷ []) (acts_of t.outs (recs ++ rec ∷ []))
+    stands x false t recs [] → length recs < 50000000 → (looks ≡ true → bytes ≡ rec) → stands y false t (recs ++ rec ∷ []) (acts_of t.outs (recs ++ rec ∷ []))
 
 -- it gives the pairs at the end of input
-abbrev pub Finishes : {L : Type 0} → (L → Stream → Records → List Act → Type 0) → L → L → Type 0
-Finishes stands x y = (t : Stream) (recs : Records) → stands x t recs [] → stands y t recs (writes (last_pairs t.last recs))
+abbrev pub Finishes : {L : Type 0} → (L → Bool → Stream → Records → List Act → Type 0) → L → L → Type 0
+Finishes stands x y = (t : Stream) (recs : Records) → stands x false t recs [] → stands y true t recs (writes (last_pairs t.last recs))
 
 -- the first group of what is left, or none where nothing is left
-abbrev pub GivesNext : {L T : Type 0} → (L → T → Records → List Act → Type 0) → (L → Option (List ℕ)) → L → L → Option Group → Type 0
-GivesNext {L} {T} stands made x y None = (t : T) (recs : Records) (acts : List Act) → stands x t recs acts → (acts ≡ []) × stands y t recs []
-GivesNext {L} {T} stands made x y (Some g) = IsHeld (made y) g × ((t : T) (recs : Records) (acts : List Act) → stands x t recs acts →
-    (rest : List Act) × (acts ≡ group_acts (at_hand_of recs) (made y) g ++ rest) × stands y t recs rest × IsOfRecord recs g)
+abbrev pub GivesNext : {L T : Type 0} → (L → Bool → T → Records → List Act → Type 0) → (L → Option (List ℕ)) → L → L → Option Group → Type 0
+GivesNext {L} {T} stands made x y None = (over : Bool) (t : T) (recs : Records) (acts : List Act) → stands x over t recs acts → (acts ≡ []) × stands y over t recs []
+GivesNext {L} {T} stands made x y (Some g) = IsHeld (made y) g × ((over : Bool) (t : T) (recs : Records) (acts : List Act) → stands x over t recs acts →
+    (rest : List Act) × (acts ≡ group_acts (at_hand_of recs) (made y) g ++ rest) × stands y over t recs rest × IsOfRecord recs g)
 
 -- it stands for the same as before
-abbrev pub StandsOn : {L T : Type 0} → (L → T → Records → List Act → Type 0) → L → L → Type 0
-StandsOn {L} {T} stands x y = (t : T) (recs : Records) (acts : List Act) → stands x t recs acts → stands y t recs acts
+abbrev pub StandsOn : {L T : Type 0} → (L → Bool → T → Records → List Act → Type 0) → L → L → Type 0
+StandsOn {L} {T} stands x y = (over : Bool) (t : T) (recs : Records) (acts : List Act) → stands x over t recs acts → stands y over t recs acts
 
 -- it hands over the new record, where it holds one
-abbrev pub HandsOver : {L T : Type 0} → (L → T → Records → List Act → Type 0) → (L → Option (List ℕ)) → L → List ℕ → L → Type 0
+abbrev pub HandsOver : {L T : Type 0} → (L → Bool → T → Records → List Act → Type 0) → (L → Option (List ℕ)) → L → List ℕ → L → Type 0
 HandsOver stands made x rec y = is_some (made x) ≡ true → (rec ≡ unwrap_or (made x) []) × StandsOn stands x y
 
 -- what it tells is what the stream says after the records so far
-abbrev pub Tells : {L A : Type 0} → (L → Stream → Records → List Act → Type 0) → L → A → (Stream → Records → A) → Type 0
-Tells stands x a f = (t : Stream) (recs : Records) (acts : List Act) → stands x t recs acts → a ≡ f t recs
+abbrev pub Tells : {L A : Type 0} → (L → Bool → Stream → Records → List Act → Type 0) → L → A → (Stream → Records → A) → Type 0
+Tells stands x a f = (over : Bool) (t : Stream) (recs : Records) (acts : List Act) → stands x over t recs acts → a ≡ f t recs
 
 -- Where pairs are written for each record alone, and nothing ends the stage
 
 abbrev pub of_each : Outs → Stream
 of_each outs = record (each_record (λ recs. [])) { outs = outs }
+
+-- what a value stands for before the end of input and behind it
+abbrev pub always : {E T : Type 0} → (E → T → Records → List Act → Type 0) → E → Bool → T → Records → List Act → Type 0
+always stands x over t recs acts = stands x t recs acts
 
 -- it gives the pairs of one more record, whose bytes come with it where it looks
 abbrev pub SeesEach : {E : Type 0} → (E → Outs → Records → List Act → Type 0) → Bool → E → E → List ℕ → Type 0

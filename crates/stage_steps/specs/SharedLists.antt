@@ -16,8 +16,8 @@ abbrev pub fresh_lines : List ℕ → TextLines
 fresh_lines bytes = record { bytes = bytes; at = length bytes; from = 0; size = 0 }
 
 -- the lines of a text, of which those from a place on are left
-abbrev pub LinesStand : TextLines → Stream → Records → List Act → Type 0
-LinesStand x t recs acts = (t ≡ only_before (map (λ rec. (0, rec)) (lines x.bytes))) × (acts ≡ writes (map (λ rec. (0, rec)) (lines (drop x.at x.bytes))))
+abbrev pub LinesStand : TextLines → Bool → Stream → Records → List Act → Type 0
+LinesStand x over t recs acts = (t ≡ only_before (map (λ rec. (0, rec)) (lines x.bytes))) × (acts ≡ writes (map (λ rec. (0, rec)) (lines (drop x.at x.bytes))))
 
 -- the line that was given last
 abbrev pub line_given : TextLines → List ℕ

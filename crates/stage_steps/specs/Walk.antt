@@ -24,12 +24,12 @@ use Rattle.stage_steps.specs.Outputs.{live}
 use Rattle.stage_steps.specs.Places.{want_at, sight_place, taken_place, place_behind}
 
 -- behind commit level 0 the pairs at the start are given, unless the code ends it
-abbrev pub IsBegun : {L : Type 0} → (L → Stream → Records → List Act → Type 0) → L → L → Place → Bool → Type 0
+abbrev pub IsBegun : {L : Type 0} → (L → Bool → Stream → Records → List Act → Type 0) → L → L → Place → Bool → Type 0
 IsBegun stands x y place true = Begins stands x y × (place ≡ Writing Look)
 IsBegun stands x y place false = (y ≡ x) × (place ≡ Ending (pos 0))
 
 -- what becomes of the lists and of the place by an event that answers what was asked for
-abbrev pub Hears : {L : Type 0} → (L → Stream → Records → List Act → Type 0) → Bool → Order → Bool → L → Place → Seen → List ℕ → L → Place → Type 0
+abbrev pub Hears : {L : Type 0} → (L → Bool → Stream → Records → List Act → Type 0) → Bool → Order → Bool → L → Place → Seen → List ℕ → L → Place → Type 0
 Hears stands looks order gives_up x Starting (Up level code) bytes y place = (y ≡ x) × (place ≡ (if int_eq code (pos 0) then Committing else Ending (pos 0)))
 Hears stands looks order gives_up x Committing (Up level code) bytes y place = IsBegun stands x y place (int_eq code (pos 0))
 Hears stands looks order gives_up x Looking (Saw i) bytes y place = Sees stands looks x y bytes × Tells stands y place (sight_place order)
@@ -41,24 +41,24 @@ Hears stands looks order gives_up x (Ending code) (Ended code') bytes y place = 
 Hears stands looks order gives_up x _ _ bytes y place = Unit {0}
 
 -- the group that comes next of those whose output is open, the record in hand first, or none where nothing is left
-abbrev pub Fetches : {L : Type 0} → (L → Stream → Records → List Act → Type 0) → (L → Option (List ℕ)) → List Bool → L → Option Repeat → L → Option Group → Type 0
-Fetches stands made flags x hand y None = (t : Stream) (recs : Records) (acts : List Act) → stands x t recs acts →
-    (live flags (held_acts (at_hand_of recs) hand ++ acts) ≡ []) × stands y t recs []
-Fetches stands made flags x hand y (Some g) = (is_due flags g ≡ true) × IsHeld (made y) g × ((t : Stream) (recs : Records) (acts : List Act) → stands x t recs acts →
-    (rest : List Act) × (live flags (held_acts (at_hand_of recs) hand ++ acts) ≡ live flags (group_acts (at_hand_of recs) (made y) g ++ rest)) × stands y t recs rest
+abbrev pub Fetches : {L : Type 0} → (L → Bool → Stream → Records → List Act → Type 0) → (L → Option (List ℕ)) → List Bool → L → Option Repeat → L → Option Group → Type 0
+Fetches stands made flags x hand y None = (over : Bool) (t : Stream) (recs : Records) (acts : List Act) → stands x over t recs acts →
+    (live flags (held_acts (at_hand_of recs) hand ++ acts) ≡ []) × stands y over t recs []
+Fetches stands made flags x hand y (Some g) = (is_due flags g ≡ true) × IsHeld (made y) g × ((over : Bool) (t : Stream) (recs : Records) (acts : List Act) → stands x over t recs acts →
+    (rest : List Act) × (live flags (held_acts (at_hand_of recs) hand ++ acts) ≡ live flags (group_acts (at_hand_of recs) (made y) g ++ rest)) × stands y over t recs rest
     × (IsLeftOfRecord recs hand → IsOfRecord recs g))
 
 -- one of the group is asked for, and the others of a record at hand stay there
-abbrev pub Puts : {L : Type 0} → (L → Stream → Records → List Act → Type 0) → (L → Option (List ℕ)) → L → Group → L → Option Repeat → Want → Type 0
+abbrev pub Puts : {L : Type 0} → (L → Bool → Stream → Records → List Act → Type 0) → (L → Option (List ℕ)) → L → Group → L → Option Repeat → Want → Type 0
 Puts stands made y (AtHand r) z hand asked = (z ≡ y) × (hand ≡ less_one r) × (asked ≡ Write r.output (Same 0))
 Puts stands made y (New o) z hand asked = StandsOn stands y z × (hand ≡ None) × (asked ≡ Write o (Fresh (unwrap_or (made y) [])))
 
 -- a group is written, or where there is none the walk goes on
-abbrev pub Turns : {L : Type 0} → (L → Stream → Records → List Act → Type 0) → (L → Option (List ℕ)) → Follow → L → Option Group → L → Option Repeat → Place → Want → Type 0
+abbrev pub Turns : {L : Type 0} → (L → Bool → Stream → Records → List Act → Type 0) → (L → Option (List ℕ)) → Follow → L → Option Group → L → Option Repeat → Place → Want → Type 0
 Turns stands made follow y (Some g) z hand place asked = Puts stands made y g z hand asked × (place ≡ Writing follow)
 Turns stands made follow y None z hand place asked = (z ≡ y) × (hand ≡ None) × Tells stands y place (place_behind follow) × (asked ≡ want_at place)
 
 -- what is asked for in a place, and what is so then
-abbrev pub Asks : {L : Type 0} → (L → Stream → Records → List Act → Type 0) → (L → Option (List ℕ)) → List Bool → L → Option Repeat → Place → L → Option Repeat → Place → Want → Type 0
+abbrev pub Asks : {L : Type 0} → (L → Bool → Stream → Records → List Act → Type 0) → (L → Option (List ℕ)) → List Bool → L → Option Repeat → Place → L → Option Repeat → Place → Want → Type 0
 Asks {L} stands made flags x hand (Writing follow) z hand' place asked = (y : L) × (given : Option Group) × Fetches stands made flags x hand y given × Turns stands made follow y given z hand' place asked
 Asks stands made flags x hand from z hand' place asked = (z ≡ x) × (hand' ≡ hand) × (place ≡ from) × (asked ≡ want_at from)

@@ -1,7 +1,7 @@
 ghost use Rattle.std.specs.Prelude.{◌≡◌, ◌<◌, ℕ, List, Bool, IfOk, IfSome, Option, None};
 ghost use Rattle.pipe_model.specs.Row.{Act};
 ghost use Rattle.pipe_model.specs.Shape.{Records, Outs};
-ghost use Rattle.stage_steps.specs.Lists.{SeesEach, GivesNext, HandsOver};
+ghost use Rattle.stage_steps.specs.Lists.{SeesEach, GivesNext, HandsOver, always};
 
 use crate::group::Group;
 use crate::lists::Lists;
@@ -33,12 +33,12 @@ pub trait EachRecord: Sized + Drop {
     fn next(&mut self) -> Option<Group>
         ensures looks_same { is_looking self.new ≡ is_looking self.old }
         ensures falls { IfSome result (λ _. left self.new < left self.old) }
-        ensures gives { GivesNext stands made self.old self.new result };
+        ensures gives { GivesNext (always stands) made self.old self.new result };
 
     /// Hands over the new record that it holds. It isn't asked for one that it doesn't hold.
     fn hand_over(&mut self, alloc: Global) -> Result<Rec, NoMemory>
         ensures looks_same { is_looking self.new ≡ is_looking self.old }
-        ensures hands { IfOk result (λ rec. HandsOver stands made self.old rec self.new) };
+        ensures hands { IfOk result (λ rec. HandsOver (always stands) made self.old rec self.new) };
 
     /// Whether it needs the bytes of the records.
     fn looks(&self) -> bool

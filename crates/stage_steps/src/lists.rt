@@ -10,9 +10,9 @@ use std::alloc::Global;
 /// What a stage of lists does: a value that has seen some records, and gives the list of pairs that is due group by
 /// group, each made as it is asked for. A new list is begun only when the last one was given whole.
 pub trait Lists: Sized + Drop {
-    /// The value stands for this stream of the stage table, these records so far, and these acts, which are left of the
-    /// list that it gives now.
-    ghost stands: { Self → Stream → Records → List Act → Type 0 };
+    /// The value stands, before the end of input or behind it, for this stream of the stage table, these records so far,
+    /// and these acts, which are left of the list that it gives now.
+    ghost stands: { Self → Bool → Stream → Records → List Act → Type 0 };
 
     /// It needs the bytes of the records.
     ghost is_looking: { Self → Bool };
@@ -33,7 +33,7 @@ pub trait Lists: Sized + Drop {
         ensures looks_same { is_looking self.new ≡ is_looking self.old }
         ensures sees { IfOk result (λ _. Sees stands (is_looking self.old) self.old self.new bytes.now) };
 
-    /// Gives the pairs at the end of input.
+    /// Gives the pairs at the end of input. It is told of no record from then on.
     fn end(&mut self, alloc: Global) -> Result<(), NoMemory>
         ensures looks_same { is_looking self.new ≡ is_looking self.old }
         ensures finishes { IfOk result (λ _. Finishes stands self.old self.new) };
