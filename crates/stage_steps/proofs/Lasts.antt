@@ -1,5 +1,5 @@
 -- The record last seen, where one was, is the one that is written as the same.
-use Rattle.std.proofs.Common.{◌≡◌, ℕ, Bool, true, false, cond, ◌==◌, List, [], ◌∷◌, refl, Option, Some, None}
+use Rattle.std.proofs.Common.{◌≡◌, ℕ, Bool, true, false, cond, ◌==◌, List, [], ◌∷◌, refl, Some}
 use Rattle.std.specs.Prelude.{unwrap_or}
 use Rattle.pipe_model.specs.Event.{Event, last_seen_on}
 use Rattle.pipe_model.specs.Event.Event.{Up, Saw, SawEnd, SawAllEnd, Took, Put, Refused, Primed, Opened, Joined, Severed, Ended}

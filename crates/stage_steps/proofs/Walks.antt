@@ -32,7 +32,7 @@ use Rattle.stage_steps.specs.Group.{group_acts, held_acts, is_due, IsOfRecord, I
 use Rattle.stage_steps.specs.KeptText.{KeptText}
 use Rattle.stage_steps.specs.Kept.{kept_after}
 use Rattle.stage_steps.specs.Lists.{Sees, Finishes, Tells}
-use Rattle.stage_steps.specs.Listed.{list_row, first_write, when_written, and_behind, goal_behind, IsBeforeTake, PlaceIs, AllIs, WalkIs}
+use Rattle.stage_steps.specs.Listed.{list_row, first_write, when_written, and_behind, goal_behind, is_last, IsBeforeTake, PlaceIs, AllIs, WalkIs}
 use Rattle.stage_steps.specs.Outputs.{open_after, open_from, live, none_left}
 use Rattle.stage_steps.specs.Places.{order_of, want_at, place_with, sight_place, look_place, taken_place, place_behind}
 use Rattle.stage_steps.specs.Walk.{IsBegun, Hears, Fetches, Puts, Turns, Asks}
@@ -70,7 +70,7 @@ none_before RowTakesFirst = tt
 
 -- the next record, or the end
 look_by : {L : Type 0} (stands : L → Bool → Stream → Records → List Act → Type 0) (order : RowOrder) (t : Stream) (has_asked : Bool) (x : L) (hand : Option Repeat) (flags : List Bool) (p : Past) →
-    stands x t (records_of p.known.seen) [] → hand ≡ None → p.phase ≡ Doing [] (next_record t (records_of p.known.seen)) →
+    stands x false t (records_of p.known.seen) [] → hand ≡ None → p.phase ≡ Doing [] (next_record t (records_of p.known.seen)) →
     PlaceIs stands order t has_asked x (look_place t (records_of p.known.seen)) hand flags p
 look_by stands order t has_asked x hand flags p stood none is =
     (elim (t.stops (records_of p.known.seen)) as (λ b. p.phase ≡ Doing [] (cond b (Ends (t.code (records_of p.known.seen))) (Asking (Want.Read 0))) →
@@ -102,7 +102,7 @@ module _ {L : Type 0} (stands : L → Bool → Stream → Records → List Act �
   none_left_of : (recs : Records) → hand ≡ None → IsLeftOfRecord recs hand
   none_left_of recs none = subst (λ g. IsLeftOfRecord recs g) (sym none) tt
 
-  from_start : (e : Event) → stands x t [] [] → hand ≡ None → p.known ≡ nothing_known → answers (Some (Want.Commit (negsuc 0))) e ≡ true → Hears stands looks order ends_it x Starting (told e) bytes y place' →
+  from_start : (e : Event) → stands x false t [] [] → hand ≡ None → p.known ≡ nothing_known → answers (Some (Want.Commit (negsuc 0))) e ≡ true → Hears stands looks order ends_it x Starting (told e) bytes y place' →
       Next Starting e (after (list_row (order_of order) keeps t) outputs p (Reaching (negsuc 0)) e)
   from_start (Up l c) stood none known fits heard = record {
     walk = record {
@@ -118,12 +118,12 @@ module _ {L : Type 0} (stands : L → Bool → Stream → Records → List Act �
   }
   from_start _ stood none known fits heard = cc
 
-  begun : hand ≡ None → p.known ≡ nothing_known → stands y t [] (writes t.before) → Stood y (Writing Look) (record p { phase = begins_plan outputs p.refused (list_plan (order_of order) t p.known p.known.told) })
+  begun : hand ≡ None → p.known ≡ nothing_known → stands y false t [] (writes t.before) → Stood y (Writing Look) (record p { phase = begins_plan outputs p.refused (list_plan (order_of order) t p.known p.known.told) })
   begun none known stood =
       subst (λ k. Stood y (Writing Look) (record { known = k; refused = p.refused; phase = begins_plan outputs p.refused (list_plan (order_of order) t k k.told) })) (sym known)
       (writes t.before, stood, ap (λ l. Doing l (next_record t [])) (live_is outputs p.refused (writes t.before)) ∙ ap (λ g. Doing (live (open_from 0 outputs p.refused) (held_acts [] g ++ writes t.before)) (next_record t [])) (sym none), none_left_of [] none)
 
-  from_commit : (e : Event) → stands x t [] [] → hand ≡ None → p.known ≡ nothing_known → answers (Some (Want.Commit (pos 0))) e ≡ true → Hears stands looks order ends_it x Committing (told e) bytes y place' →
+  from_commit : (e : Event) → stands x false t [] [] → hand ≡ None → p.known ≡ nothing_known → answers (Some (Want.Commit (pos 0))) e ≡ true → Hears stands looks order ends_it x Committing (told e) bytes y place' →
       Next Committing e (after (list_row (order_of order) keeps t) outputs p (Reaching (pos 0)) e)
   from_commit (Up l c) stood none known fits heard = record {
     walk = record {
@@ -146,7 +146,7 @@ module _ {L : Type 0} (stands : L → Bool → Stream → Records → List Act �
   from_commit _ stood none known fits heard = cc
 
   -- the place at the sight of a record, by the records with that one
-  at_sight_is : (known : Known) (acts : List Act) → stands y t (records_of known.seen) acts → hand ≡ None → (order' : Order) →
+  at_sight_is : (known : Known) (acts : List Act) → stands y false t (records_of known.seen) acts → hand ≡ None → (order' : Order) →
       PlaceIs stands (order_of order') t false y (place_with order') hand (open_from 0 outputs p.refused)
       (record { known = known; refused = p.refused; phase = Doing (filter (is_live outputs p.refused) (in_order (order_of order') acts (Takes 0))) (next_record t (records_of known.seen)) })
   at_sight_is known acts stood none WritesFirst = (
@@ -163,13 +163,13 @@ module _ {L : Type 0} (stands : L → Bool → Stream → Records → List Act �
   sight_kept false code WritesFirst all g is = is
   sight_kept false code TakesFirst all g is = is
 
-  sees : (rec : List ℕ) → stands x t (records_of p.known.seen) [] → hand ≡ None → length (records_of p.known.seen) < 50000000 → (looks ≡ true → bytes ≡ rec) →
+  sees : (rec : List ℕ) → stands x false t (records_of p.known.seen) [] → hand ≡ None → length (records_of p.known.seen) < 50000000 → (looks ≡ true → bytes ≡ rec) →
       Sees stands looks x y bytes → Tells stands y place' (sight_place order) → Next Looking (Saw 0 rec) (after (list_row (order_of order) keeps t) outputs p (Doing [] (Asking (Want.Read 0))) (Saw 0 rec))
   sees rec stood none room came sight tells =
       let known = hears p.known (Saw 0 rec) in
       let all : records_of known.seen ≡ records_of p.known.seen ++ rec ∷ [] = map-append (λ (q : Pair). q.1) p.known.seen ((0, rec) ∷ []) in
-      let new : stands y t (records_of known.seen) (acts_of t.outs (records_of known.seen)) = subst (λ r. stands y t r (acts_of t.outs r)) (sym all) (sight t (records_of p.known.seen) rec stood room came) in
-      let place_is : place' ≡ sight_place order t (records_of known.seen) = tells t (records_of known.seen) (acts_of t.outs (records_of known.seen)) new in record {
+      let new : stands y false t (records_of known.seen) (acts_of t.outs (records_of known.seen)) = subst (λ r. stands y false t r (acts_of t.outs r)) (sym all) (sight t (records_of p.known.seen) rec stood room came) in
+      let place_is : place' ≡ sight_place order t (records_of known.seen) = tells false t (records_of known.seen) (acts_of t.outs (records_of known.seen)) new in record {
         walk = record {
           flags_are = refl;
           sight_is = sym (ap at_hand_of all ∙ at_hand (records_of p.known.seen) rec);
@@ -188,7 +188,7 @@ module _ {L : Type 0} (stands : L → Bool → Stream → Records → List Act �
         taken = λ kept is taken. taken;
       }
 
-  sees_end : stands x t (records_of p.known.seen) [] → hand ≡ None → Finishes stands x y → place' ≡ Writing End →
+  sees_end : stands x false t (records_of p.known.seen) [] → hand ≡ None → Finishes stands x y → place' ≡ Writing End →
       Next Looking (SawEnd 0) (after (list_row (order_of order) keeps t) outputs p (Doing [] (Asking (Want.Read 0))) (SawEnd 0))
   sees_end stood none finishes place_is =
       let acts = writes (last_pairs t.last (records_of p.known.seen)) in
@@ -209,7 +209,7 @@ module _ {L : Type 0} (stands : L → Bool → Stream → Records → List Act �
         taken = λ kept is taken. taken;
       }
 
-  looked : (e : Event) → stands x t (records_of p.known.seen) [] → hand ≡ None → length h < 50000000 → answers (Some (Want.Read 0)) e ≡ true → bytes_with looks e ≡ bytes → Hears stands looks order ends_it x Looking (told e) bytes y place' →
+  looked : (e : Event) → stands x false t (records_of p.known.seen) [] → hand ≡ None → length h < 50000000 → answers (Some (Want.Read 0)) e ≡ true → bytes_with looks e ≡ bytes → Hears stands looks order ends_it x Looking (told e) bytes y place' →
       Next Looking e (after (list_row (order_of order) keeps t) outputs p (Doing [] (Asking (Want.Read 0))) e)
   looked (Saw i rec) stood none room fits came heard =
       let zero_is : 0 ≡ i = sym (eqb-true i 0 fits) in
@@ -220,7 +220,7 @@ module _ {L : Type 0} (stands : L → Bool → Stream → Records → List Act �
       subst (λ j. Next Looking (SawEnd j) (after (list_row (order_of order) keeps t) outputs p (Doing [] (Asking (Want.Read 0))) (SawEnd j))) zero_is (sees_end stood none heard.0 heard.1)
   looked _ stood none room fits came heard = cc
 
-  wrote : (follow : Follow) (left acts : List Act) (q : Pair) (e : Event) → stands x t (records_of p.known.seen) left →
+  wrote : (follow : Follow) (left acts : List Act) (q : Pair) (e : Event) → stands x (is_last follow) t (records_of p.known.seen) left →
       ends_it ≡ (not keeps && none_left (list_any (λ flag. flag) outputs) (open_after (told e) (open_from 0 outputs p.refused))) →
       p.phase ≡ Doing acts (goal_behind follow t (records_of p.known.seen)) → first_write acts ≡ Some q →
       when_written acts ≡ live (open_from 0 outputs p.refused) (and_behind follow (held_acts (at_hand_of (records_of p.known.seen)) hand ++ left)) → IsLeftOfRecord (records_of p.known.seen) hand →
@@ -269,17 +269,17 @@ module _ {L : Type 0} (stands : L → Bool → Stream → Records → List Act �
       })
   wrote follow left acts q _ stood ends_is phase_is first rest in_hand fits heard = cc
 
-  take_by : (order' : Order) (acts : List Act) → order' ≡ order → stands x t (records_of p.known.seen) acts → hand ≡ None → IsBeforeTake (order_of order') acts → place' ≡ taken_place order' t (records_of p.known.seen) → (q : Past) →
+  take_by : (order' : Order) (acts : List Act) → order' ≡ order → stands x false t (records_of p.known.seen) acts → hand ≡ None → IsBeforeTake (order_of order') acts → place' ≡ taken_place order' t (records_of p.known.seen) → (q : Past) →
       q.known.seen ≡ p.known.seen → q.phase ≡ Doing (live (open_from 0 outputs p.refused) acts) (next_record t (records_of p.known.seen)) → Stood x place' q
   take_by WritesFirst acts same stood none before place_is q seen phase_is =
-      let stood_there : stands x t (records_of q.known.seen) [] = subst (λ l. stands x t (records_of l) []) (sym seen) (subst (stands x t (records_of p.known.seen)) before stood) in
+      let stood_there : stands x false t (records_of q.known.seen) [] = subst (λ l. stands x false t (records_of l) []) (sym seen) (subst (stands x false t (records_of p.known.seen)) before stood) in
       subst (λ f. Stood x f q) (sym (place_is ∙ ap (λ l. look_place t (records_of l)) (sym seen)))
       (look_by stands (order_of order) t false x hand (open_from 0 outputs p.refused) q stood_there none
       (phase_is ∙ ap (λ l. Doing (live (open_from 0 outputs p.refused) l) (next_record t (records_of p.known.seen))) before ∙ ap (λ l. Doing [] (next_record t (records_of l))) (sym seen)))
   take_by TakesFirst acts same stood none before place_is q seen phase_is =
       subst (λ f. Stood x f q) (sym place_is) (
         acts,
-        subst (λ l. stands x t (records_of l) acts) (sym seen) stood,
+        subst (λ l. stands x false t (records_of l) acts) (sym seen) stood,
         phase_is ∙ ap (λ l. Doing (live (open_from 0 outputs p.refused) acts) (next_record t (records_of l))) (sym seen)
             ∙ ap (λ g. Doing (live (open_from 0 outputs p.refused) (held_acts (at_hand_of (records_of q.known.seen)) g ++ acts)) (next_record t (records_of q.known.seen))) (sym none),
         none_left_of (records_of q.known.seen) none,
@@ -289,10 +289,10 @@ module _ {L : Type 0} (stands : L → Bool → Stream → Records → List Act �
   take_kept WritesFirst all g is = (elim (t.stops (records_of p.known.seen)) as (λ b. AllIs (cond b (Ending (t.code (records_of p.known.seen))) Looking) all g) [ true ↦ tt | false ↦ is ])
   take_kept TakesFirst all g is = is
 
-  took : (acts : List Act) (e : Event) → stands x t (records_of p.known.seen) acts → hand ≡ None → IsBeforeTake (order_of order) acts → answers (Some (Want.Take 0)) e ≡ true → Hears stands looks order ends_it x Taking (told e) bytes y place' →
+  took : (acts : List Act) (e : Event) → stands x false t (records_of p.known.seen) acts → hand ≡ None → IsBeforeTake (order_of order) acts → answers (Some (Want.Take 0)) e ≡ true → Hears stands looks order ends_it x Taking (told e) bytes y place' →
       Next Taking e (after (list_row (order_of order) keeps t) outputs p (Doing (Takes 0 ∷ live (open_from 0 outputs p.refused) acts) (next_record t (records_of p.known.seen))) e)
   took acts (Took i) stood none before fits heard =
-      let place_is : place' ≡ taken_place order t (records_of p.known.seen) = heard.1 t (records_of p.known.seen) acts stood in
+      let place_is : place' ≡ taken_place order t (records_of p.known.seen) = heard.1 false t (records_of p.known.seen) acts stood in
       let one : taken_from 0 (Took i ∷ h) ≡ taken_from 0 h ++ last_seen_on 0 h ∷ [] = ap (λ b. cond b (taken_from 0 h ++ last_seen_on 0 h ∷ []) (taken_from 0 h)) fits in
       let q = after (list_row (order_of order) keeps t) outputs p (Doing (Takes 0 ∷ live (open_from 0 outputs p.refused) acts) (next_record t (records_of p.known.seen))) (Took i) in record {
         walk = record {
@@ -376,7 +376,7 @@ module _ {L : Type 0} (stands : L → Bool → Stream → Records → List Act �
   look_want true code is = ap want_in (sym is)
   look_want false code is = ap want_in (sym is)
 
-  behind : (follow : Follow) → stands y t (records_of p.known.seen) [] → hand' ≡ None → place' ≡ place_behind follow t (records_of p.known.seen) → asked ≡ want_at place' →
+  behind : (follow : Follow) → stands y (is_last follow) t (records_of p.known.seen) [] → hand' ≡ None → place' ≡ place_behind follow t (records_of p.known.seen) → asked ≡ want_at place' →
       p.phase ≡ Doing (and_behind follow []) (goal_behind follow t (records_of p.known.seen)) → HasAsked (Writing follow)
   behind Take stood none place_is asks is = turns Take Taking none place_is asks ([], stood, refl, none_before order, is) (ap want_in (sym is)) (λ all kept. kept)
   behind Look stood none place_is asks is =
@@ -386,7 +386,7 @@ module _ {L : Type 0} (stands : L → Bool → Stream → Records → List Act �
 
   -- what a group writes is asked for, by lists that stand for the same as those that gave it
   one : (follow : Follow) (given : L) (g : Group) (rest before : List Act) → last_seen_on 0 h ≡ at_hand_of (records_of p.known.seen) → (0 < length (records_of p.known.seen) → IsSome (record_seen_on 0 h)) →
-      IsOfRecord (records_of p.known.seen) g → is_due flags g ≡ true → stands given t (records_of p.known.seen) rest →
+      IsOfRecord (records_of p.known.seen) g → is_due flags g ≡ true → stands given (is_last follow) t (records_of p.known.seen) rest →
       Puts stands made given g y hand' asked → place' ≡ Writing follow → live flags before ≡ live flags (group_acts (at_hand_of (records_of p.known.seen)) (made given) g ++ rest) →
       p.phase ≡ Doing (live flags (and_behind follow before)) (goal_behind follow t (records_of p.known.seen)) → HasAsked (Writing follow)
   one follow given g rest before sight seen of due stood puts place_is same is =
@@ -397,7 +397,7 @@ module _ {L : Type 0} (stands : L → Bool → Stream → Records → List Act �
       let done = live flags (and_behind follow (group_acts rec (made given) g ++ rest)) in
       let acts : live flags (and_behind follow before) ≡ done = live_behind flags follow before ∙ ap (and_behind follow) same ∙ sym (live_behind flags follow (group_acts rec (made given) g ++ rest)) in
       let phase : p.phase ≡ Doing done goal = is ∙ ap (λ l. Doing l goal) acts in
-      let put = is_put given g rest sight seen of puts stood in (
+      let put = is_put (is_last follow) given g rest sight seen of puts stood in (
         subst (λ f. PlaceIs stands order t true y f hand' flags p) (sym place_is)
             (rest, put.0, (done, pair, phase, first.0, first.1 ∙ ap (λ z. live flags (and_behind follow (held_acts rec z ++ rest))) (sym put.1)), subst (IsLeftOfRecord (records_of p.known.seen)) (sym put.1) (left_seen (records_of p.known.seen) g of)),
         put.2 ∙ sym (want_first done goal pair first.0) ∙ ap want_in (sym phase),
@@ -405,25 +405,25 @@ module _ {L : Type 0} (stands : L → Bool → Stream → Records → List Act �
         put.3,
       )
     where
-      is_put : (given : L) (g : Group) (rest : List Act) → last_seen_on 0 h ≡ at_hand_of (records_of p.known.seen) → (0 < length (records_of p.known.seen) → IsSome (record_seen_on 0 h)) → IsOfRecord (records_of p.known.seen) g → Puts stands made given g y hand' asked → stands given t (records_of p.known.seen) rest →
-          stands y t (records_of p.known.seen) rest × (hand' ≡ left_of g) × (Some (meaning asked (last_seen h)) ≡ Some (Want.Write (pair_of (at_hand_of (records_of p.known.seen)) (made given) g).0 (pair_of (at_hand_of (records_of p.known.seen)) (made given) g).1)) × IsSeenBefore asked h
-      is_put given (AtHand r) rest sight seen of puts stood = (
-        subst (λ z. stands z t (records_of p.known.seen) rest) (sym puts.0) stood,
+      is_put : (over : Bool) (given : L) (g : Group) (rest : List Act) → last_seen_on 0 h ≡ at_hand_of (records_of p.known.seen) → (0 < length (records_of p.known.seen) → IsSome (record_seen_on 0 h)) → IsOfRecord (records_of p.known.seen) g → Puts stands made given g y hand' asked → stands given over t (records_of p.known.seen) rest →
+          stands y over t (records_of p.known.seen) rest × (hand' ≡ left_of g) × (Some (meaning asked (last_seen h)) ≡ Some (Want.Write (pair_of (at_hand_of (records_of p.known.seen)) (made given) g).0 (pair_of (at_hand_of (records_of p.known.seen)) (made given) g).1)) × IsSeenBefore asked h
+      is_put over given (AtHand r) rest sight seen of puts stood = (
+        subst (λ z. stands z over t (records_of p.known.seen) rest) (sym puts.0) stood,
         puts.1,
         ap (λ a. Some (meaning a (last_seen h))) puts.2 ∙ ap (λ rec. Some (Want.Write r.output rec)) sight,
         subst (λ a. IsSeenBefore a h) (sym puts.2) (seen of),
       )
-      is_put given (New o) rest sight seen of puts stood =
-          (puts.0 t (records_of p.known.seen) rest stood, puts.1, ap (λ a. Some (meaning a (last_seen h))) puts.2, subst (λ a. IsSeenBefore a h) (sym puts.2) tt)
+      is_put over given (New o) rest sight seen of puts stood =
+          (puts.0 over t (records_of p.known.seen) rest stood, puts.1, ap (λ a. Some (meaning a (last_seen h))) puts.2, subst (λ a. IsSeenBefore a h) (sym puts.2) tt)
 
   asks_at : (follow : Follow) (given : L) (group : Option Group) → last_seen_on 0 h ≡ at_hand_of (records_of p.known.seen) → (0 < length (records_of p.known.seen) → IsSome (record_seen_on 0 h)) → PlaceIs stands order t false x (Writing follow) hand flags p → Fetches stands made flags x hand given group → Turns stands made follow given group y hand' place' asked → HasAsked (Writing follow)
   asks_at follow given None sight seen is fetches turn =
       let rec = at_hand_of (records_of p.known.seen) in
-      let f = fetches t (records_of p.known.seen) is.0 is.1 in
-      behind follow (subst (λ z. stands z t (records_of p.known.seen) []) (sym turn.0) f.1) turn.1 (turn.2 t (records_of p.known.seen) [] f.1) turn.3
+      let f = fetches (is_last follow) t (records_of p.known.seen) is.0 is.1 in
+      behind follow (subst (λ z. stands z (is_last follow) t (records_of p.known.seen) []) (sym turn.0) f.1) turn.1 (turn.2 (is_last follow) t (records_of p.known.seen) [] f.1) turn.3
       (is.2 ∙ ap (λ l. Doing l (goal_behind follow t (records_of p.known.seen))) (live_behind flags follow (held_acts rec hand ++ is.0) ∙ ap (and_behind follow) f.0))
   asks_at follow given (Some g) sight seen is fetches turn =
-      let f = fetches.2 t (records_of p.known.seen) is.0 is.1 in
+      let f = fetches.2 (is_last follow) t (records_of p.known.seen) is.0 is.1 in
       one follow given g f.0 (held_acts (at_hand_of (records_of p.known.seen)) hand ++ is.0) sight seen (f.3 is.3) fetches.0 f.2 turn.0 turn.1 f.1 is.2
 
   -- it asks for what is wanted

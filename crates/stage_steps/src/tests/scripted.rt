@@ -32,7 +32,7 @@ impl Lists for Script {
     ghost use Rattle.std.specs.Prelude.{false, Some};
     ghost use Rattle.stage_steps.specs.Waiting.{how_many};
 
-    ghost stands = { λ x t recs acts. ⊥ };
+    ghost stands = { λ x over t recs acts. ⊥ };
 
     ghost is_looking = { λ _. false };
 
