@@ -12,7 +12,8 @@ use Rattle.pipe_model.specs.Table.{form}
 use Rattle.pipe_model.specs.Form.Parting.{Whole, Queued}
 use Rattle.pipe_model.specs.WellFormed.{IsJoined, IsOfStage, IsQueue, IsWellFormed, TellsPorts, places_of, strands_of}
 use Rattle.pipe_model.proofs.Truths.{both}
-use Rattle.stage_syntax.proofs.TypedKinds.{IsTyped, typed_kind}
+use Rattle.stage_syntax.proofs.Typed.{IsTyped}
+use Rattle.stage_syntax.proofs.TypedKinds.{typed_kind}
 use Rattle.spec_scanner.specs.declared.piece.Piece.{Piece}
 use Rattle.net_graph.specs.Stands.{Stand, stages_of, stands_of, streams_of}
 use Rattle.net_graph.specs.Nets.{AreOutcomes, inputs_of, is_linked_in, is_linked_out, joins_of, net_of, outputs_of}

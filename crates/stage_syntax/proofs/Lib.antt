@@ -29,5 +29,7 @@ pub mod StageNames
 pub mod StringPairs
 pub mod StringParts
 pub mod TakenParts
+pub mod Typed
 pub mod TypedKinds
+pub mod TypedOrder
 pub mod WordFronts

@@ -1,6 +1,6 @@
 -- The kinds that can be typed: what is known of the line that the table has for each, shown once for each running row.
 use Rattle.std.proofs.Common.{◌≡◌, inl, inr, ℕ, Bool, true, false, ◌&&◌, ◌==◌, List, [], ◌∷◌, length, refl, subst, arith, Option, Some, None}
-use Rattle.std.specs.Prelude.{⊤, if◌then◌else◌, is_some}
+use Rattle.std.specs.Prelude.{⊤, if◌then◌else◌}
 use Rattle.std.specs.Option.{IfSome}
 use Rattle.std.specs.Str.{bytes_eq, str_to_ascii_lowercase}
 use Rattle.pipe_model.specs.declared.kind.Kind.{Kind}
@@ -12,30 +12,20 @@ use Rattle.pipe_model.specs.declared.kind.Mapping.TheVariants as Maps
 use Rattle.pipe_model.specs.declared.range.Range.{Range}
 use Rattle.pipe_model.specs.Proper.{are_columns, is_count, is_filled, is_length, is_locate, is_mapping, is_range}
 use Rattle.pipe_model.specs.Straight.{all_columns}
-use Rattle.pipe_model.specs.Table.{line_of}
-use Rattle.stage_syntax.proofs.PlainLines.{IsPlain, is_plain, plain_line}
 use Rattle.stage_syntax.proofs.ReadValues.{AreOfRow, IsOfOne, columns_of, count_of_times, length_of, made_of_row, range_of_one, right_of_row, string_of_one, times_of_one}
+use Rattle.stage_syntax.proofs.Typed.{IsTyped, known}
+use Rattle.stage_syntax.proofs.TypedOrder.{of_unique_row, sorting, counting, filling, blocking, deblocking}
 use Rattle.stage_syntax.specs.Arg.{ArgText}
 use Rattle.stage_syntax.specs.DeviceForms.{literal_of}
 use Rattle.stage_syntax.specs.EditingForms.{before_change, of_change, before_strip, blank, of_strip, before_chop, of_chop, before_pad, of_pad, before_split, of_split, before_join, of_join, before_xlate, wrong_xlate, of_xlate}
 use Rattle.stage_syntax.specs.Forms.{row, none_next, before_times, of_times, of_text as of_text_of}
 use Rattle.stage_syntax.specs.Kinds.{IsKind}
-use Rattle.stage_syntax.specs.Names.{Named, arguments_of, named_in, stages}
+use Rattle.stage_syntax.specs.Names.{Named, named_in, stages}
 use Rattle.stage_syntax.specs.Rows.{Arguments, Makes, Reads, Row, text_in}
 use Rattle.stage_syntax.specs.SelectionForms.{before_locate, of_locate, of_some_text, before_end, of_end, before_two, of_two}
 use Rattle.stage_syntax.specs.declared.part.Value.{Value}
 use Rattle.stage_syntax.specs.declared.part.Value.TheVariants as Read
 use Rattle.stage_syntax.specs.declared.part.Word.TheVariants.{Both, First, Last, Leading, Left, Lower, Right, Trailing, Upper}
-
--- what is known of a kind that was read
-pub record IsTyped (first : Bool) (kind : Kind) : Type 0 where
-  -- a row that can be typed has its stage's name
-  pub named : is_some (arguments_of (line_of kind).name first) ≡ true
-  pub plain : IsPlain first (line_of kind)
-  pub proper : (line_of kind).proper ≡ true
-
-known : (first : Bool) (kind : Kind) → is_some (arguments_of (line_of kind).name first) ≡ true → is_plain first (line_of kind) ≡ true → (line_of kind).proper ≡ true → IsTyped first kind
-known first kind named plain proper = record { named = named; plain = plain_line first (line_of kind) plain; proper = proper }
 
 -- Of each running row
 
@@ -276,8 +266,29 @@ rows_typed first = (
                                           (
                                             of_parts first _ (counted first Kinds.Duplicate (λ times proper. known first (Kinds.Duplicate times) refl refl proper)),
                                             (
-                                              of_parts first _ (alone first Kinds.Copy (known first Kinds.Copy refl refl refl)),
-                                              tt,
+                                              of_unique_row first,
+                                              (
+                                                of_parts first _ (sorting first),
+                                                (
+                                                  of_parts first _ (counting first),
+                                                  (
+                                                    of_parts first _ (alone first Kinds.Buffer (known first Kinds.Buffer refl refl refl)),
+                                                    (
+                                                      of_parts first _ (alone first Kinds.Copy (known first Kinds.Copy refl refl refl)),
+                                                      (
+                                                        of_parts first _ (filling first),
+                                                        (
+                                                          of_parts first _ (blocking first),
+                                                          (
+                                                            of_parts first _ (deblocking first),
+                                                            tt,
+                                                          ),
+                                                        ),
+                                                      ),
+                                                    ),
+                                                  ),
+                                                ),
+                                              ),
                                             ),
                                           ),
                                         ),

@@ -68,9 +68,9 @@ stages first =
     ∷ (running (codes "xlate") xlate
     ∷ (running (codes "reverse") reversed
     ∷ (running (codes "duplicate") duplicate
-    ∷ (coming (codes "unique") unique
-    ∷ (coming (codes "sort") sort
-    ∷ (coming (codes "count") count
+    ∷ (running (codes "unique") unique
+    ∷ (running (codes "sort") sort
+    ∷ (running (codes "count") count
     ∷ (coming (codes "lookup") (OfParts (row before_ranges (of_ranges Kinds.Lookup)))
     ∷ (coming (codes "collate") (OfParts (row before_ranges (of_ranges Kinds.Collate)))
     ∷ (coming (codes "merge") (OfParts (row before_range (of_range Kinds.Merge)))
@@ -86,11 +86,11 @@ stages first =
     ∷ (coming (codes "gate") (no_arguments Kinds.Gate)
     ∷ (coming (codes "dam") (no_arguments Kinds.Dam)
     ∷ (coming (codes "elastic") (no_arguments Kinds.Elastic)
-    ∷ (coming (codes "buffer") (no_arguments Kinds.Buffer)
+    ∷ (running (codes "buffer") (no_arguments Kinds.Buffer)
     ∷ (running (codes "copy") (no_arguments Kinds.Copy)
-    ∷ (coming (codes "fblock") fblock
-    ∷ (coming (codes "block") block
-    ∷ (coming (codes "deblock") deblock
+    ∷ (running (codes "fblock") fblock
+    ∷ (running (codes "block") block
+    ∷ (running (codes "deblock") deblock
     ∷ []))))))))))))))))))))))))))))))))))))))))))))))
 
 -- the arguments of the first stage of a list that has the name, in any case, and can be typed

@@ -31,9 +31,9 @@ pub const STAGES: [(&[u8], bool, Form); 47] = [
     (b"xlate", true, Form::Xlate),
     (b"reverse", true, Form::Reverse),
     (b"duplicate", true, Form::Duplicate),
-    (b"unique", false, Form::Unique),
-    (b"sort", false, Form::Sort),
-    (b"count", false, Form::Count),
+    (b"unique", true, Form::Unique),
+    (b"sort", true, Form::Sort),
+    (b"count", true, Form::Count),
     (b"lookup", false, Form::Lookup),
     (b"collate", false, Form::Collate),
     (b"merge", false, Form::Merge),
@@ -49,11 +49,11 @@ pub const STAGES: [(&[u8], bool, Form); 47] = [
     (b"gate", false, Form::Gate),
     (b"dam", false, Form::Dam),
     (b"elastic", false, Form::Elastic),
-    (b"buffer", false, Form::Buffer),
+    (b"buffer", true, Form::Buffer),
     (b"copy", true, Form::Copy),
-    (b"fblock", false, Form::Fblock),
-    (b"block", false, Form::Block),
-    (b"deblock", false, Form::Deblock),
+    (b"fblock", true, Form::Fblock),
+    (b"block", true, Form::Block),
+    (b"deblock", true, Form::Deblock),
 ];
 
 /// The form of the arguments of the stage of this name, in any case, if it can be typed.
