@@ -1,3 +1,4 @@
+use block_stages::BlockStage;
 use device_stages::DeviceStage;
 use edit_stages::EditStage;
 use gate_elastic::GateStage;
@@ -5,6 +6,7 @@ use pipe_model::{NoMemory, Seen, Want};
 use select_stages::SelectStage;
 use stage_steps::Stage;
 use std::alloc::Global;
+use unique_sort::UniqueStage;
 
 /// A built-in stage, by its family. It is boxed, since a coroutine that goes out with a job is moved, and a box is moved
 /// at the cost of a pointer.
@@ -13,6 +15,8 @@ pub enum BuiltIn {
     Device(Box<DeviceStage>),
     Select(Box<SelectStage>),
     Edit(Box<EditStage>),
+    Order(Box<UniqueStage>),
+    Block(Box<BlockStage>),
     Gate(Box<GateStage>),
 }
 
@@ -28,6 +32,8 @@ impl Stage for BuiltIn {
             BuiltIn::Device(stage) => stage.first(),
             BuiltIn::Select(stage) => stage.first(),
             BuiltIn::Edit(stage) => stage.first(),
+            BuiltIn::Order(stage) => stage.first(),
+            BuiltIn::Block(stage) => stage.first(),
             BuiltIn::Gate(stage) => stage.first(),
         }
     }
@@ -41,6 +47,8 @@ impl Stage for BuiltIn {
             BuiltIn::Device(stage) => (**stage).resume(alloc, seen, bytes),
             BuiltIn::Select(stage) => (**stage).resume(alloc, seen, bytes),
             BuiltIn::Edit(stage) => (**stage).resume(alloc, seen, bytes),
+            BuiltIn::Order(stage) => (**stage).resume(alloc, seen, bytes),
+            BuiltIn::Block(stage) => (**stage).resume(alloc, seen, bytes),
             BuiltIn::Gate(stage) => (**stage).resume(alloc, seen, bytes),
         }
     }
@@ -50,6 +58,8 @@ impl Stage for BuiltIn {
             BuiltIn::Device(stage) => stage.looks(),
             BuiltIn::Select(stage) => stage.looks(),
             BuiltIn::Edit(stage) => stage.looks(),
+            BuiltIn::Order(stage) => stage.looks(),
+            BuiltIn::Block(stage) => stage.looks(),
             BuiltIn::Gate(stage) => stage.looks(),
         }
     }
@@ -59,6 +69,8 @@ impl Stage for BuiltIn {
             BuiltIn::Device(stage) => stage.kept(),
             BuiltIn::Select(stage) => stage.kept(),
             BuiltIn::Edit(stage) => stage.kept(),
+            BuiltIn::Order(stage) => stage.kept(),
+            BuiltIn::Block(stage) => stage.kept(),
             BuiltIn::Gate(stage) => stage.kept(),
         }
     }

@@ -5,12 +5,14 @@ ghost use Rattle.stage_table.specs.declared.built_in.BuiltIn.{BuiltIn as BuiltIn
 ghost use Rattle.stage_table.specs.BuiltIn.{is_built_in, BuiltInStands};
 
 use crate::built_in::BuiltIn;
+use block_stages::{BlockStage, is_block};
 use device_stages::{DeviceStage, is_device};
 use edit_stages::{EditStage, is_edit};
 use gate_elastic::GateStage;
 use pipe_model::{Net, NoMemory, Strand};
 use select_stages::{SelectStage, is_select};
 use std::alloc::Global;
+use unique_sort::{UniqueStage, is_order};
 
 /// The stage of a strand, before its first event.
 pub fn make(alloc: Global, strand: &Strand) -> Result<BuiltIn, NoMemory>
@@ -28,6 +30,14 @@ pub fn make(alloc: Global, strand: &Strand) -> Result<BuiltIn, NoMemory>
     if is_edit(&strand.kind) {
         let stage = EditStage::new(alloc, strand)?;
         return Ok(BuiltIn::Edit(Box::new(alloc, stage)?));
+    }
+    if is_order(&strand.kind) {
+        let stage = UniqueStage::new(alloc, strand)?;
+        return Ok(BuiltIn::Order(Box::new(alloc, stage)?));
+    }
+    if is_block(&strand.kind) {
+        let stage = BlockStage::new(alloc, strand)?;
+        return Ok(BuiltIn::Block(Box::new(alloc, stage)?));
     }
     let stage = GateStage::new(alloc, strand)?;
     Ok(BuiltIn::Gate(Box::new(alloc, stage)?))
