@@ -1,0 +1,13 @@
+use Rattle.std.proofs.Common.{rules}
+use Rattle.std.proofs.lemmas.List.Sorted.{answers_always}
+use Rattle.pipe_model.specs.OrderRows.{goes_before}
+use Rattle.unique_sort.proofs.KeyOrder.{goes_before_orders}
+use Rattle.unique_sort.proofs.Stable.{is_sorted}
+use Rattle.unique_sort.proofs.sort.sort.Goals as goal
+
+pub returns : goal.returns
+returns c =
+    let keys = c.args.keys.now in
+    let order = goes_before_orders keys in
+    let compares = answers_always _ _ _ (λ f a r g called. search rules) in
+    is_sorted keys c.args.records.now.items c.sort_by.new.self.items (c.in_ok-sort_by.ensures.sorted (goes_before keys) order compares) (c.in_ok-sort_by.ensures.stable (goes_before keys) order compares)
