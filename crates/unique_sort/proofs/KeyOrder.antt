@@ -5,7 +5,7 @@ use Rattle.std.specs.declared.cmp.Ordering.{Ordering}
 use Rattle.std.specs.declared.cmp.Ordering.TheVariants.{Less, Equal, Greater}
 use Rattle.std.specs.Cmp.{IsTotalOrder, IsStrictWeakOrder}
 use Rattle.std.specs.Cmp.Lexicographic.{slice_cmp}
-use Rattle.std.specs.Ordering.{nat_cmp, is_lt, is_eq, on, flip_args, ordering_reverse, ordering_then}
+use Rattle.std.specs.Ordering.{nat_cmp, is_lt, is_eq, on, ordering_reverse, ordering_then}
 use Rattle.std.proofs.lemmas.Bool.Decides.{nat_tests}
 use Rattle.std.proofs.lemmas.Cmp.{same_from_slice_cmp, nat_list_cmp_total, on_total, back_total, then_total}
 use Rattle.std.proofs.lemmas.List.Sorted.{ranks_by}
@@ -26,8 +26,7 @@ less_bytes key bytes = same_from_slice_cmp nat_cmp is_lt is_less refl (λ _ _. r
 
 -- one key, and the keys in turn
 abbrev pub directed : Bool → (List ℕ → List ℕ → Ordering) → List ℕ → List ℕ → Ordering
-directed false order = order
-directed true order = flip_args order
+directed descending order rec other = if descending then order other rec else order rec other
 
 abbrev pub by_key : SortKey → List ℕ → List ℕ → Ordering
 by_key key = directed key.descending (on (part_of key.range) by_bytes)
@@ -44,11 +43,6 @@ by_keys_total : (keys : List SortKey) → IsTotalOrder (by_keys keys)
 by_keys_total [] = record { antisymm = λ x y. refl; trans = λ x y z less more. less; congr = λ x y z same. refl }
 by_keys_total (key ∷ keys) = then_total (directed_total key.descending (on_total (part_of key.range) nat_list_cmp_total)) (by_keys_total keys)
 
--- where a key parts two records
-pub parted : (descending : Bool) (key bytes : List ℕ) → is_same key bytes ≡ false → (if descending then is_less bytes key else is_less key bytes) ≡ is_lt (directed descending by_bytes key bytes)
-parted false key bytes other = sym (less_bytes key bytes)
-parted true key bytes other = sym (less_bytes bytes key)
-
 -- the definition of sorting compares so
 pub goes_by_keys : (keys : List SortKey) (rec other : List ℕ) → is_lt (by_keys keys rec other) ≡ goes_before keys rec other
 goes_by_keys [] rec other = refl
@@ -57,7 +51,6 @@ goes_by_keys (key ∷ keys) rec other =
     let b = part_of key.range other in
     by key.descending (by_bytes a b) (by_bytes b a) (goes_before keys rec other) (is_same a b) (is_less a b) (is_less b a) (by_keys keys rec other)
     (nat_list_cmp_total.antisymm b a) (same_bytes a b) (less_bytes a b) (less_bytes b a) (goes_by_keys keys rec other)
-    ∙ refl
   where
     by : (descending : Bool) (o back : Ordering) (goes same less more : Bool) (rest : Ordering) →
         back ≡ ordering_reverse o → is_eq o ≡ same → is_lt o ≡ less → is_lt back ≡ more → is_lt rest ≡ goes →
@@ -71,3 +64,37 @@ goes_by_keys (key ∷ keys) rec other =
 
 pub goes_before_orders : (keys : List SortKey) → IsStrictWeakOrder (goes_before keys)
 goes_before_orders keys = subst IsStrictWeakOrder (λ i rec other. goes_by_keys keys rec other i) (ranks_by (by_keys_total keys) (λ rec. rec))
+
+-- One key
+
+then_equal : (o : Ordering) → ordering_then o Equal ≡ o
+then_equal Less = refl
+then_equal Equal = refl
+then_equal Greater = refl
+
+turned_ties : (o : Ordering) → is_eq (ordering_reverse o) ≡ is_eq o
+turned_ties Less = refl
+turned_ties Equal = refl
+turned_ties Greater = refl
+
+module _ (key : SortKey) (rec other : List ℕ) (o : Ordering) where
+  abbrev a : List ℕ
+  a = part_of key.range rec
+
+  abbrev b : List ℕ
+  b = part_of key.range other
+
+  pub key_straight : key.descending ≡ false → o ≡ by_bytes a b → o ≡ by_key key rec other
+  key_straight ascending is = is ∙ ap (λ d. if d then by_bytes b a else by_bytes a b) (sym ascending)
+
+  pub key_turned : key.descending ≡ true → o ≡ by_bytes a b → ordering_reverse o ≡ by_key key rec other
+  key_turned descending is = ap ordering_reverse is ∙ sym (nat_list_cmp_total.antisymm b a) ∙ ap (λ d. if d then by_bytes b a else by_bytes a b) (sym descending)
+
+  pub key_less : o ≡ by_key key rec other → is_lt o ≡ goes_before (key ∷ []) rec other
+  key_less is = ap is_lt (is ∙ sym (then_equal (by_key key rec other))) ∙ goes_by_keys (key ∷ []) rec other
+
+  pub key_ties : o ≡ by_bytes a b → is_eq o ≡ is_same a b
+  key_ties is = ap is_eq is ∙ same_bytes a b
+
+  pub key_ties_turned : o ≡ by_bytes a b → is_eq (ordering_reverse o) ≡ is_same a b
+  key_ties_turned is = turned_ties o ∙ key_ties is

@@ -29,7 +29,7 @@ module _ {X : Type 0} (lt : X → X → Bool) (o : IsStrictWeakOrder lt) where
   ascends (x ∷ []) up = (tt, tt)
   ascends (x ∷ y ∷ xs) up =
       let first : lt y x ≡ false = up 0 x (omega arith) (omega arith) in
-      let rest = ascends (y ∷ xs) (λ k d from within. up (suc k) d (omega arith) (omega (arith, within))) in
+      let rest = ascends (y ∷ xs) (λ k d from within. let next : suc k + 1 ≡ suc (k + 1) = omega arith in subst (λ n. lt (get_or (x ∷ y ∷ xs) n d) (get_or (y ∷ xs) k d) ≡ false) next (up (suc k) d (omega arith) (omega (arith, within)))) in
       ((first, none_before_less x y xs first rest.0), rest)
 
   none_before_filter : (p : X → Bool) (x : X) (xs : List X) → NoneBefore x xs → NoneBefore x (filter p xs)
@@ -63,9 +63,9 @@ module _ {X : Type 0} (lt : X → X → Bool) (o : IsStrictWeakOrder lt) where
   not_after y z ys zs none same =
       (subst (NoneBefore z) (sym same ∙ kept y y ys (ties_itself y)) (none_before_filter (ties lt y) z (z ∷ zs) (not_before_itself z, none))).0
 
-  behind : (c : Bool) (x : X) (as bs : List X) → cond c (x ∷ as) as ≡ cond c (x ∷ bs) bs → as ≡ bs
-  behind true x as bs same = ap (drop 1) same
-  behind false x as bs same = same
+  behind : (c : Bool) (x : X) (xs ys : List X) → cond c (x ∷ xs) xs ≡ cond c (x ∷ ys) ys → xs ≡ ys
+  behind true x xs ys same = ap (drop 1) same
+  behind false x xs ys same = same
 
   -- two lists in order, in which those that tie are the same, are the same
   one_order : (ys zs : List X) → Ascends ys → Ascends zs → ((w : X) → filter (ties lt w) ys ≡ filter (ties lt w) zs) → ys ≡ zs
