@@ -1,3 +1,4 @@
 pub mod Begun
 pub mod KeyOrder
+pub mod RunPairs
 pub mod Stable

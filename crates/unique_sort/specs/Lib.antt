@@ -1,2 +1,7 @@
+pub mod Counting
+pub mod OrderLists
+pub mod OrderStage
 pub mod Runs
+pub mod SortLists
+pub mod UniqueLists
 pub mod Words
