@@ -2,3 +2,4 @@ pub mod Begun
 pub mod KeyOrder
 pub mod RunPairs
 pub mod Stable
+pub mod UniqueSteps

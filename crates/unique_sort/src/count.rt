@@ -40,7 +40,7 @@ fn added_by(rec: &[u8], total: Total) -> u128
 fn add(tallies: &mut [Tally], rec: &[u8])
     ensures { tallies.new ≡ map (tally_with rec.now) tallies.old }
 {
-    for tally in tallies {
+    for tally in tallies.iter_mut() {
         tally.sum = tally.sum.saturating_add(added_by(rec, tally.total));
     }
 }

@@ -47,7 +47,16 @@ impl Run {
             )
     }
 
-    // Adds one more record, which belongs to it or begins the next, and gives the one before.
+    // Adds one more record, which belongs to it or begins the next.
+    pub(crate) fn push(&mut self, rec: Rec, belongs: bool)
+        ensures range { self.new.range ≡ self.old.range }
+        ensures last { self.new.last ≡ rec }
+        ensures count { self.old.count < 50000000 → self.new.count ≡ (if belongs then self.old.count + 1 else 1) }
+    {
+        self.add(rec, belongs);
+    }
+
+    // The same, and gives the record before.
     pub(crate) fn add(&mut self, rec: Rec, belongs: bool) -> Rec
         ensures before { result ≡ self.old.last }
         ensures range { self.new.range ≡ self.old.range }

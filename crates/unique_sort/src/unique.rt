@@ -1,4 +1,4 @@
-ghost use Rattle.std.specs.Prelude.{◌≡◌, ◌++◌, IfOk};
+ghost use Rattle.std.specs.Prelude.{◌≡◌, ◌++◌, if◌then◌else◌, IfOk};
 ghost use Rattle.pipe_model.specs.Numbers.{in_ten_places};
 ghost use Rattle.unique_sort.specs.Runs.{output_in};
 
@@ -15,6 +15,13 @@ pub struct Firsts {
     run: Run,
     /// The output on which the record at hand is still to be written.
     waiting: Option<u16>,
+}
+
+// The output of a record with which a run goes on or begins.
+fn first_output(goes_on: bool) -> u16
+    ensures { result ≡ (if goes_on then 1 else 0) }
+{
+    if goes_on { 1 } else { 0 }
 }
 
 impl Firsts {
@@ -49,8 +56,8 @@ impl EachRecord for Firsts {
     fn see(&mut self, alloc: Global, bytes: &[u8]) -> Result<(), NoMemory> {
         let rec = Rec::from_slice(alloc, bytes)?;
         let goes_on = self.run.goes_on(bytes);
-        self.run.add(rec, goes_on);
-        self.waiting = Some(if goes_on { 1 } else { 0 });
+        self.run.push(rec, goes_on);
+        self.waiting = Some(first_output(goes_on));
         Ok(())
     }
 
@@ -107,8 +114,8 @@ pub struct Holds {
 }
 
 impl Holds {
-    ghost use Rattle.std.specs.Prelude.{◌≡◌, [], IfOk, Some};
-    ghost use Rattle.unique_sort.specs.Runs.{output_in, written_in};
+    ghost use Rattle.std.specs.Prelude.{◌≡◌, [], false, IfOk};
+    ghost use Rattle.unique_sort.specs.Runs.{written_in};
     ghost use Rattle.unique_sort.specs.UniqueLists.{held, HoldsStand};
 
     // UNIQUE by this range, before the first record.
