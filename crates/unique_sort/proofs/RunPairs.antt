@@ -15,7 +15,7 @@ use Rattle.pipe_model.specs.Parts.{without_last, last_alone, grown}
 use Rattle.pipe_model.specs.Ranges.{part_of}
 use Rattle.pipe_model.specs.Row.{Pair}
 use Rattle.pipe_model.specs.Shape.{Records}
-use Rattle.unique_sort.specs.Runs.{RunSoFar, goes_on, run_with, last_run, output_in, written_in, pair_in}
+use Rattle.unique_sort.specs.Runs.{RunSoFar, goes_on, run_with, last_run, pair_in}
 
 -- One run
 
@@ -101,9 +101,9 @@ module _ (count : Bool) (range : Range) (keep : Keep) where
 
   onto_begins : (rec next : List ℕ) (run : Records) (rest : List Records) → Begins rec (onto_runs range rec ((next ∷ run) ∷ rest))
   onto_begins rec next run rest = (elim (same rec next) as (λ c. Begins rec (if c then (rec ∷ next ∷ run) ∷ rest else (rec ∷ []) ∷ (next ∷ run) ∷ rest)) [
-      | true ↦ record { run = next ∷ run; rest = rest; is = refl }
-      | false ↦ record { run = []; rest = (next ∷ run) ∷ rest; is = refl }
-    ])
+    | true ↦ record { run = next ∷ run; rest = rest; is = refl }
+    | false ↦ record { run = []; rest = (next ∷ run) ∷ rest; is = refl }
+  ])
 
   runs_begin : (rec : List ℕ) (recs : Records) → Begins rec (runs_of range (rec ∷ recs))
   runs_begin rec [] = record { run = []; rest = []; is = refl }

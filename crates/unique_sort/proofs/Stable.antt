@@ -1,5 +1,5 @@
 -- A list that is in order, and has those that tie in the order of another one, is that one sorted.
-use Rattle.std.proofs.Common.{◌≡◌, ℕ, suc, ◌+◌, ◌<◌, Bool, true, false, cond, not, List, [], ◌∷◌, length, drop, get_or, refl, sym, ◌∙◌, ap, subst, arith}
+use Rattle.std.proofs.Common.{◌≡◌, ℕ, suc, ◌+◌, Bool, true, false, cond, not, List, [], ◌∷◌, length, drop, get_or, refl, sym, ◌∙◌, ap, subst, arith}
 use Rattle.std.specs.Prelude.{◌&&◌, if◌then◌else◌}
 use Rattle.std.specs.Cmp.{IsStrictWeakOrder}
 use Rattle.std.specs.List.{filter}
@@ -78,7 +78,7 @@ module _ {X : Type 0} (lt : X → X → Bool) (o : IsStrictWeakOrder lt) where
       let heads : y ∷ filter (ties lt y) ys ≡ z ∷ filter (ties lt y) zs = sym (kept y y ys (ties_itself y)) ∙ same y ∙ kept y z zs (ties_by y z yz zy) in
       let first : y ≡ z = ap (λ l. get_or l 0 y) heads in
       let tails : (w : X) → filter (ties lt w) ys ≡ filter (ties lt w) zs = λ w.
-          behind (ties lt w y) y (filter (ties lt w) ys) (filter (ties lt w) zs) (same w ∙ ap (λ x. cond (ties lt w x) (x ∷ filter (ties lt w) zs) (filter (ties lt w) zs)) (sym first)) in
+      behind (ties lt w y) y (filter (ties lt w) ys) (filter (ties lt w) zs) (same w ∙ ap (λ x. cond (ties lt w x) (x ∷ filter (ties lt w) zs) (filter (ties lt w) zs)) (sym first)) in
       ap (λ x. x ∷ ys) first ∙ ap (λ l. z ∷ l) (one_order ys zs up.1 down.1 tails)
 
 module _ (keys : List SortKey) where

@@ -1,14 +1,12 @@
 -- What UNIQUE gives when it sees one more record, or the end of input.
-use Rattle.std.proofs.Common.{◌≡◌, ℕ, ◌+◌, ◌-◌, ◌<◌, ◌≤◌, Bool, true, false, not, List, [], ◌∷◌, ◌++◌, length, refl, sym, ◌∙◌, ap, subst, arith, Some}
+use Rattle.std.proofs.Common.{◌≡◌, ℕ, ◌+◌, ◌<◌, Bool, true, false, not, List, [], ◌∷◌, ◌++◌, length, refl, sym, ◌∙◌, ap, subst, arith, Some}
 use Rattle.std.specs.Prelude.{◌==◌, if◌then◌else◌}
 use Rattle.std.proofs.lemmas.Bool.{ne_eqb}
 use Rattle.std.proofs.lemmas.List.{length_push}
-use Rattle.pipe_model.specs.declared.range.Range.{Range}
-use Rattle.pipe_model.specs.declared.kind.Keep.{Keep}
 use Rattle.pipe_model.specs.declared.kind.Keep.TheVariants.{First}
-use Rattle.pipe_model.specs.OrderRows.{unique, unique_pairs}
+use Rattle.pipe_model.specs.OrderRows.{unique}
 use Rattle.pipe_model.specs.Row.Act.{Writes}
-use Rattle.pipe_model.specs.Shape.{Records, Outs, Stream, writes, acts_of, last_pairs, at_hand_of}
+use Rattle.pipe_model.specs.Shape.{Records, Stream, writes, acts_of, last_pairs, at_hand_of}
 use Rattle.stage_steps.specs.Lists.{Sees, SeesEach, Finishes}
 use Rattle.stage_steps.specs.Waiting.{waiting_act, IsWaiting}
 use Rattle.stage_steps.proofs.Walks.{at_hand}
@@ -16,7 +14,7 @@ use Rattle.unique_sort.specs.declared.run.Run.{Run}
 use Rattle.unique_sort.specs.declared.unique.Firsts.{Firsts}
 use Rattle.unique_sort.specs.declared.unique.Holds.{Holds}
 use Rattle.unique_sort.specs.Runs.{RunSoFar, goes_on, run_with, last_run, output_in, written_in, pair_in}
-use Rattle.unique_sort.specs.UniqueLists.{IsLastRun, FirstsStand, held, IsRunning, HoldsStand}
+use Rattle.unique_sort.specs.UniqueLists.{IsLastRun, FirstsStand, held, HoldsStand}
 use Rattle.unique_sort.proofs.RunPairs.{owed, new_pairs, end_pairs, first_pair, few_in_run, run_push}
 
 -- the run at hand, and whether it goes on
@@ -40,19 +38,22 @@ next_run x y bytes rec recs next is room came =
     ∙ ap (run_with x.range (so_far x)) came ∙ ap (λ run. run_with x.range run rec) is
     ∙ sym (run_push x.range recs rec) ∙ ap (λ range. last_run range (recs ++ rec ∷ [])) (sym next.range)
 
+some_there : (recs : Records) (rec : List ℕ) → 0 < length (recs ++ rec ∷ [])
+some_there recs rec = omega (arith, length_push recs rec)
+
 pub sees_first : (x y : Firsts) (bytes : List ℕ) → IsNextRun x.run y.run bytes → y.waiting ≡ Some (if goes x.run bytes then 1 else 0) → SeesEach FirstsStand true x y bytes
 sees_first x y bytes next waits = λ outs recs rec is room came.
     let all = recs ++ rec ∷ [] in
     let range = x.run.range in
     let bytes_are = came refl in
     let output : (if goes x.run bytes then 1 else 0) ≡ (if goes_on range (last_run range recs) rec then 1 else 0) =
-        ap (λ r. if goes x.run r then 1 else 0) bytes_are ∙ ap (λ run. if goes_on range run rec then 1 else 0) is.2 in (
+    ap (λ r. if goes x.run r then 1 else 0) bytes_are ∙ ap (λ run. if goes_on range run rec then 1 else 0) is.2 in (
       is.0,
       is.1 ∙ ap (λ r. (unique is.0 r First).outs) (sym next.range),
       next_run x.run y.run bytes rec recs next is.2 room bytes_are,
       ap (λ o. acts_of o all) is.1 ∙ ap writes (first_pair is.0 range recs rec)
           ∙ sym (ap (λ w. waiting_act w (at_hand_of all)) waits ∙ ap (λ o. Writes o (at_hand_of all) ∷ []) output ∙ ap (λ r. Writes (if goes_on range (last_run range recs) rec then 1 else 0) r ∷ []) (at_hand recs rec)),
-      subst (λ w. IsWaiting w all) (sym waits) (let n = length_push recs rec in omega arith),
+      subst (λ w. IsWaiting w all) (sym waits) (some_there recs rec),
     )
 
 module _ (x y : Holds) (counting_is : y.is_counting ≡ x.is_counting) (keep_is : y.keep ≡ x.keep) (range_is : y.run.range ≡ x.run.range) where

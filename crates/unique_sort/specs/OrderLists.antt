@@ -1,7 +1,7 @@
 -- What the lists of UNIQUE, SORT and COUNT stand for.
-use Rattle.std.specs.Prelude.{◌≡◌, ℕ, Bool, true, false, List, [], length}
+use Rattle.std.specs.Prelude.{◌≡◌, ℕ, Bool, false, List, [], length}
 use Rattle.std.specs.declared.option.Option.{Option}
-use Rattle.std.specs.declared.option.Option.TheVariants.{Some, None}
+use Rattle.std.specs.declared.option.Option.TheVariants.{None}
 use Rattle.pipe_model.specs.declared.kind.Kind.{Kind}
 use Rattle.pipe_model.specs.Row.{Act}
 use Rattle.pipe_model.specs.Shape.{Records, Stream}

@@ -1,6 +1,5 @@
 -- What SORT stands for.
-use Rattle.std.specs.Prelude.{◌≡◌, ℕ, Bool, true, false, List, [], reverse}
-use Rattle.std.specs.declared.option.Option.{Option}
+use Rattle.std.specs.Prelude.{◌≡◌, Bool, true, false, List, [], reverse}
 use Rattle.pipe_model.specs.Counts.{all_on}
 use Rattle.pipe_model.specs.OrderRows.{sort}
 use Rattle.pipe_model.specs.Row.{Act}

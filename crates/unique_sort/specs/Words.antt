@@ -1,5 +1,5 @@
 -- Words, counted from the front of a record.
-use Rattle.std.specs.Prelude.{ℕ, ◌+◌, ◌==◌, Bool, true, false, not, ◌&&◌, if◌then◌else◌, List, [], ◌∷◌}
+use Rattle.std.specs.Prelude.{ℕ, ◌+◌, ◌==◌, Bool, not, ◌&&◌, if◌then◌else◌, List, [], ◌∷◌}
 
 -- how many words begin in a text, before which a word may begin or one goes on
 abbrev pub words_begun : Bool → List ℕ → ℕ

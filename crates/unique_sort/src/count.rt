@@ -37,8 +37,8 @@ fn added_by(rec: &[u8], total: Total) -> u128
 }
 
 // Adds to each tally what a record adds to it.
-fn add(tallies: &mut [Tally], rec: &[u8])
-    ensures { tallies.new ≡ map (tally_with rec.now) tallies.old }
+fn add(tallies: &mut Vec<Tally>, rec: &[u8])
+    ensures { tallies.new.items ≡ map (tally_with rec.now) tallies.old.items }
 {
     for tally in tallies.iter_mut() {
         tally.sum = tally.sum.saturating_add(added_by(rec, tally.total));
@@ -105,7 +105,7 @@ impl Lists for Counts {
     fn begin(&mut self) {}
 
     fn see(&mut self, _alloc: Global, bytes: &[u8]) -> Result<(), NoMemory> {
-        add(self.tallies.as_mut_slice(), bytes);
+        add(&mut self.tallies, bytes);
         Ok(())
     }
 

@@ -30,14 +30,10 @@ impl OrderLists {
         ensures { IfOk result (λ lists. AreListsOf kind.now lists) }
     {
         match kind {
-            Kind::Unique {
-                range,
-                keep: Keep::First,
-                ..
-            } => Ok(OrderLists::First(Firsts::lists(alloc, *range))),
-            Kind::Unique { count, range, keep } => {
-                Ok(OrderLists::Hold(Holds::new(alloc, *count, *range, *keep)))
-            }
+            Kind::Unique { count, range, keep } => match *keep {
+                Keep::First => Ok(OrderLists::First(Firsts::lists(alloc, *range))),
+                other => Ok(OrderLists::Hold(Holds::new(alloc, *count, *range, other))),
+            },
             Kind::Sort(keys) => Ok(OrderLists::Sort(Sorts::new(alloc, keys)?)),
             Kind::Count(totals) => Ok(OrderLists::Count(Counts::new(alloc, totals)?)),
             _ => unreachable!(),

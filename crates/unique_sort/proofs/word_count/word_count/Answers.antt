@@ -1,4 +1,4 @@
-use Rattle.std.proofs.Common.{◌≡◌, ◌+◌, ◌<◌, ◌∙◌, ℕ, true, drop, get_or, length, sym, ap, arith}
+use Rattle.std.proofs.Common.{◌≡◌, ◌+◌, ◌∙◌, true, drop, get_or, ap, arith}
 use Rattle.std.specs.Prelude.{◌==◌, if◌then◌else◌, not, ◌&&◌}
 use Rattle.std.proofs.lemmas.List.{drop_more, drop_all}
 use Rattle.unique_sort.specs.Words.{words_begun}
@@ -11,7 +11,7 @@ overflow_add-count c =
     let at = c.loop-byte.byte-index in
     let one : (c.loop-byte.is_between && not (get_or rec at 0 == 32)) ≡ true = cc in
     let begins : words_begun c.loop-byte.is_between (drop at rec) ≡ 1 + words_begun (get_or rec at 0 == 32) (drop (at + 1) rec) =
-        ap (words_begun c.loop-byte.is_between) (drop_more rec at 0 (omega arith)) ∙ ap (λ t. (if t then 1 else 0) + words_begun (get_or rec at 0 == 32) (drop (at + 1) rec)) one in
+    ap (words_begun c.loop-byte.is_between) (drop_more rec at 0 (omega arith)) ∙ ap (λ t. (if t then 1 else 0) + words_begun (get_or rec at 0 == 32) (drop (at + 1) rec)) one in
     omega (arith, c.loop-byte.invariant, begins, few_begun true rec)
 
 pub returns : goal.returns

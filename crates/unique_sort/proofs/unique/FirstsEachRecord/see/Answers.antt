@@ -1,6 +1,6 @@
-use Rattle.std.proofs.Common.{◌∙◌, ap, Some}
+use Rattle.std.proofs.Common.{◌+◌, ◌∙◌, ap, Some}
 use Rattle.std.specs.Prelude.{if◌then◌else◌}
-use Rattle.unique_sort.proofs.UniqueSteps.{IsNextRun, sees_first}
+use Rattle.unique_sort.proofs.UniqueSteps.{sees_first}
 use Rattle.unique_sort.proofs.unique.FirstsEachRecord.see.Goals as goal
 
 pub returns-clause-sees : goal.returns-clause-sees

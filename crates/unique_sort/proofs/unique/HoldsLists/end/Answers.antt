@@ -1,5 +1,4 @@
-use Rattle.std.proofs.Common.{◌≡◌, ◌<◌, ◌∙◌, ap, refl, sym, true, arith, Some}
-use Rattle.unique_sort.specs.declared.unique.Holds.{Holds}
+use Rattle.std.proofs.Common.{◌∙◌, ap, refl, true, arith, Some}
 use Rattle.unique_sort.specs.Runs.{output_in, written_in}
 use Rattle.unique_sort.proofs.UniqueSteps.{ends_some, ends_none}
 use Rattle.unique_sort.proofs.unique.HoldsLists.end.Goals as goal

@@ -1,6 +1,5 @@
-use Rattle.std.proofs.Common.{◌≡◌, ◌+◌, ◌<◌, ◌∙◌, ap, refl, sym, not, arith, Some}
+use Rattle.std.proofs.Common.{◌+◌, ◌∙◌, ap, refl, not, arith, Some}
 use Rattle.std.specs.Prelude.{if◌then◌else◌}
-use Rattle.unique_sort.specs.declared.unique.Holds.{Holds}
 use Rattle.unique_sort.specs.Runs.{output_in, written_in}
 use Rattle.unique_sort.proofs.UniqueSteps.{IsNextRun, goes, sees_next, sees_one}
 use Rattle.unique_sort.proofs.unique.HoldsLists.see.Goals as goal
