@@ -39,7 +39,7 @@ directed_total : (descending : Bool) {order : List ℕ → List ℕ → Ordering
 directed_total false total = total
 directed_total true total = back_total total
 
-by_keys_total : (keys : List SortKey) → IsTotalOrder (by_keys keys)
+pub by_keys_total : (keys : List SortKey) → IsTotalOrder (by_keys keys)
 by_keys_total [] = record { antisymm = λ x y. refl; trans = λ x y z less more. less; congr = λ x y z same. refl }
 by_keys_total (key ∷ keys) = then_total (directed_total key.descending (on_total (part_of key.range) nat_list_cmp_total)) (by_keys_total keys)
 

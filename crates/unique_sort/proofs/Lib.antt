@@ -1,6 +1,8 @@
 pub mod Begun
 pub mod CountSteps
+pub mod FrontOrder
 pub mod KeyOrder
+pub mod KeyedOrder
 pub mod RunPairs
 pub mod SortSteps
 pub mod Stable

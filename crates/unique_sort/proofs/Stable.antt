@@ -3,7 +3,7 @@ use Rattle.std.proofs.Common.{◌≡◌, ℕ, suc, ◌+◌, Bool, true, false, c
 use Rattle.std.specs.Prelude.{◌&&◌, if◌then◌else◌}
 use Rattle.std.specs.Cmp.{IsStrictWeakOrder}
 use Rattle.std.specs.List.{filter}
-use Rattle.std.specs.List.Sorted.{IsSortedBy, IsStableBy, ties}
+use Rattle.std.specs.List.Sorted.{IsSortedBy, ties}
 use Rattle.pipe_model.specs.declared.keys.SortKey.{SortKey}
 use Rattle.pipe_model.specs.OrderRows.{goes_before, inserted, sorted}
 use Rattle.pipe_model.specs.Shape.{Records}
@@ -11,12 +11,12 @@ use Rattle.unique_sort.proofs.KeyOrder.{goes_before_orders}
 
 module _ {X : Type 0} (lt : X → X → Bool) (o : IsStrictWeakOrder lt) where
   -- none of these goes before x
-  abbrev NoneBefore : X → List X → Type 0
+  abbrev pub NoneBefore : X → List X → Type 0
   NoneBefore x [] = Unit {0}
   NoneBefore x (y ∷ ys) = (lt y x ≡ false) × NoneBefore x ys
 
   -- none goes before an earlier one
-  abbrev Ascends : List X → Type 0
+  abbrev pub Ascends : List X → Type 0
   Ascends [] = Unit {0}
   Ascends (x ∷ xs) = NoneBefore x xs × Ascends xs
 
@@ -24,7 +24,7 @@ module _ {X : Type 0} (lt : X → X → Bool) (o : IsStrictWeakOrder lt) where
   none_before_less x y [] less none = tt
   none_before_less x y (z ∷ xs) less none = (o.chain z y x none.0 less, none_before_less x y xs less none.1)
 
-  ascends : (xs : List X) → IsSortedBy lt xs → Ascends xs
+  pub ascends : (xs : List X) → IsSortedBy lt xs → Ascends xs
   ascends [] up = tt
   ascends (x ∷ []) up = (tt, tt)
   ascends (x ∷ y ∷ xs) up =
@@ -68,7 +68,7 @@ module _ {X : Type 0} (lt : X → X → Bool) (o : IsStrictWeakOrder lt) where
   behind false x xs ys same = same
 
   -- two lists in order, in which those that tie are the same, are the same
-  one_order : (ys zs : List X) → Ascends ys → Ascends zs → ((w : X) → filter (ties lt w) ys ≡ filter (ties lt w) zs) → ys ≡ zs
+  pub one_order : (ys zs : List X) → Ascends ys → Ascends zs → ((w : X) → filter (ties lt w) ys ≡ filter (ties lt w) zs) → ys ≡ zs
   one_order [] [] up down same = refl
   one_order [] (z ∷ zs) up down same = absurd (some_or_none z (filter (ties lt z) zs) (same z ∙ kept z z zs (ties_itself z)))
   one_order (y ∷ ys) [] up down same = absurd (some_or_none y (filter (ties lt y) ys) (sym (same y) ∙ kept y y ys (ties_itself y)))
@@ -103,7 +103,7 @@ module _ (keys : List SortKey) where
         | false ↦ λ e. ((e, none_before_less lt o rec y ys e up.0), up)
       ]) refl
 
-  sorted_ascends : (recs : Records) → Ascends lt o (sorted keys recs)
+  pub sorted_ascends : (recs : Records) → Ascends lt o (sorted keys recs)
   sorted_ascends [] = tt
   sorted_ascends (rec ∷ recs) = ascends_inserted rec (sorted keys recs) (sorted_ascends recs)
 
@@ -128,9 +128,6 @@ module _ (keys : List SortKey) where
       passed before rest false true ties_y ties_rec = refl
       passed before rest false false ties_y ties_rec = refl
 
-  sorted_stays : (w : List ℕ) (recs : Records) → filter (ties lt w) (sorted keys recs) ≡ filter (ties lt w) recs
+  pub sorted_stays : (w : List ℕ) (recs : Records) → filter (ties lt w) (sorted keys recs) ≡ filter (ties lt w) recs
   sorted_stays w [] = refl
   sorted_stays w (rec ∷ recs) = stays_inserted w rec (sorted keys recs) ∙ ap (λ l. cond (ties lt w rec) (rec ∷ l) l) (sorted_stays w recs)
-
-  pub is_sorted : (recs done : Records) → IsSortedBy lt done → IsStableBy lt recs done → done ≡ sorted keys recs
-  is_sorted recs done up stays = one_order lt o done (sorted keys recs) (ascends lt o done up) (sorted_ascends recs) (λ w. stays w ∙ sym (sorted_stays w recs))

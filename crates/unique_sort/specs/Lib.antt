@@ -1,4 +1,5 @@
 pub mod Counting
+pub mod Fronts
 pub mod OrderLists
 pub mod OrderStage
 pub mod Runs

@@ -1,7 +1,9 @@
 //! The stages of order and counting: UNIQUE, SORT and COUNT.
 #![tactic(auto)]
 
+mod compare;
 mod count;
+mod keyed;
 mod laws;
 mod order_lists;
 mod order_stage;

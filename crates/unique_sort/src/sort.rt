@@ -1,47 +1,18 @@
-ghost use Rattle.std.specs.Prelude.{◌≡◌, ◌∷◌, [], IfOk};
-ghost use Rattle.std.specs.Ordering.{is_eq, is_lt};
-ghost use Rattle.pipe_model.specs.Keys.{is_same};
-ghost use Rattle.pipe_model.specs.OrderRows.{goes_before, sorted};
-ghost use Rattle.pipe_model.specs.Ranges.{part_of};
+ghost use Rattle.std.specs.Prelude.{◌≡◌, map, IfOk};
+ghost use Rattle.std.specs.List.{All};
+ghost use Rattle.pipe_model.specs.OrderRows.{sorted};
+ghost use Rattle.unique_sort.specs.Fronts.{IsKeyed, recs_in};
 
+use crate::keyed::{Keyed, compared_keyed};
 use pipe_model::{NoMemory, Rec, SortKey, SortKeys};
-use stage_steps::{Group, Lists, part_of};
+use stage_steps::{Group, Lists};
 use std::alloc::Global;
-use std::cmp::Ordering;
-
-// How two records compare by one key.
-#[inline]
-fn compared_by(key: SortKey, rec: &[u8], other: &[u8]) -> Ordering
-    ensures ties { is_eq result ≡ is_same (part_of key.range rec.now) (part_of key.range other.now) }
-    ensures less { is_lt result ≡ goes_before (key ∷ []) rec.now other.now }
-{
-    let order = part_of(key.range, rec).cmp(part_of(key.range, other));
-    if key.descending {
-        order.reverse()
-    } else {
-        order
-    }
-}
-
-// How two records compare by the keys in turn.
-#[inline]
-fn compared(keys: &[SortKey], rec: &[u8], other: &[u8]) -> Ordering
-    ensures { is_lt result ≡ goes_before keys.now rec.now other.now }
-{
-    for key in keys {
-        let order = compared_by(*key, rec, other);
-        if order.is_ne() {
-            return order;
-        }
-    }
-    Ordering::Equal
-}
 
 // Sorts records by the keys in turn. Those of equal keys stay as they came.
-fn sort(records: &mut Vec<Rec>, keys: &[SortKey]) -> Result<(), NoMemory>
-    ensures { IfOk result (λ _. records.new.items ≡ sorted keys.now records.old.items) }
+fn sort(records: &mut Vec<Keyed>, keys: &[SortKey]) -> Result<(), NoMemory>
+    ensures { IfOk result (λ _. All (IsKeyed keys.now) records.old.items → recs_in records.new.items ≡ sorted keys.now (recs_in records.old.items)) }
 {
-    records.sort_by(|rec, other| compared(keys, rec.bytes(), other.bytes()))?;
+    records.sort_by(|rec, other| compared_keyed(keys, rec, other))?;
     Ok(())
 }
 
@@ -61,7 +32,7 @@ fn copied(alloc: Global, keys: &[SortKey]) -> Result<SortKeys, NoMemory>
 pub struct Sorts {
     keys: SortKeys,
     /// The records as they came, and from the end of input on those that are still to be given, the last of them first.
-    records: Vec<Rec>,
+    records: Vec<Keyed>,
     /// Input has ended.
     is_over: bool,
     /// The record that was given, until it is handed over.
@@ -101,7 +72,8 @@ impl Lists for Sorts {
     fn begin(&mut self) {}
 
     fn see(&mut self, alloc: Global, bytes: &[u8]) -> Result<(), NoMemory> {
-        self.records.push(Rec::from_slice(alloc, bytes)?)?;
+        let rec = Keyed::new(alloc, self.keys.as_slice(), bytes)?;
+        self.records.push(rec)?;
         Ok(())
     }
 
@@ -117,9 +89,11 @@ impl Lists for Sorts {
         if !self.is_over {
             return Ok(None);
         }
-        self.given = self.records.pop();
-        match &self.given {
-            Some(_) => Ok(Some(Group::New(0))),
+        match self.records.pop() {
+            Some(keyed) => {
+                self.given = Some(keyed.rec);
+                Ok(Some(Group::New(0)))
+            }
             None => Ok(None),
         }
     }

@@ -1,6 +1,6 @@
 use Rattle.std.proofs.Common.{◌≡◌, drop}
 use Rattle.pipe_model.specs.OrderRows.{goes_before}
-use Rattle.unique_sort.proofs.sort.compared.Given as goal
+use Rattle.unique_sort.proofs.compare.compared.Given as goal
 
 -- by the keys so far they tie
 abbrev pub invariant-loop-key : goal.invariant-loop-key
