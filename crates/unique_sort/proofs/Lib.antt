@@ -1,0 +1,9 @@
+pub mod Begun
+pub mod CountSteps
+pub mod FrontOrder
+pub mod KeyOrder
+pub mod KeyedOrder
+pub mod RunPairs
+pub mod SortSteps
+pub mod Stable
+pub mod UniqueSteps
