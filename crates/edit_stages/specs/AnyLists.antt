@@ -1,5 +1,5 @@
 -- What the lists of all stages of Editing stand for.
-use Rattle.std.specs.Prelude.{◌≡◌, ℕ, Bool, List, []}
+use Rattle.std.specs.Prelude.{◌≡◌, ℕ, ◌-◌, Bool, false, List, [], length}
 use Rattle.std.specs.declared.option.Option.{Option}
 use Rattle.std.specs.declared.option.Option.TheVariants.{Some, None}
 use Rattle.pipe_model.specs.declared.kind.Kind.{Kind}
@@ -15,7 +15,6 @@ use Rattle.edit_stages.specs.declared.any_lists.AnyLists.{AnyLists}
 use Rattle.edit_stages.specs.declared.any_lists.AnyLists.TheVariants.{Duplicate, Edit, Chop, Split, Join}
 use Rattle.edit_stages.specs.AnyEdit.{any_made}
 use Rattle.edit_stages.specs.EditLists.{DuplicatesStand, duplicates_look, due_count, EditedStand, edited_look, new_given, new_count, ChopsStand, chops_look, part_given, owed_count, SplitsStand, splits_look, run_given, JoinsStand, joins_look}
-use Rattle.std.specs.Prelude.{◌-◌, length}
 
 abbrev pub AnyListsStand : AnyLists → Bool → Stream → Records → List Act → Type 0
 AnyListsStand (Duplicate x) = EachStand DuplicatesStand x

@@ -116,8 +116,7 @@ splits_look x = true
 
 -- up to the end of input it has in one the records of the group that hasn't ended
 abbrev pub IsGathering : Bool → Joins → Records → Type 0
-IsGathering false x recs = (x.count ≡ length (left_over x.more recs)) × (x.group.items ≡ in_one x.between (left_over x.more recs))
-IsGathering true x recs = Unit {0}
+IsGathering over x recs = over ≡ false → (x.count ≡ length (left_over x.more recs)) × (x.group.items ≡ in_one x.between (left_over x.more recs))
 
 -- each group in one record with its last, and the group that hasn't ended at the end of input; its records so far are held
 abbrev pub JoinsStand : Joins → Bool → Stream → Records → List Act → Type 0

@@ -1,6 +1,5 @@
-use crate::slices::{behind, front};
 use pipe_model::{NoMemory, Rec};
-use stage_steps::{Each, EachRecord, Group};
+use stage_steps::{Each, EachRecord, Group, behind, front};
 use std::alloc::Global;
 use std::mem;
 

@@ -43,13 +43,13 @@ fn add(group: &mut Vec<u8>, count: u64, between: &[u8], rec: &[u8]) -> Result<()
 }
 
 impl Joins {
-    ghost use Rattle.std.specs.Prelude.{IfOk, []};
+    ghost use Rattle.std.specs.Prelude.{IfOk, false, []};
     ghost use Rattle.pipe_model.specs.EditingRows.{join};
     ghost use Rattle.edit_stages.specs.EditLists.{JoinsStand};
 
     // JOIN of so many more records than one, with this string between, before the first record.
     pub(crate) fn new(alloc: Global, more: Times, between: &Rec) -> Result<Joins, NoMemory>
-        ensures { IfOk result (λ it. JoinsStand it (join more between.now) [] []) }
+        ensures { IfOk result (λ it. JoinsStand it false (join more between.now) [] []) }
     {
         Ok(Joins {
             more,
@@ -89,7 +89,8 @@ impl Lists for Joins {
 
     fn end(&mut self, alloc: Global) -> Result<(), NoMemory> {
         if self.count > 0 {
-            self.new = Rec::from_slice(alloc, &self.group)?;
+            let group = mem::replace(&mut self.group, Vec::new(alloc));
+            self.new = Rec::from_vec(group);
             self.due = true;
         }
         Ok(())

@@ -13,7 +13,6 @@ mod join;
 mod laws;
 mod pad;
 mod reverse;
-mod slices;
 mod split;
 mod strip;
 mod xlate;

@@ -5,10 +5,9 @@ ghost use Rattle.pipe_model.specs.Members.{has};
 ghost use Rattle.edit_stages.specs.Runs.{IsFirstRun};
 
 use crate::byte_set::ByteSet;
-use crate::slices::{behind, front};
 use crate::strip::front_stripped;
 use pipe_model::{NoMemory, Rec};
-use stage_steps::{Each, EachRecord, Group};
+use stage_steps::{Each, EachRecord, Group, behind, front};
 use std::alloc::Global;
 
 /// SPLIT: each longest run of bytes of the record that aren't in a set. A run is made when it is asked for.

@@ -8,25 +8,17 @@ use Rattle.pipe_model.specs.SelectionRows.{window}
 use Rattle.pipe_model.specs.Shape.{Records, Stream, writes, acts_of, at_hand_of}
 use Rattle.stage_steps.specs.Lists.{Sees}
 use Rattle.stage_steps.proofs.Walks.{at_hand}
-use Rattle.select_stages.specs.declared.window.Due.{Due}
-use Rattle.select_stages.specs.declared.window.Due.TheVariants.{Nothing, AtHand, Gone, Rest}
+use Rattle.select_stages.specs.declared.window.Due.TheVariants.{Nothing, AtHand, Gone}
 use Rattle.select_stages.specs.declared.window.Window.{Window}
-use Rattle.select_stages.specs.Windows.{WindowStands, IsHolding, IsDue, due_acts, gone_act, is_over}
+use Rattle.select_stages.specs.Windows.{WindowStands, IsDue, due_acts, gone_act, is_over}
 use Rattle.select_stages.proofs.LastRecords.{adds, moves, passes}
-
--- up to the end of input it holds the last records
-holds_last : (d : Due) (x : Window) (recs : Records) → is_over d ≡ false → IsHolding d x recs → x.records.items ≡ last_of (of_all x.times (length recs)) recs
-holds_last Nothing x recs going is = is
-holds_last AtHand x recs going is = is
-holds_last Gone x recs going is = is
-holds_last Rest x recs going is = cc
 
 -- what stays the same without its first member is empty
 nil_from_drop : (xs : Records) → xs ≡ drop 1 xs → xs ≡ []
 nil_from_drop [] is = refl
 nil_from_drop (first ∷ rest) is = absurd (let e : suc (length rest) ≡ length rest = ap length is in omega (arith, e))
 
-module _ (x y : Window) (bytes : List ℕ) (going_is : is_over x.due ≡ false) (times_is : y.times ≡ x.times) (leaving_is : y.leaving ≡ x.leaving) (staying_is : y.staying ≡ x.staying) where
+module _ (x y : Window) (bytes : List ℕ) (times_is : y.times ≡ x.times) (leaving_is : y.leaving ≡ x.leaving) (staying_is : y.staying ≡ x.staying) where
   same_stream : (t : Stream) → t ≡ window x.leaving x.staying x.times → t ≡ window y.leaving y.staying y.times
   same_stream t is = is ∙ ap (λ o. window o x.staying x.times) (sym leaving_is) ∙ ap (λ o. window y.leaving o x.times) (sym staying_is) ∙ ap (window y.leaving y.staying) (sym times_is)
 
@@ -37,9 +29,10 @@ module _ (x y : Window) (bytes : List ℕ) (going_is : is_over x.due ≡ false) 
   pub sees_added : is_reached x.times (length x.records.items) ≡ false → y.due ≡ Nothing → y.records.items ≡ x.records.items ++ bytes ∷ [] → Sees WindowStands true x y bytes
   sees_added room due_is held_is = λ t recs rec is few came.
       let all = recs ++ rec ∷ [] in
-      let shift = adds x.times recs x.records.items rec (holds_last x.due x recs going_is is.1) room in (
+      let shift = adds x.times recs x.records.items rec (is.2 refl) room in (
         same_stream t is.0,
-        subst (λ d. IsHolding d y all) (sym due_is) (held_is ∙ ap (λ b. x.records.items ++ b ∷ []) (came refl) ∙ shift.stays ∙ same_last all),
+        ap is_over due_is,
+        λ going. held_is ∙ ap (λ b. x.records.items ++ b ∷ []) (came refl) ∙ shift.stays ∙ same_last all,
         ap (λ (t : Stream). acts_of t.outs all) is.0 ∙ ap (λ gone. writes (all_on x.leaving gone)) shift.leaves ∙ sym (ap (λ d. due_acts d y all) due_is),
         subst (λ d. IsDue d all) (sym due_is) tt,
       )
@@ -49,9 +42,10 @@ module _ (x y : Window) (bytes : List ℕ) (going_is : is_over x.due ≡ false) 
       Sees WindowStands true x y bytes
   sees_moved first rest full starts due_is gone_is held_is = λ t recs rec is few came.
       let all = recs ++ rec ∷ [] in
-      let shift = moves x.times recs x.records.items rest rec first (holds_last x.due x recs going_is is.1) full starts in (
+      let shift = moves x.times recs x.records.items rest rec first (is.2 refl) full starts in (
         same_stream t is.0,
-        subst (λ d. IsHolding d y all) (sym due_is) (held_is ∙ ap (λ b. rest ++ b ∷ []) (came refl) ∙ shift.stays ∙ same_last all),
+        ap is_over due_is,
+        λ going. held_is ∙ ap (λ b. rest ++ b ∷ []) (came refl) ∙ shift.stays ∙ same_last all,
         ap (λ (t : Stream). acts_of t.outs all) is.0 ∙ ap (λ gone. writes (all_on x.leaving gone)) shift.leaves
             ∙ sym (ap (λ d. due_acts d y all) due_is ∙ ap (gone_act y.leaving) gone_is ∙ ap (λ o. Writes o first ∷ []) leaving_is),
         subst (λ d. IsDue d all) (sym due_is) tt,
@@ -63,7 +57,8 @@ module _ (x y : Window) (bytes : List ℕ) (going_is : is_over x.due ≡ false) 
       let all = recs ++ rec ∷ [] in
       let shift = passes x.times recs x.records.items rec full none in (
         same_stream t is.0,
-        subst (λ d. IsHolding d y all) (sym due_is) (held_is ∙ shift.stays ∙ same_last all),
+        ap is_over due_is,
+        λ going. held_is ∙ shift.stays ∙ same_last all,
         ap (λ (t : Stream). acts_of t.outs all) is.0 ∙ ap (λ gone. writes (all_on x.leaving gone)) shift.leaves
             ∙ sym (ap (λ d. due_acts d y all) due_is ∙ ap (λ o. Writes o (at_hand_of all) ∷ []) leaving_is ∙ ap (λ r. Writes x.leaving r ∷ []) (at_hand recs rec)),
         subst (λ d. IsDue d all) (sym due_is) (let n = length_push recs rec in omega arith),

@@ -32,8 +32,7 @@ is_over _ = false
 
 -- up to the end of input it holds the last records
 abbrev pub IsHolding : Bool → Window → Records → Type 0
-IsHolding false x recs = x.records.items ≡ last_of (of_all x.times (length recs)) recs
-IsHolding true x recs = Unit {0}
+IsHolding over x recs = over ≡ false → x.records.items ≡ last_of (of_all x.times (length recs)) recs
 
 -- where the record at hand is due, there was one
 abbrev pub IsDue : Due → Records → Type 0

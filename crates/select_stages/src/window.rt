@@ -34,15 +34,15 @@ pub struct Window {
 }
 
 impl Window {
-    ghost use Rattle.std.specs.Prelude.{◌≡◌, [], length, option_map};
+    ghost use Rattle.std.specs.Prelude.{◌≡◌, false, [], length, option_map};
     ghost use Rattle.pipe_model.specs.Counts.{is_reached};
     ghost use Rattle.pipe_model.specs.SelectionRows.{window};
     ghost use Rattle.stage_steps.specs.declared.group.Group.TheVariants.{New};
-    ghost use Rattle.select_stages.specs.Windows.{WindowStands, is_over};
+    ghost use Rattle.select_stages.specs.Windows.{WindowStands};
 
     // A window of so many records, before the first.
     pub(crate) fn new(alloc: Global, times: Times, leaving: u16, staying: u16) -> Window
-        ensures { WindowStands result (window leaving staying times) [] [] }
+        ensures { WindowStands result false (window leaving staying times) [] [] }
     {
         Window {
             times,
@@ -51,16 +51,6 @@ impl Window {
             records: VecDeque::new(alloc),
             gone: None,
             due: Due::Nothing,
-        }
-    }
-
-    // Whether it gives the records at the end of input.
-    fn is_over(&self) -> bool
-        ensures { result ≡ is_over self.now.due }
-    {
-        match self.due {
-            Due::Nothing | Due::AtHand | Due::Gone => false,
-            Due::Rest => true,
         }
     }
 
@@ -119,10 +109,6 @@ impl Lists for Window {
     // What a window does is in calls of their own, so that the loop that runs all stages stays short.
     #[inline(never)]
     fn see(&mut self, alloc: Global, bytes: &[u8]) -> Result<(), NoMemory> {
-        // No record comes behind the end of input.
-        if self.is_over() {
-            return Err(NoMemory);
-        }
         if !self.is_full() {
             self.due = Due::Nothing;
             return add(&mut self.records, alloc, bytes);
@@ -137,10 +123,6 @@ impl Lists for Window {
     }
 
     fn end(&mut self, _alloc: Global) -> Result<(), NoMemory> {
-        // Input ends once.
-        if self.is_over() {
-            return Err(NoMemory);
-        }
         self.due = Due::Rest;
         Ok(())
     }

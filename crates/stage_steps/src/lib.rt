@@ -29,6 +29,7 @@ pub use listed::Listed;
 pub use lists::Lists;
 pub use order::Order;
 pub use ranges::part_of;
+pub use slices::{behind, front};
 pub use stage::Stage;
 pub use strings::Sought;
 pub use text_lines::TextLines;

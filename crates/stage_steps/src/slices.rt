@@ -1,7 +1,8 @@
 ghost use Rattle.std.specs.Prelude.{◌≡◌, drop, take};
 
-// Without its first bytes.
-pub(crate) fn behind(rec: &[u8], count: usize) -> &[u8]
+/// A record without its first `count` bytes: nothing where it has no more.
+#[inline(always)]
+pub fn behind(rec: &[u8], count: usize) -> &[u8]
     ensures { result.now ≡ drop count rec.now }
 {
     if count < rec.len() {
@@ -11,8 +12,9 @@ pub(crate) fn behind(rec: &[u8], count: usize) -> &[u8]
     }
 }
 
-// Its first bytes.
-pub(crate) fn front(rec: &[u8], count: usize) -> &[u8]
+/// The first `count` bytes of a record: all where it has no more.
+#[inline(always)]
+pub fn front(rec: &[u8], count: usize) -> &[u8]
     ensures { result.now ≡ take count rec.now }
 {
     if count < rec.len() {

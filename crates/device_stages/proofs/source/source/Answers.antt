@@ -13,4 +13,4 @@ returns c =
     let t = only_before (map (λ rec. (0, rec)) (lines bytes)) in
     let is = c.new-lines.ensures ∙ ap fresh_lines c.in_ok-copy.ensures in
     IfOk-weaker c.new.result _ _ (λ x fresh. stage_of LinesStand lines_look (ConsoleIn bytes) (λ outputs. t) c.new-lines.result _ c.args.outputs.now false x fresh
-    (λ s. refl) refl (λ keeps. keeps) (subst (λ l. LinesStand l t [] []) (sym is) (lines_begin bytes))) c.new.ensures
+    (λ s. refl) refl (λ keeps. keeps) (subst (λ l. LinesStand l false t [] []) (sym is) (lines_begin bytes))) c.new.ensures

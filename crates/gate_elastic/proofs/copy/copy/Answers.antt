@@ -10,4 +10,4 @@ use Rattle.gate_elastic.proofs.copy.copy.Goals as goal
 pub returns : goal.returns
 returns c =
     IfOk-weaker c.new.result _ _ (λ x fresh. stage_of (EachStand CopiesStand) (each_look copies_look) Copy (λ outputs. each_record copied) c.lists.result _ c.args.outputs.now false x fresh
-    (λ s. refl) (ap (each_look copies_look) c.lists.ensures ∙ fresh_copies_look false) (λ keeps. cc) (subst (λ l. EachStand CopiesStand l (each_record copied) [] []) (sym c.lists.ensures) (copies_begin false))) c.new.ensures
+    (λ s. refl) (ap (each_look copies_look) c.lists.ensures ∙ fresh_copies_look false) (λ keeps. cc) (subst (λ l. EachStand CopiesStand l false (each_record copied) [] []) (sym c.lists.ensures) (copies_begin false))) c.new.ensures

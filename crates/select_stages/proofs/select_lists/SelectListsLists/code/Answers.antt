@@ -1,4 +1,4 @@
-use Rattle.std.proofs.Common.{◌≡◌, List, pos, sym, ap}
+use Rattle.std.proofs.Common.{◌≡◌, Bool, List, pos, sym, ap}
 use Rattle.pipe_model.specs.Row.{Act}
 use Rattle.pipe_model.specs.Shape.{Records, Stream}
 use Rattle.select_stages.specs.declared.select_lists.SelectLists.{SelectLists}
@@ -6,9 +6,9 @@ use Rattle.select_stages.specs.declared.select_lists.SelectLists.TheVariants.{Pi
 use Rattle.select_stages.specs.SelectLists.{SelectListsStand}
 use Rattle.select_stages.proofs.select_lists.SelectListsLists.code.Goals as goal
 
-zero_by : (x : SelectLists) (t : Stream) (recs : Records) (acts : List Act) → SelectListsStand x t recs acts → pos 0 ≡ t.code recs
-zero_by (Pick x) t recs acts is = sym (ap (λ (t : Stream). t.code recs) is.1)
-zero_by (Hold x) t recs acts is = sym (ap (λ (t : Stream). t.code recs) is.0)
+zero_by : (x : SelectLists) (over : Bool) (t : Stream) (recs : Records) (acts : List Act) → SelectListsStand x over t recs acts → pos 0 ≡ t.code recs
+zero_by (Pick x) over t recs acts is = sym (ap (λ (t : Stream). t.code recs) is.1)
+zero_by (Hold x) over t recs acts is = sym (ap (λ (t : Stream). t.code recs) is.0)
 
 pub returns : goal.returns
 returns c = zero_by c.args.self.now

@@ -3,4 +3,4 @@ use Rattle.select_stages.specs.SelectLists.{SelectListsStand}
 use Rattle.select_stages.proofs.select_lists.SelectListsLists.stops.Goals as goal
 
 pub returns-in-Pick : goal.returns-in-Pick
-returns-in-Pick c = λ t recs acts is. c.stops.ensures t recs acts (subst (λ x. SelectListsStand x t recs acts) c.in-Pick.is is)
+returns-in-Pick c = λ over t recs acts is. c.stops.ensures over t recs acts (subst (λ x. SelectListsStand x over t recs acts) c.in-Pick.is is)

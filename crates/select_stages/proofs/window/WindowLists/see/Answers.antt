@@ -1,4 +1,4 @@
-use Rattle.std.proofs.Common.{◌≡◌, true, length, refl, sym, ◌∙◌}
+use Rattle.std.proofs.Common.{◌≡◌, true, length, refl}
 use Rattle.std.proofs.lemmas.Result.{IfOk-weaker}
 use Rattle.pipe_model.specs.Counts.{is_reached}
 use Rattle.select_stages.specs.declared.window.Due.TheVariants.{AtHand, Gone}
@@ -10,7 +10,7 @@ returns-then-is_none-clause-sees c =
     let x = c.args.self.now in
     let y = record x { records = c.shift.new.records; gone = c.shift.new.gone; due = AtHand } in
     let full : is_reached x.times (length x.records.items) ≡ true = cc in
-    sees_empty x y c.args.bytes.now (sym c.is_over.ensures ∙ c.if-is_over.false) refl refl refl c.shift.new.gone c.shift.new.records.items full c.shift.ensures.items c.shift.ensures.rest
+    sees_empty x y c.args.bytes.now refl refl refl c.shift.new.gone c.shift.new.records.items full c.shift.ensures.items c.shift.ensures.rest
     c.if-is_none.ensures refl refl
 
 pub returns-clause-sees : goal.returns-clause-sees
@@ -18,5 +18,5 @@ returns-clause-sees c =
     let x = c.args.self.now in
     let y = record x { records = c.add-2.new.records; gone = c.shift.new.gone; due = Gone } in
     let full : is_reached x.times (length x.records.items) ≡ true = cc in
-    IfOk-weaker c.add-2.result _ _ (λ done added. sees_popped x y c.args.bytes.now (sym c.is_over.ensures ∙ c.if-is_over.false) refl refl refl c.shift.new.gone c.shift.new.records.items full c.shift.ensures.items
+    IfOk-weaker c.add-2.result _ _ (λ done added. sees_popped x y c.args.bytes.now refl refl refl c.shift.new.gone c.shift.new.records.items full c.shift.ensures.items
     c.if-is_none.ensures refl refl added) c.add-2.ensures
