@@ -10,7 +10,6 @@ mod images;
 mod laws;
 mod lengths;
 mod pending;
-mod slices;
 mod strings;
 
 pub use block::{BlockStage, is_block};

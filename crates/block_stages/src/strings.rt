@@ -1,6 +1,5 @@
-use crate::slices::behind;
 use pipe_model::Rec;
-use stage_steps::Sought;
+use stage_steps::{Sought, behind};
 use std::marker::Model;
 
 /// A string at which a text is cut, seen as the list of its bytes.
