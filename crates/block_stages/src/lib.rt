@@ -14,3 +14,6 @@ mod strings;
 
 pub use block::{BlockStage, is_block};
 pub use laws::lists;
+
+#[cfg(test)]
+mod tests;
