@@ -1,17 +1,38 @@
-use crate::copy::copy;
+use crate::buffer::Buffers;
+use crate::gate_lists::GateLists;
 use pipe_model::{Kind, NoMemory, Seen, Strand, Want};
-use stage_steps::{Copies, Each, Listed, Stage};
+use stage_steps::{Copies, Listed, Order, Stage};
 use std::alloc::Global;
 
 /// A stage that passes on what it reads.
 #[derive(Drop)]
 pub enum GateStage {
-    Copy(Listed<Each<Copies>>),
+    Lists(Listed<GateLists>),
 }
 
 impl GateStage {
     ghost use Rattle.std.specs.Prelude.{◌≡◌, true, [], IfOk};
+    ghost use Rattle.pipe_model.specs.declared.kind.Kind.{Kind as KindIs};
+    ghost use Rattle.pipe_model.specs.declared.net.Strand.{Strand as StrandIs};
     ghost use Rattle.gate_elastic.specs.Gate.{is_gate, GateStands};
+    ghost use Rattle.gate_elastic.specs.GateLists.{AreListsOf};
+
+    // The stage of the kind that has these lists, with these connected outputs, before its first event.
+    pub(crate) fn of_lists(
+        alloc: Global,
+        lists: GateLists,
+        outputs: &[bool],
+    ) -> Result<GateStage, NoMemory>
+        ensures { IfOk result (λ stage. (kind : KindIs) → AreListsOf kind lists → (s : StrandIs) → s.kind ≡ kind → s.ports.has_output ≡ outputs.now → GateStands stage s []) }
+    {
+        Ok(GateStage::Lists(Listed::new(
+            alloc,
+            lists,
+            Order::TakesFirst,
+            outputs,
+            false,
+        )?))
+    }
 
     /// The stage of a strand, before its first event.
     pub fn new(alloc: Global, strand: &Strand) -> Result<GateStage, NoMemory>
@@ -20,7 +41,12 @@ impl GateStage {
     {
         let outputs = strand.ports.has_output.as_slice();
         match &strand.kind {
-            Kind::Copy => Ok(GateStage::Copy(copy(alloc, outputs)?)),
+            Kind::Copy => {
+                GateStage::of_lists(alloc, GateLists::Copy(Copies::lists(false)), outputs)
+            }
+            Kind::Buffer => {
+                GateStage::of_lists(alloc, GateLists::Buffer(Buffers::new(alloc)), outputs)
+            }
             _ => unreachable!(),
         }
     }
@@ -35,7 +61,7 @@ impl Stage for GateStage {
 
     fn first(&self) -> Want {
         match self {
-            GateStage::Copy(stage) => stage.first(),
+            GateStage::Lists(stage) => stage.first(),
         }
     }
 
@@ -44,19 +70,19 @@ impl Stage for GateStage {
         ensures { IfOk result (λ asked. Resumes GateStands self.old self.new seen bytes.now asked) }
     {
         match self {
-            GateStage::Copy(stage) => stage.resume(alloc, seen, bytes),
+            GateStage::Lists(stage) => stage.resume(alloc, seen, bytes),
         }
     }
 
     fn looks(&self) -> bool {
         match self {
-            GateStage::Copy(stage) => stage.looks(),
+            GateStage::Lists(stage) => stage.looks(),
         }
     }
 
     fn kept(&self) -> &[u8] {
         match self {
-            GateStage::Copy(stage) => stage.kept(),
+            GateStage::Lists(stage) => stage.kept(),
         }
     }
 }

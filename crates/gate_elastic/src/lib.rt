@@ -1,9 +1,10 @@
-//! The stages that pass on what they read, and differ in when they do: COPY, made of the lists of its row of the stage
-//! table.
+//! The stages that pass on what they read, and differ in when they do: COPY and BUFFER, made of the lists of their rows of
+//! the stage table.
 #![tactic(auto)]
 
-mod copy;
+mod buffer;
 mod gate;
+mod gate_lists;
 mod kinds;
 mod laws;
 

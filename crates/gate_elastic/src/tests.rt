@@ -1,13 +1,14 @@
 use crate::GateStage;
-use crate::copy::copy;
+use crate::buffer::Buffers;
+use crate::gate_lists::GateLists;
 use pipe_model::Seen;
-use stage_steps::Stage;
+use stage_steps::{Copies, Stage};
 use std::test::Fail;
 
 #[test]
 fn a_copy_is_taken_before_it_is_written(rt: HostRuntime) -> Result<(), Fail> {
     let alloc = rt.alloc();
-    let mut stage = copy(alloc, &[true])?;
+    let mut stage = GateStage::of_lists(alloc, GateLists::Copy(Copies::lists(false)), &[true])?;
     assert!(rt; !stage.looks());
     let first = format!(in alloc; "{:?}", stage.first())?;
     assert_eq!(rt; first.as_str(), "Commit(-1)");
@@ -24,6 +25,29 @@ fn a_copy_is_taken_before_it_is_written(rt: HostRuntime) -> Result<(), Fail> {
         assert_eq!(rt; asked.as_str(), want, "after {seen:?}");
     }
     assert!(rt; stage.kept().is_empty());
+    Ok(())
+}
+
+#[test]
+fn a_buffer_gives_its_records_at_the_end_of_input(rt: HostRuntime) -> Result<(), Fail> {
+    let alloc = rt.alloc();
+    let mut stage = GateStage::of_lists(alloc, GateLists::Buffer(Buffers::new(alloc)), &[true])?;
+    assert!(rt; stage.looks());
+    let steps = [
+        (Seen::Up(-1, 0), "Commit(0)"),
+        (Seen::Up(0, 0), "Read(0)"),
+        (Seen::Saw(0), "Take(0)"),
+        (Seen::Took(0), "Read(0)"),
+        (Seen::Saw(0), "Take(0)"),
+        (Seen::Took(0), "Read(0)"),
+        (Seen::SawEnd(0), "Write(0, Fresh([97]))"),
+        (Seen::Put(0), "Write(0, Fresh([97]))"),
+        (Seen::Put(0), "Done(0)"),
+    ];
+    for (seen, want) in steps {
+        let asked = format!(in alloc; "{:?}", stage.resume(alloc, seen, b"a")?)?;
+        assert_eq!(rt; asked.as_str(), want, "after {seen:?}");
+    }
     Ok(())
 }
 

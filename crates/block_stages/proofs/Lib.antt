@@ -1,0 +1,9 @@
+pub mod AtString
+pub mod ByLength
+pub mod EverySize
+pub mod Firsts
+pub mod Growing
+pub mod Reached
+pub mod Holding
+pub mod Ending
+pub mod Streams

@@ -1,0 +1,4 @@
+pub mod Block
+pub mod Blocks
+pub mod Cutting
+pub mod Delimiting
