@@ -1,5 +1,5 @@
 //! What the strands of a net stand on: its desk, its pool and the set of those that may be ready, changed together.
-ghost use Rattle.std.specs.Prelude.{◌≡◌, ◌<◌, ◌||◌, ℕ, is_some, true};
+ghost use Rattle.std.specs.Prelude.{◌≡◌, ◌<◌, ◌||◌, ℕ, length, is_some, true};
 ghost use Rattle.run_desk.specs.Telling as Telling;
 ghost use Rattle.core_machine.specs.Woken.{IsCovering};
 
@@ -209,6 +209,7 @@ impl Floor {
     /// ready is taken out of the set.
     #[inline(always)]
     pub(crate) fn least_event(&mut self) -> Option<(u32, u16, Seen)>
+        requires seats { length self.old.desk.seats ≡ length self.old.net.strands }
         ensures net { self.new.net ≡ self.old.net }
         ensures desk { self.new.desk ≡ self.old.desk }
         ensures pool { self.new.pool ≡ self.old.pool }
@@ -282,7 +283,8 @@ impl Floor {
 
     /// The bytes that go with what a strand was told last, where it looks.
     pub(crate) fn bytes_told(&self, looks: bool, strand: u32, seen: Seen) -> &[u8]
-        requires { (i : ℕ) → IsHeldIn self.now.pool (Telling.sight_through self.now.desk.sights (Telling.sight_door self.now.desk strand i)) }
+        requires strand { looks ≡ true → strand < length self.now.desk.seats }
+        requires held { (i : ℕ) → IsHeldIn self.now.pool (Telling.sight_through self.now.desk.sights (Telling.sight_door self.now.desk strand i)) }
         ensures { result.now ≡ bytes_told looks self.now.desk self.now.pool strand seen }
     {
         match seen {
@@ -310,6 +312,7 @@ impl Floor {
 // Takes out a strand that came home to write through a door and can't go on yet.
 fn rest(ready: &mut Ready, desk: &Desk, strand: u32, door: Option<u32>)
     requires strand { strand < ready.old.size }
+    requires there { Telling.LeadsBelow (length desk.now.wires) door }
     requires writes { (k : ℕ) → is_some (Telling.seen_at desk.now strand k) ≡ true → (Telling.can_put (Telling.through desk.now.wires door) || Telling.can_refuse (Telling.through desk.now.wires door)) ≡ true }
     ensures size { ready.new.size ≡ ready.old.size }
     ensures covers { IsCovering desk.now ready.old → IsCovering desk.now ready.new }

@@ -1,5 +1,5 @@
 //! Who is at the other ends of a strand's links is woken.
-ghost use Rattle.std.specs.Prelude.{◌≡◌};
+ghost use Rattle.std.specs.Prelude.{◌≡◌, ◌<◌, length};
 ghost use Rattle.run_desk.specs.Standing.{link_through};
 ghost use Rattle.core_machine.specs.Woken.{AreInside, IsLarger, IsProducerIn, IsConsumerIn, OfDoors, AreEndsIn};
 
@@ -11,7 +11,8 @@ use run_desk::Desk;
 /// producer, and at an end all. Where one was put its consumer took it before, and sees nothing new.
 #[inline(always)]
 pub(crate) fn wake_ends(ready: &mut Ready, desk: &Desk, links: &[Link], strand: u32, seen: Seen)
-    requires { AreInside links.now ready.old.size }
+    requires strand { strand < length desk.now.seats }
+    requires inside { AreInside links.now ready.old.size }
     ensures larger { IsLarger ready.old ready.new }
     ensures ends { AreEndsIn desk.now links.now strand seen ready.new }
 {
