@@ -39,12 +39,12 @@ impl Floor {
     ghost use Rattle.record_pool.specs.Places.{bytes_at};
     ghost use Rattle.commit_levels.specs.UnitState.{Member};
     ghost use Rattle.connectors.specs.WireState.{IsHeldIn};
-    ghost use Rattle.run_desk.specs.Turns.{CanTurn, CanCome, HasCome, bare, bare_out, hand_on, desk_after_turn, pool_after_turn};
+    ghost use Rattle.run_desk.specs.Turns.{CanCome, HasCome, bare, bare_out, hand_on, desk_after_turn, pool_after_turn};
     ghost use Rattle.run_desk.specs.Holding.{RunStands, IsPooled, out_from};
     ghost use Rattle.run_desk.specs.Telling as Telling;
     ghost use Rattle.std.specs.Option.{option_map_or};
     ghost use Rattle.core_machine.specs.Actors.{bytes_told};
-    ghost use Rattle.core_machine.specs.Floor.{IsInUse, StaysEarly};
+    ghost use Rattle.core_machine.specs.Floor.{IsInUse, CanMake, StaysEarly};
     ghost use Rattle.core_machine.specs.Members.{is_member};
     ghost use Rattle.core_machine.specs.Start.{HasNoQueue};
     ghost use Rattle.core_machine.specs.Woken.{HasReturned, LeastEventAwake, commits};
@@ -70,10 +70,7 @@ impl Floor {
     /// Makes what a strand was told, and wakes whom it may concern.
     #[inline(always)]
     pub(crate) fn make(&mut self, strand: u32, seen: Seen)
-        requires used { IsInUse self.old.net self.old.desk }
-        requires can { CanTurn self.old.desk self.old.pool strand seen }
-        requires live { Telling.ended_at self.old.desk strand ≡ false }
-        requires strand { strand < length self.old.net.strands }
+        requires { CanMake self.old.net self.old.desk self.old.pool strand seen }
         ensures net { self.new.net ≡ self.old.net }
         ensures desk { self.new.desk ≡ desk_after_turn self.old.desk strand seen }
         ensures pool { self.new.pool ≡ pool_after_turn self.old.desk self.old.pool strand seen }
@@ -97,10 +94,7 @@ impl Floor {
     #[cold]
     #[inline(never)]
     fn make_settling(&mut self, strand: u32, seen: Seen)
-        requires used { IsInUse self.old.net self.old.desk }
-        requires can { CanTurn self.old.desk self.old.pool strand seen }
-        requires live { Telling.ended_at self.old.desk strand ≡ false }
-        requires strand { strand < length self.old.net.strands }
+        requires { CanMake self.old.net self.old.desk self.old.pool strand seen }
         ensures net { self.new.net ≡ self.old.net }
         ensures desk { self.new.desk ≡ desk_after_turn self.old.desk strand seen }
         ensures pool { self.new.pool ≡ pool_after_turn self.old.desk self.old.pool strand seen }

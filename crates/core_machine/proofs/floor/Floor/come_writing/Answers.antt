@@ -8,8 +8,20 @@ use Rattle.core_machine.specs.Floor.{FloorState, IsInUse, StaysEarly}
 use Rattle.core_machine.specs.Members.{is_member}
 use Rattle.core_machine.specs.Woken.{IsCovering, IsConsumerIn, AreInside}
 use Rattle.core_machine.proofs.Homes.{covers_home, may_write}
-use Rattle.core_machine.proofs.Plays.{links_inside}
+use Rattle.core_machine.proofs.Plays.{links_inside, has_seat}
 use Rattle.core_machine.proofs.floor.Floor.come_writing.Goals as goal
+
+pub out_door-door-requires : goal.out_door-door-requires
+out_door-door-requires c =
+    let i = c.self.inside in
+    let v : ◌≡◌ {A = FloorState} (record { net = i.net; desk = i.desk; pool = i.pool; ready = i.ready }) c.args.self.now = c.self.view_is in
+    has_seat i.net i.desk c.args.strand (subst (λ (f : FloorState). IsInUse f.net f.desk) (sym v) c.requires.used) (subst (λ (f : FloorState). c.args.strand < length f.net.strands) (sym v) c.requires.strand)
+
+pub write_at-requires-clause-strand : goal.write_at-requires-clause-strand
+write_at-requires-clause-strand c =
+    let i = c.self.inside in
+    let v : ◌≡◌ {A = FloorState} (record { net = i.net; desk = i.desk; pool = i.pool; ready = i.ready }) c.args.self.now = c.self.view_is in
+    has_seat i.net i.desk c.args.strand (subst (λ (f : FloorState). IsInUse f.net f.desk) (sym v) c.requires.used) (subst (λ (f : FloorState). c.args.strand < length f.net.strands) (sym v) c.requires.strand)
 
 pub wake_consumer-requires : goal.wake_consumer-requires
 wake_consumer-requires c =
@@ -22,7 +34,7 @@ rest-requires-clause-writes c =
     let i = c.self.inside in
     let v : ◌≡◌ {A = FloorState} (record { net = i.net; desk = i.desk; pool = i.pool; ready = i.ready }) c.args.self.now = c.self.view_is in
     let wrote = c.in_ok-write_at.ensures.ok in
-    may_write i.desk c.args.strand c.args.o wrote.0 c.write_at.new.self wrote.2 c.out_door-door.result c.out_door-door.ensures
+    may_write i.desk c.args.strand c.args.o wrote.0 c.write_at.new.self wrote.2 c.out_door-door.result c.out_door-door.ensures.door
 
 pub rest-requires-clause-strand : goal.rest-requires-clause-strand
 rest-requires-clause-strand c =
@@ -54,7 +66,7 @@ invariant_of-self-2 c =
     let new = c.wake_consumer.new.ready in
     let woken = c.wake_consumer.ensures in
     let come : HasCome d i.pool s w c.write_at.new.self c.write_at.new.pool = c.in_ok-write_at.ensures.ok in
-    let reader = subst (λ l. IsConsumerIn l new (Telling.out_door d s c.args.o)) c.as_slice.ensures (subst (λ z. IsConsumerIn c.as_slice.result.now new z) c.out_door-door.ensures woken.end) in
+    let reader = subst (λ l. IsConsumerIn l new (Telling.out_door d s c.args.o)) c.as_slice.ensures (subst (λ z. IsConsumerIn c.as_slice.result.now new z) c.out_door-door.ensures.door woken.end) in
     record {
       formed = c.self.invariant.formed;
       size = c.rest.ensures.size ∙ woken.larger.0 ∙ c.self.invariant.size;
