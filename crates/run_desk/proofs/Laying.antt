@@ -228,6 +228,23 @@ joins strands links = record {
       (λ t. let own = at_from strands 0 0 t in ap (λ x. joined (slice_get (outputs_of x) o)) own.1 ∙ out_closed (0 + t) own.0 o (slice_get strands t)) links 0 (omega arith) s;
 }
 
+-- doors with no input and no output lead nowhere
+abbrev pub no_doors : DoorsState
+no_doors = record { inputs = []; outputs = []; first = 0; first_sight = 0 }
+
+pub joins_nowhere : (n wires : ℕ) → IsJoined n wires (replicate n no_doors)
+joins_nowhere n wires = record { count = length-replicate n no_doors; ins = go n; outs = go_out n }
+  where
+    go : (n s i : ℕ) → LeadsBelow wires (joined (slice_get (inputs_of (slice_get (replicate n no_doors) s)) i))
+    go zero s i = tt
+    go (suc n) zero i = tt
+    go (suc n) (suc s) i = go n s i
+
+    go_out : (n s o : ℕ) → LeadsBelow wires (joined (slice_get (outputs_of (slice_get (replicate n no_doors) s)) o))
+    go_out zero s o = tt
+    go_out (suc n) zero o = tt
+    go_out (suc n) (suc s) o = go_out n s o
+
 module _ (net : Net) (formed : IsWellFormed net) where
   abbrev first_doors : List DoorsState
   first_doors = doors_from 0 0 net.strands
