@@ -41,11 +41,15 @@ abbrev pub LeadsBelow : ℕ → Option ℕ → Type 0
 LeadsBelow wires None = Unit {0}
 LeadsBelow wires (Some j) = j < wires
 
+-- so does each of these
+abbrev pub LeadBelow : ℕ → List (Option ℕ) → Type 0
+LeadBelow wires doors = (k : ℕ) → LeadsBelow wires (joined (slice_get doors k))
+
 -- each of so many strands has doors, and they lead to so many wires
 pub record IsJoined (strands wires : ℕ) (doors : List DoorsState) : Type 0 where
   pub count : length doors ≡ strands
-  pub ins : (s i : ℕ) → LeadsBelow wires (joined (slice_get (inputs_of (slice_get doors s)) i))
-  pub outs : (s o : ℕ) → LeadsBelow wires (joined (slice_get (outputs_of (slice_get doors s)) o))
+  pub ins : (s : ℕ) → LeadBelow wires (inputs_of (slice_get doors s))
+  pub outs : (s : ℕ) → LeadBelow wires (outputs_of (slice_get doors s))
 
 -- Sights
 

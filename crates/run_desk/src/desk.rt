@@ -102,22 +102,20 @@ impl Desk {
 
     /// The numbers of the links at all of a strand's inputs.
     pub fn inputs(&self, strand: u32) -> &[Option<u32>]
-        ensures { result.now ≡ Telling.inputs_of (slice_get self.now.doors strand) }
+        requires { strand < length self.now.seats }
+        ensures doors { result.now ≡ Telling.inputs_of (slice_get self.now.doors strand) }
+        ensures there { Telling.LeadBelow (length self.now.wires) result.now }
     {
-        match self.doors.get(strand as usize) {
-            None => &[],
-            Some(doors) => doors.inputs(),
-        }
+        self.doors[strand as usize].inputs()
     }
 
     /// The numbers of the links at all of a strand's outputs.
     pub fn outputs(&self, strand: u32) -> &[Option<u32>]
-        ensures { result.now ≡ Telling.outputs_of (slice_get self.now.doors strand) }
+        requires { strand < length self.now.seats }
+        ensures doors { result.now ≡ Telling.outputs_of (slice_get self.now.doors strand) }
+        ensures there { Telling.LeadBelow (length self.now.wires) result.now }
     {
-        match self.doors.get(strand as usize) {
-            None => &[],
-            Some(doors) => doors.outputs(),
-        }
+        self.doors[strand as usize].outputs()
     }
 
     pub(crate) fn input_count(&self, strand: u32) -> u16

@@ -1,5 +1,5 @@
 -- Who reads what the strand writes was woken, and it settled nothing for others.
-use Rattle.std.proofs.Common.{◌≡◌, ◌<◌, refl, sym, ◌∙◌, subst, length, true}
+use Rattle.std.proofs.Common.{◌≡◌, ◌<◌, refl, sym, ◌∙◌, ap, subst, length, true}
 use Rattle.pipe_model.specs.declared.step.Want.TheVariants as Asks
 use Rattle.run_desk.specs.Desk.{DeskState}
 use Rattle.run_desk.specs.Turns.{HasCome}
@@ -27,7 +27,11 @@ pub wake_consumer-requires : goal.wake_consumer-requires
 wake_consumer-requires c =
     let i = c.self.inside in
     let v : ◌≡◌ {A = FloorState} (record { net = i.net; desk = i.desk; pool = i.pool; ready = i.ready }) c.args.self.now = c.self.view_is in
-    subst (λ l. AreInside l i.ready.size) (sym c.as_slice.ensures) (links_inside i.net i.ready.size c.self.invariant.formed c.self.invariant.size)
+    let used = subst (λ (f : FloorState). IsInUse f.net f.desk) (sym v) c.requires.used in
+    record {
+      there = subst (λ n. Telling.LeadsBelow n c.out_door-door.result) (used.kept.laid.wire_count ∙ ap length (sym c.as_slice.ensures)) c.out_door-door.ensures.there;
+      inside = subst (λ l. AreInside l i.ready.size) (sym c.as_slice.ensures) (links_inside i.net i.ready.size c.self.invariant.formed c.self.invariant.size);
+    }
 
 pub rest-requires-clause-writes : goal.rest-requires-clause-writes
 rest-requires-clause-writes c =

@@ -27,6 +27,7 @@ wake_ends-requires c =
     let v : ◌≡◌ {A = FloorState} (record { net = i.net; desk = i.desk; pool = i.pool; ready = i.ready }) c.args.self.now = c.self.view_is in
     record {
       strand = has_seat i.net i.desk c.args.strand (subst (λ (f : FloorState). IsInUse f.net f.desk) (sym v) c.requires.used) (subst (λ (f : FloorState). c.args.strand < length f.net.strands) (sym v) c.requires.strand);
+      wires = let used = subst (λ (f : FloorState). IsInUse f.net f.desk) (sym v) c.requires.used in used.kept.laid.wire_count ∙ ap length (sym c.as_slice.ensures);
       inside = subst (λ l. AreInside l i.ready.size) (sym c.as_slice.ensures) (links_inside i.net i.ready.size c.self.invariant.formed c.self.invariant.size);
     }
 
