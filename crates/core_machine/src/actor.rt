@@ -61,7 +61,8 @@ pub(crate) fn resume<S: Stage>(
     };
     let asked = stage.resume(alloc, seen, bytes)?;
     let last = mem::replace(&mut actor.asked, asked);
-    ManuallyDrop::new(last); // it holds no memory: a record that it wrote is in the pool
+    // It holds no memory to let go: a record that it wrote is in the pool, and so far no stage issues a command.
+    ManuallyDrop::new(last);
     Ok(())
 }
 
