@@ -21,7 +21,7 @@ use Rattle.run_desk.specs.Turns.{desk_after_turn, pool_after_turn, CanCome, bare
 use Rattle.run_desk.specs.Telling as Telling
 use Rattle.connectors.specs.WireState.{IsHeldIn}
 use Rattle.core_machine.specs.declared.actor.Actor.{Actor}
-use Rattle.core_machine.specs.Actors.{is_end, gone_out, gone_on, given_up, asking_for, bytes_told}
+use Rattle.core_machine.specs.Actors.{is_end, gone_out, gone_on, given_up, bytes_told}
 use Rattle.core_machine.specs.Floor.{IsInUse, StaysEarly}
 use Rattle.core_machine.specs.Jobs.{JobState, JobStands, HasGoneOn}
 use Rattle.core_machine.specs.Machine.{left_by, without, is_among, looks_at}
@@ -107,35 +107,12 @@ module _ {S : Type 0} (stands : S → Strand → List Event → Type 0) (net : N
     abbrev off : Actor S
     off = given_up (gone_on seen next asked a)
 
-    abbrev pub stayed : List (Actor S)
-    stayed = slice_set actors s on
-
+    -- the coroutine is given up
     pub lost : IsSound stands net budget longer (out ++ here ∷ []) (slice_set actors s off) d' pool'
     lost = sound_turned stands net budget journal out actors d pool sound s k e may a stage there was seen seen_at off refl refl refl space d' pool' desk_is pool_is
 
     pub went_out : IsInUse net d'
     went_out = in_use stands net budget longer (out ++ here ∷ []) (slice_set actors s off) d' pool' lost
-
-    -- the coroutine is given up
-    pub gave_up : (b : Actor S) → slice_get stayed s ≡ Some b → IsSound stands net budget longer (out ++ here ∷ []) (slice_set stayed s (given_up b)) d' pool'
-    gave_up b at =
-        let one : Some on ≡ Some b = sym (get_set_same actors s on a there) ∙ at in
-        let b_is : on ≡ b = cc in
-        subst (λ (x : Actor S). IsSound stands net budget longer (out ++ here ∷ []) (slice_set stayed s (given_up x)) d' pool') b_is
-        (subst (λ (l : List (Actor S)). IsSound stands net budget longer (out ++ here ∷ []) l d' pool') (sym (set_set actors s on off)) lost)
-
-    -- what is kept of it where it asks for something else
-    pub asking : (b : Actor S) → slice_get stayed s ≡ Some b → (shown : Asked) → slice_set stayed s (asking_for shown b) ≡ slice_set actors s (gone_on seen next shown a)
-    asking b at shown =
-        let one : Some on ≡ Some b = sym (get_set_same actors s on a there) ∙ at in
-        let b_is : on ≡ b = cc in
-        subst (λ (x : Actor S). slice_set stayed s (asking_for shown x) ≡ slice_set actors s (gone_on seen next shown a)) b_is (set_set actors s on (gone_on seen next shown a))
-
-    pub asked_last : (b : Actor S) → slice_get stayed s ≡ Some b → asked ≡ b.asked
-    asked_last b at =
-        let one : Some on ≡ Some b = sym (get_set_same actors s on a there) ∙ at in
-        let b_is : on ≡ b = cc in
-        ap (λ (x : Actor S). x.asked) b_is
 
     module _ (alone : out ≡ []) (bytes : List ℕ) (bytes_are : bytes ≡ bytes_told (looks_at net s) d' pool' s seen) (resumed : Resumes stands stage next seen bytes asked) where
       abbrev out' : List ℕ

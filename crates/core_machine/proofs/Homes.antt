@@ -15,7 +15,7 @@ use Rattle.run_desk.specs.Desk.{DeskState}
 use Rattle.run_desk.specs.Standing.{link_through}
 use Rattle.run_desk.specs.Turns.{HasCome, desk_at_home, desk_at_home_writing, asking, list_changed_behind, offers}
 use Rattle.run_desk.specs.Telling as Telling
-use Rattle.run_desk.proofs.Lists.{changed_here, changed_there}
+use Rattle.run_desk.proofs.Lists.{changed_here, changed_there, changed_length}
 use Rattle.core_machine.specs.Floor.{IsInUse}
 use Rattle.core_machine.specs.Members.{Members, is_member}
 use Rattle.core_machine.specs.Woken.{IsCovering, AsksEarly, IsWhole, IsLarger, IsReaderIn, commits}
@@ -27,6 +27,23 @@ use Rattle.core_machine.proofs.Wakes.{IsAround, clash, covers_on, full_levels}
 asking_seat : (ask : Ask) (x : Option Seat) → Telling.primed_of (option_map (asking ask) x) ≡ Telling.primed_of x
 asking_seat ask None = refl
 asking_seat ask (Some seat) = refl
+
+-- there are as many seats as before
+seats_asking : (d n : DeskState) (s : ℕ) (ask : Ask) → n ≡ desk_at_home d s ask → length n.seats ≡ length d.seats
+seats_asking d n s ask is = ap (λ (z : DeskState). length z.seats) is ∙ changed_length d.seats (asking ask) (Some s)
+
+pub seats_home : (d : DeskState) (pool : PoolState) (s : ℕ) (w : Want) (n : DeskState) (after : PoolState) → HasCome d pool s w n after → length n.seats ≡ length d.seats
+seats_home d pool s (want.Write o out) n after come = ap (λ (z : DeskState). length z.seats) come.2 ∙ changed_length d.seats (asking (Now.Write o)) (Some s)
+seats_home d pool s (want.Commit level) n after come = seats_asking d n s (Now.Commit level) come.0
+seats_home d pool s (want.Read i) n after come = seats_asking d n s (Now.Read i) come.0
+seats_home d pool s want.Any n after come = seats_asking d n s Now.Any come.0
+seats_home d pool s want.Gate n after come = seats_asking d n s Now.Gate come.0
+seats_home d pool s (want.Take i) n after come = seats_asking d n s (Now.Take i) come.0
+seats_home d pool s want.Primed n after come = seats_asking d n s Now.Primed come.0
+seats_home d pool s (want.Issue text) n after come = seats_asking d n s Now.Issue come.0
+seats_home d pool s (want.Join unit) n after come = seats_asking d n s (Now.Join unit) come.0
+seats_home d pool s (want.Cut i) n after come = seats_asking d n s (Now.Cut i) come.0
+seats_home d pool s (want.Done code) n after come = seats_asking d n s (Now.Done code) come.0
 
 module _ (net : Net) (d n : DeskState) (s : ℕ) (new : Members) (low zero : Bool) (here : is_member new s ≡ true)
     (fills_low : low ≡ false → is_some (Telling.level_code n (negsuc 0)) ≡ true → IsWhole new) (fills_zero : zero ≡ false → is_some (Telling.level_code n (pos 0)) ≡ true → IsWhole new) where

@@ -1,8 +1,9 @@
 -- Lists of actors and plays of journals, on which a sound core rests.
-use Rattle.std.proofs.Common.{◌≡◌, ℕ, zero, suc, ◌+◌, ◌≤◌, ◌<◌, Bool, true, false, cond, ◌||◌, ◌==◌, List, [], ◌∷◌, length, refl, sym, ◌∙◌, ap, arith, Option, Some, None, slice_get}
+use Rattle.std.proofs.Common.{◌≡◌, ℕ, zero, suc, ◌+◌, ◌≤◌, ◌<◌, Bool, true, false, cond, ◌||◌, ◌==◌, List, [], ◌∷◌, length, refl, sym, ◌∙◌, ap, subst, arith, Option, Some, None, slice_get}
 use Rattle.std.proofs.lemmas.Option.{slice_get_within}
 use Rattle.std.proofs.Math.Bool.{or-false}
 use Rattle.std.specs.Prelude.{take}
+use Rattle.std.specs.Option.{option_map_or}
 use Rattle.pipe_model.specs.declared.net.Net.{Net}
 use Rattle.pipe_model.specs.declared.net.Strand.{Strand}
 use Rattle.pipe_model.specs.declared.step.Entry.{Entry}
@@ -26,7 +27,10 @@ use Rattle.run_desk.proofs.Sees.{ask_is}
 use Rattle.core_machine.specs.declared.actor.Actor.{Actor}
 use Rattle.run_desk.specs.Turns.{bare}
 use Rattle.core_machine.specs.Actors.{is_end, looks_in}
+use Rattle.pipe_model.specs.Table.{form}
 use Rattle.core_machine.specs.Answered.{Shows}
+use Rattle.core_machine.specs.Floor.{IsInUse}
+use Rattle.core_machine.specs.Machine.{looks_at}
 use Rattle.core_machine.specs.Woken.{AsksEarly, AreInside}
 
 -- Lists
@@ -46,6 +50,18 @@ pub looks_nowhere : {S : Type 0} (actors : List (Actor S)) (s : ℕ) → slice_g
 looks_nowhere [] s off = refl
 looks_nowhere (x ∷ xs) zero off = cc
 looks_nowhere (x ∷ xs) (suc s) off = looks_nowhere xs s off
+
+-- a strand that looks is one of the net
+pub who_looks : (net : Net) (s : Who) → looks_at net s ≡ true → s < length net.strands
+who_looks net s looks = go (slice_get net.strands s) refl looks
+  where
+    go : (x : Option Strand) → slice_get net.strands s ≡ x → option_map_or (λ (p : Strand). (form p).looks) x false ≡ true → s < length net.strands
+    go None at is = cc
+    go (Some p) at is = slice_get_within net.strands s p at
+
+-- and each strand has a seat
+pub has_seat : (net : Net) (d : DeskState) (s : ℕ) → IsInUse net d → s < length net.strands → s < length d.seats
+has_seat net d s used within = subst (λ n. s < n) (sym used.kept.laid.seat_count) within
 
 -- an event that brings bytes, more of them than nothing, is a look
 pub look_of : (b : Bool) (e : Event) (n room : ℕ) → n ≡ length (bytes_with b e) → room < n → (b ≡ true) × ((i : ℕ) × (rec : List ℕ) × (e ≡ Saw i rec) × (length rec ≡ n))

@@ -1,8 +1,8 @@
 -- A sound core stays sound through a turn and a coming home.
 use Rattle.std.proofs.Common.{◌≡◌, ◌≢◌, inl, inr, ℕ, zero, suc, ◌<◌, Bool, true, false, cond, ◌||◌, ◌==◌, List, [], ◌∷◌, ◌++◌, length, refl, sym, ◌∙◌, ap, subst, arith, Option, Some, None, slice_get, slice_set, length-set, is_some}
 use Rattle.std.proofs.lemmas.Bool.{ne_eqb}
-use Rattle.std.proofs.lemmas.Option.{slice_get_within}
-use Rattle.std.specs.Prelude.{take}
+use Rattle.std.proofs.lemmas.Option.{slice_get_within, slice_get_read}
+use Rattle.std.specs.Prelude.{take, slice_index_or}
 use Rattle.std.specs.Option.{option_map, option_map_or}
 use Rattle.pipe_model.specs.declared.net.Net.{Net}
 use Rattle.pipe_model.specs.declared.net.Strand.{Strand}
@@ -43,7 +43,7 @@ use Rattle.confluence_laws.proofs.Lengths.{play_last, legal_last}
 use Rattle.core_machine.specs.declared.actor.Actor.{Actor}
 use Rattle.core_machine.specs.Actors.{is_end, come_back, looks_in, bytes_told}
 use Rattle.core_machine.specs.Answered.{LeastReady, LeastEvent, Shows}
-use Rattle.core_machine.specs.Floor.{FloorState, IsInUse, StaysEarly}
+use Rattle.core_machine.specs.Floor.{FloorState, IsInUse, CanMake, StaysEarly}
 use Rattle.core_machine.specs.Jobs.{JobStands, HasGoneOn}
 use Rattle.core_machine.specs.Machine.{is_of, is_at, left_by, without, is_among, looks_at, IsLawful}
 use Rattle.core_machine.specs.Sound.{IsLast, IsActor, AreActors, IsSound}
@@ -208,6 +208,13 @@ module _ {S : Type 0} (stands : S → Strand → List Event → Type 0) (net : N
       go (Some a) at None out = let n = slice_get_within actors s _ at in let c = sound.strands.count in absurd (none_some net.strands (omega (arith, n, c)) out)
       go (Some a) at (Some p) is = looks_here actors s a at ∙ (sound.strands.each s p a is at).looks ∙ ap (λ y. option_map_or (λ (p : Strand). (form p).looks) y false) (sym is)
 
+  pub its_looks : (s : Who) (a : Actor S) → slice_get actors s ≡ Some a → a.looks ≡ looks_at net s
+  its_looks s a at = sym (looks_here actors s a at) ∙ looks_are s
+
+  -- what is read at a strand's place is what is kept of it
+  pub actor_at : (s : Who) (a : Actor S) → s < length net.strands → a ≡ slice_index_or actors s a → slice_get actors s ≡ Some a
+  actor_at s a within read = let count = sound.strands.count in slice_get_read actors (length actors) s a refl (omega (arith, within, count)) read
+
   -- A turn
 
   module _ (s : Who) (k : ℕ) (e : Event) (may : licence net st left s k ≡ Some e) where
@@ -245,15 +252,15 @@ module _ {S : Type 0} (stands : S → Strand → List Event → Type 0) (net : N
     pub its_actor : (a : Actor S) × (slice_get actors s ≡ Some a)
     its_actor = at_some actors s (let b = in_range in let c = sound.strands.count in omega (arith, b, c))
 
-    pub its_stage : (a : Actor S) × (x : S) × (slice_get actors s ≡ Some a) × (a.stage ≡ Some x)
-    its_stage =
-        let a = its_actor in
-        let x = there a.0.stage (sound.strands.home s a.0 a.1 is_home) in
-        (a.0, x.0, a.1, x.1)
+    pub stage_at : (a : Actor S) → slice_get actors s ≡ Some a → (x : S) × (a.stage ≡ Some x)
+    stage_at a at = there a.stage (sound.strands.home s a at is_home)
       where
         there : (y : Option S) → is_some y ≡ true → (x : S) × (y ≡ Some x)
         there None e = cc
         there (Some x) e = (x, refl)
+
+    pub its_stage : (a : Actor S) × (x : S) × (slice_get actors s ≡ Some a) × (a.stage ≡ Some x)
+    its_stage = let a = its_actor in let x = stage_at a.0 a.1 in (a.0, x.0, a.1, x.1)
 
     pub turned_past : past (play net (journal ++ entry ∷ [])) s ≡ e ∷ past st s
     turned_past = ap (λ y. past y s) now ∙ at_same st s e
@@ -273,6 +280,9 @@ module _ {S : Type 0} (stands : S → Strand → List Event → Type 0) (net : N
 
     pub can_turn : (seen : Seen) → told e ≡ seen → CanTurn d pool s seen
     can_turn seen at = subst (CanTurn d pool s) at (run_can net st left d pool sound.formed own sound.run short s k e may)
+
+    pub can_make : (seen : Seen) → told e ≡ seen → CanMake net d pool s seen
+    can_make seen at = record { used = in_use; can = can_turn seen at; live = is_live; strand = in_range }
 
     module _ (a : Actor S) (stage : S) (there : slice_get actors s ≡ Some a) (was : a.stage ≡ Some stage) (seen : Seen) (seen_at : told e ≡ seen) (b : Actor S) (b_out : b.stage ≡ None) (b_looks : b.looks ≡ a.looks) (b_end : b.saw_end ≡ (a.saw_end || is_end seen))
         (space : length journal < budget) (d' : DeskState) (pool' : PoolState) (desk_is : d' ≡ desk_after_turn d s seen) (pool_is : pool' ≡ pool_after_turn d pool s seen) where

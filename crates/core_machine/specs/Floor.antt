@@ -1,6 +1,7 @@
 -- What the strands of a net stand on, and what is asked of it before it changes. It serves the inside.
-use Rattle.std.specs.Prelude.{◌≡◌, ℕ, length, List}
+use Rattle.std.specs.Prelude.{◌≡◌, ◌<◌, ℕ, false, length, List}
 use Rattle.pipe_model.specs.declared.net.Net.{Net}
+use Rattle.pipe_model.specs.declared.step.Seen.{Seen}
 use Rattle.pipe_model.specs.declared.step.Want.{Want}
 use Rattle.pipe_model.specs.State.{State}
 use Rattle.pipe_model.specs.Licence.{Left}
@@ -8,7 +9,8 @@ use Rattle.pipe_model.specs.WellFormed.{IsWellFormed}
 use Rattle.record_pool.specs.PoolState.{PoolState}
 use Rattle.run_desk.specs.Desk.{DeskState}
 use Rattle.run_desk.specs.Standing.{DeskStands}
-use Rattle.run_desk.specs.Turns.{HasCome}
+use Rattle.run_desk.specs.Turns.{CanTurn, HasCome}
+use Rattle.run_desk.specs.Telling as Telling
 use Rattle.core_machine.specs.Members.{Members}
 use Rattle.core_machine.specs.Woken.{IsCovering, AsksEarly}
 
@@ -32,6 +34,13 @@ pub record IsInUse (net : Net) (d : DeskState) : Type 0 where
   pub left : Left
   pub kept : DeskStands net texts st left d
   pub early : AsksEarly d
+
+-- what the strand is told can be made: it is a strand of the net that hasn't ended
+pub record CanMake (net : Net) (d : DeskState) (pool : PoolState) (s : ℕ) (seen : Seen) : Type 0 where
+  pub used : IsInUse net d
+  pub can : CanTurn d pool s seen
+  pub live : Telling.ended_at d s ≡ false
+  pub strand : s < length net.strands
 
 -- no strand asks for another after this one came home with this want
 abbrev pub StaysEarly : DeskState → PoolState → ℕ → Want → Type 0

@@ -7,7 +7,7 @@ ghost use Rattle.core_machine.specs.declared.actor.Actor.{Actor as ActorIs};
 use pipe_model::{NoMemory, Seen, Want};
 use stage_steps::Stage;
 use std::alloc::Global;
-use std::mem;
+use std::mem::{self, ManuallyDrop};
 
 /// What a core keeps of a strand, besides the desk.
 #[derive(Drop)]
@@ -46,22 +46,23 @@ pub(crate) fn take_back<S: Stage>(actors: &mut Vec<Actor<S>>, strand: usize, sta
 }
 
 /// The strand's coroutine is told this, and goes on in place. What it asks for is kept.
-pub(crate) fn resume_at<S: Stage>(
-    actors: &mut Vec<Actor<S>>,
-    strand: usize,
+pub(crate) fn resume<S: Stage>(
+    actor: &mut Actor<S>,
     alloc: Global,
     seen: Seen,
     bytes: &[u8],
 ) -> Result<(), NoMemory>
-    requires { (a : ActorIs S) × (x : S) × (slice_get actors.old.items strand ≡ Some a) × (a.stage ≡ Some x) × CanResume S.stands x seen bytes.now }
-    ensures { (a : ActorIs S) × (x : S) × (y : S) × (asked : Asked) × (slice_get actors.old.items strand ≡ Some a) × (a.stage ≡ Some x) × (actors.new.items ≡ slice_set actors.old.items strand (gone_on seen y asked a)) × IfOk result (λ done. Resumes S.stands x y seen bytes.now asked) }
+    requires { (x : S) × (actor.old.stage ≡ Some x) × CanResume S.stands x seen bytes.now }
+    ensures { (x : S) × (y : S) × (asked : Asked) × (actor.old.stage ≡ Some x) × (actor.new ≡ gone_on seen y asked actor.old) × IfOk result (λ done. Resumes S.stands x y seen bytes.now asked) }
 {
-    let actor = &mut actors[strand];
     note_end(actor, seen);
     let Some(stage) = &mut actor.stage else {
         unreachable!()
     };
-    actor.asked = stage.resume(alloc, seen, bytes)?;
+    let asked = stage.resume(alloc, seen, bytes)?;
+    let last = mem::replace(&mut actor.asked, asked);
+    // It holds no memory to let go: a record that it wrote is in the pool, and so far no stage issues a command.
+    ManuallyDrop::new(last);
     Ok(())
 }
 
@@ -76,19 +77,13 @@ fn note_end<S: Stage>(actor: &mut Actor<S>, seen: Seen)
 
 /// The strand's coroutine is given up after want of memory: the strand is out for good, with the entry of this place.
 #[cold]
-pub(crate) fn give_up<S: Stage>(
-    actors: &mut Vec<Actor<S>>,
-    out: &mut Vec<u64>,
-    strand: usize,
-    place: u64,
-)
-    requires there { strand < length actors.old.items }
-    requires room { length out.old.items < vec_capacity out.old }
-    ensures actor { (a : ActorIs S) × (slice_get actors.old.items strand ≡ Some a) × (actors.new.items ≡ slice_set actors.old.items strand (given_up a)) }
+pub(crate) fn give_up<S: Stage>(actor: &mut Actor<S>, out: &mut Vec<u64>, place: u64)
+    requires { length out.old.items < vec_capacity out.old }
+    ensures actor { actor.new ≡ given_up actor.old }
     ensures out { out.new.items ≡ out.old.items ++ place ∷ [] }
     ensures capacity { vec_capacity out.new ≡ vec_capacity out.old }
 {
-    actors[strand].stage = None;
+    actor.stage = None;
     out.push_reserved(place);
 }
 

@@ -42,8 +42,8 @@ impl Bits {
         }
     }
 
-    // A word that is there.
-    fn word_in(&self, k: usize) -> u64
+    /// A word that is there.
+    pub fn word_in(&self, k: usize) -> u64
         requires { k < length self.now }
         ensures { result ≡ word_at self.now k }
     {

@@ -1,5 +1,5 @@
 //! What the strands of a net stand on: its desk, its pool and the set of those that may be ready, changed together.
-ghost use Rattle.std.specs.Prelude.{◌≡◌, ◌<◌, ◌||◌, ℕ, is_some, true};
+ghost use Rattle.std.specs.Prelude.{◌≡◌, ◌<◌, ◌||◌, ℕ, length, is_some, true};
 ghost use Rattle.run_desk.specs.Telling as Telling;
 ghost use Rattle.core_machine.specs.Woken.{IsCovering};
 
@@ -39,12 +39,12 @@ impl Floor {
     ghost use Rattle.record_pool.specs.Places.{bytes_at};
     ghost use Rattle.commit_levels.specs.UnitState.{Member};
     ghost use Rattle.connectors.specs.WireState.{IsHeldIn};
-    ghost use Rattle.run_desk.specs.Turns.{CanTurn, CanCome, HasCome, bare, bare_out, hand_on, desk_after_turn, pool_after_turn};
+    ghost use Rattle.run_desk.specs.Turns.{CanCome, HasCome, bare, bare_out, hand_on, desk_after_turn, pool_after_turn};
     ghost use Rattle.run_desk.specs.Holding.{RunStands, IsPooled, out_from};
     ghost use Rattle.run_desk.specs.Telling as Telling;
     ghost use Rattle.std.specs.Option.{option_map_or};
     ghost use Rattle.core_machine.specs.Actors.{bytes_told};
-    ghost use Rattle.core_machine.specs.Floor.{IsInUse, StaysEarly};
+    ghost use Rattle.core_machine.specs.Floor.{IsInUse, CanMake, StaysEarly};
     ghost use Rattle.core_machine.specs.Members.{is_member};
     ghost use Rattle.core_machine.specs.Start.{HasNoQueue};
     ghost use Rattle.core_machine.specs.Woken.{HasReturned, LeastEventAwake, commits};
@@ -70,10 +70,7 @@ impl Floor {
     /// Makes what a strand was told, and wakes whom it may concern.
     #[inline(always)]
     pub(crate) fn make(&mut self, strand: u32, seen: Seen)
-        requires used { IsInUse self.old.net self.old.desk }
-        requires can { CanTurn self.old.desk self.old.pool strand seen }
-        requires live { Telling.ended_at self.old.desk strand ≡ false }
-        requires strand { strand < length self.old.net.strands }
+        requires { CanMake self.old.net self.old.desk self.old.pool strand seen }
         ensures net { self.new.net ≡ self.old.net }
         ensures desk { self.new.desk ≡ desk_after_turn self.old.desk strand seen }
         ensures pool { self.new.pool ≡ pool_after_turn self.old.desk self.old.pool strand seen }
@@ -97,10 +94,7 @@ impl Floor {
     #[cold]
     #[inline(never)]
     fn make_settling(&mut self, strand: u32, seen: Seen)
-        requires used { IsInUse self.old.net self.old.desk }
-        requires can { CanTurn self.old.desk self.old.pool strand seen }
-        requires live { Telling.ended_at self.old.desk strand ≡ false }
-        requires strand { strand < length self.old.net.strands }
+        requires { CanMake self.old.net self.old.desk self.old.pool strand seen }
         ensures net { self.new.net ≡ self.old.net }
         ensures desk { self.new.desk ≡ desk_after_turn self.old.desk strand seen }
         ensures pool { self.new.pool ≡ pool_after_turn self.old.desk self.old.pool strand seen }
@@ -209,6 +203,7 @@ impl Floor {
     /// ready is taken out of the set.
     #[inline(always)]
     pub(crate) fn least_event(&mut self) -> Option<(u32, u16, Seen)>
+        requires seats { length self.old.desk.seats ≡ length self.old.net.strands }
         ensures net { self.new.net ≡ self.old.net }
         ensures desk { self.new.desk ≡ self.old.desk }
         ensures pool { self.new.pool ≡ self.old.pool }
@@ -282,7 +277,8 @@ impl Floor {
 
     /// The bytes that go with what a strand was told last, where it looks.
     pub(crate) fn bytes_told(&self, looks: bool, strand: u32, seen: Seen) -> &[u8]
-        requires { (i : ℕ) → IsHeldIn self.now.pool (Telling.sight_through self.now.desk.sights (Telling.sight_door self.now.desk strand i)) }
+        requires strand { looks ≡ true → strand < length self.now.desk.seats }
+        requires held { (i : ℕ) → IsHeldIn self.now.pool (Telling.sight_through self.now.desk.sights (Telling.sight_door self.now.desk strand i)) }
         ensures { result.now ≡ bytes_told looks self.now.desk self.now.pool strand seen }
     {
         match seen {
@@ -310,6 +306,7 @@ impl Floor {
 // Takes out a strand that came home to write through a door and can't go on yet.
 fn rest(ready: &mut Ready, desk: &Desk, strand: u32, door: Option<u32>)
     requires strand { strand < ready.old.size }
+    requires there { Telling.LeadsBelow (length desk.now.wires) door }
     requires writes { (k : ℕ) → is_some (Telling.seen_at desk.now strand k) ≡ true → (Telling.can_put (Telling.through desk.now.wires door) || Telling.can_refuse (Telling.through desk.now.wires door)) ≡ true }
     ensures size { ready.new.size ≡ ready.old.size }
     ensures covers { IsCovering desk.now ready.old → IsCovering desk.now ready.new }

@@ -76,7 +76,7 @@ impl Ready {
         ensures size { self.new.size ≡ self.old.size }
     {
         self.members.remove(strand);
-        if self.members.word((strand / 64) as usize) == 0 {
+        if self.members.word_in((strand / 64) as usize) == 0 {
             self.summary.remove(strand / 64);
         }
     }
@@ -87,7 +87,7 @@ impl Ready {
         ensures least { MatchOption result ((t : ℕ) → is_member self.now t ≡ false) (λ strand. IsLeast self.now strand) }
     {
         let k = self.summary.least()?;
-        let word = self.members.word(k as usize);
+        let word = self.members.word_in(k as usize);
         Some(64 * k + word.trailing_zeros())
     }
 }

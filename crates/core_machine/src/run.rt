@@ -1,4 +1,4 @@
-use crate::actor::{give_up, looks, resume_at};
+use crate::actor::{give_up, resume};
 use crate::core_state::Core;
 use crate::job::RunEnd;
 use crate::settling::ends;
@@ -66,29 +66,17 @@ impl<S: Stage> Core<S> {
         ensures lacks { OnErr result (HasBroken self.old self.new) }
         ensures lawful { IsLawful self.new }
     {
-        let at = strand as usize;
         self.floor.make(strand, seen);
         self.journal.push_reserved(Entry { strand, stream });
-        let looks = looks(&self.actors, strand);
-        let bytes = self.floor.bytes_told(looks, strand, seen);
-        let Ok(()) = resume_at(&mut self.actors, at, alloc, seen, bytes) else {
-            give_up(
-                &mut self.actors,
-                &mut self.out,
-                at,
-                self.journal.len() as u64,
-            );
+        let actor = &mut self.actors[strand as usize];
+        let bytes = self.floor.bytes_told(actor.looks, strand, seen);
+        let Ok(()) = resume(actor, alloc, seen, bytes) else {
+            give_up(actor, &mut self.out, self.journal.len() as u64);
             self.is_broken = true; // its coroutine isn't resumed again
             return Err(NoMemory);
         };
-        let asked = &mut self.actors[at].asked;
-        let Ok(()) = self.floor.come_home(strand, ends(seen), asked) else {
-            give_up(
-                &mut self.actors,
-                &mut self.out,
-                at,
-                self.journal.len() as u64,
-            );
+        let Ok(()) = self.floor.come_home(strand, ends(seen), &mut actor.asked) else {
+            give_up(actor, &mut self.out, self.journal.len() as u64);
             self.is_broken = true;
             return Err(NoMemory);
         };

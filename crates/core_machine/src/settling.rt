@@ -1,5 +1,5 @@
 //! What one event may settle for many: a commit level that is full, and whether a stage's first strand has seen a record.
-ghost use Rattle.std.specs.Prelude.{◌≡◌, ◌<◌, ◌||◌, not, slice_get, is_some, true, false, pos, negsuc};
+ghost use Rattle.std.specs.Prelude.{◌≡◌, ◌<◌, ◌||◌, length, not, slice_get, is_some, true, false, pos, negsuc};
 ghost use Rattle.run_desk.specs.Turns.{ends};
 ghost use Rattle.run_desk.specs.Telling as Telling;
 ghost use Rattle.core_machine.specs.Woken.{IsLarger, IsWhole, IsStageIn, may_settle};
@@ -10,6 +10,7 @@ use run_desk::Desk;
 
 /// Whether what is told may settle something for many.
 pub(crate) fn may_settle(desk: &Desk, strand: u32, seen: Seen) -> bool
+    requires { strand < length desk.now.seats }
     ensures { result ≡ may_settle desk.now strand seen }
 {
     match seen {
@@ -36,6 +37,7 @@ pub(crate) struct Settled {
 
 /// What is settled before the event.
 pub(crate) fn settled_before(desk: &Desk, strand: u32, primes: bool, fills: bool) -> Settled
+    requires { strand < length desk.now.seats }
     ensures primer { result.primer ≡ (not primes || is_some (Telling.primed_of (slice_get desk.now.seats strand))) }
     ensures low { result.low ≡ (not fills || is_some (Telling.level_code desk.now (negsuc 0))) }
     ensures zero { result.zero ≡ (not fills || is_some (Telling.level_code desk.now (pos 0))) }
@@ -49,7 +51,8 @@ pub(crate) fn settled_before(desk: &Desk, strand: u32, primes: bool, fills: bool
 
 /// Wakes the strands for which the event settled something.
 pub(crate) fn wake_settled(ready: &mut Ready, desk: &Desk, strand: u32, before: Settled)
-    requires { strand < ready.old.size }
+    requires strand { strand < ready.old.size }
+    requires seat { strand < length desk.now.seats }
     ensures larger { IsLarger ready.old ready.new }
     ensures stage { before.primer ≡ false → is_some (Telling.primed_of (slice_get desk.now.seats strand)) ≡ true → IsStageIn desk.now strand ready.new }
     ensures low { before.low ≡ false → is_some (Telling.level_code desk.now (negsuc 0)) ≡ true → IsWhole ready.new }

@@ -1,6 +1,7 @@
 //! Who is at the other ends of a strand's links is woken.
-ghost use Rattle.std.specs.Prelude.{◌≡◌};
+ghost use Rattle.std.specs.Prelude.{◌≡◌, ◌<◌, length};
 ghost use Rattle.run_desk.specs.Standing.{link_through};
+ghost use Rattle.run_desk.specs.Telling.{LeadsBelow, LeadBelow};
 ghost use Rattle.core_machine.specs.Woken.{AreInside, IsLarger, IsProducerIn, IsConsumerIn, OfDoors, AreEndsIn};
 
 use crate::ready::Ready;
@@ -11,7 +12,9 @@ use run_desk::Desk;
 /// producer, and at an end all. Where one was put its consumer took it before, and sees nothing new.
 #[inline(always)]
 pub(crate) fn wake_ends(ready: &mut Ready, desk: &Desk, links: &[Link], strand: u32, seen: Seen)
-    requires { AreInside links.now ready.old.size }
+    requires strand { strand < length desk.now.seats }
+    requires wires { length desk.now.wires ≡ length links.now }
+    requires inside { AreInside links.now ready.old.size }
     ensures larger { IsLarger ready.old ready.new }
     ensures ends { AreEndsIn desk.now links.now strand seen ready.new }
 {
@@ -26,7 +29,8 @@ pub(crate) fn wake_ends(ready: &mut Ready, desk: &Desk, links: &[Link], strand: 
 }
 
 fn wake_producer(ready: &mut Ready, links: &[Link], door: Option<u32>)
-    requires { AreInside links.now ready.old.size }
+    requires there { LeadsBelow (length links.now) door }
+    requires inside { AreInside links.now ready.old.size }
     ensures larger { IsLarger ready.old ready.new }
     ensures end { IsProducerIn links.now ready.new door }
 {
@@ -37,7 +41,8 @@ fn wake_producer(ready: &mut Ready, links: &[Link], door: Option<u32>)
 
 /// Wakes the strand that reads behind a door.
 pub(crate) fn wake_consumer(ready: &mut Ready, links: &[Link], door: Option<u32>)
-    requires { AreInside links.now ready.old.size }
+    requires there { LeadsBelow (length links.now) door }
+    requires inside { AreInside links.now ready.old.size }
     ensures larger { IsLarger ready.old ready.new }
     ensures end { IsConsumerIn links.now ready.new door }
 {
@@ -47,7 +52,8 @@ pub(crate) fn wake_consumer(ready: &mut Ready, links: &[Link], door: Option<u32>
 }
 
 fn wake_producers(ready: &mut Ready, links: &[Link], doors: &[Option<u32>])
-    requires { AreInside links.now ready.old.size }
+    requires there { LeadBelow (length links.now) doors.now }
+    requires inside { AreInside links.now ready.old.size }
     ensures larger { IsLarger ready.old ready.new }
     ensures ends { OfDoors (IsProducerIn links.now ready.new) doors.now }
 {
@@ -57,7 +63,8 @@ fn wake_producers(ready: &mut Ready, links: &[Link], doors: &[Option<u32>])
 }
 
 fn wake_consumers(ready: &mut Ready, links: &[Link], doors: &[Option<u32>])
-    requires { AreInside links.now ready.old.size }
+    requires there { LeadBelow (length links.now) doors.now }
+    requires inside { AreInside links.now ready.old.size }
     ensures larger { IsLarger ready.old ready.new }
     ensures ends { OfDoors (IsConsumerIn links.now ready.new) doors.now }
 {
@@ -67,7 +74,8 @@ fn wake_consumers(ready: &mut Ready, links: &[Link], doors: &[Option<u32>])
 }
 
 fn link_at(links: &[Link], door: Option<u32>) -> Option<Link>
+    requires { LeadsBelow (length links.now) door }
     ensures { result ≡ link_through links.now door }
 {
-    links.get(door? as usize).copied()
+    Some(links[door? as usize])
 }

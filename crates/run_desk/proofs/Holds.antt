@@ -1,5 +1,5 @@
 -- What a share does to the other holds.
-use Rattle.std.proofs.Common.{inl, inr, ℕ, List, sym, subst, Option}
+use Rattle.std.proofs.Common.{inl, inr, ℕ, sym, subst, Option}
 use Rattle.std.specs.Prelude.{IsSome}
 use Rattle.pipe_model.proofs.Numbers.{equal_or_not}
 use Rattle.record_pool.specs.PoolState.{Held, PoolState}

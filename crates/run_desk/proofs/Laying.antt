@@ -1,5 +1,5 @@
 -- Before the first step the doors of a desk lead to the links of its net.
-use Rattle.std.proofs.Common.{◌≡◌, ◌≢◌, ◌⊎◌, inl, inr, ℕ, zero, suc, ◌+◌, ◌<◌, Bool, true, false, cond, ◌&&◌, ◌==◌, List, [], ◌∷◌, length, replicate, refl, sym, ◌∙◌, ap, subst, arith, Option, Some, None, slice_get}
+use Rattle.std.proofs.Common.{◌≡◌, ◌≢◌, ◌⊎◌, inl, inr, ℕ, zero, suc, ◌+◌, ◌<◌, ◌≤◌, Bool, true, false, cond, ◌&&◌, ◌==◌, List, [], ◌∷◌, length, replicate, refl, sym, ◌∙◌, ap, subst, arith, Option, Some, None, slice_get}
 use Rattle.std.specs.Prelude.{find}
 use Rattle.std.specs.Option.{option_map}
 use Rattle.pipe_model.specs.declared.net.Link.{Link}
@@ -14,11 +14,11 @@ use Rattle.pipe_model.proofs.Lists.{at_some}
 use Rattle.std.proofs.lemmas.List.{length-replicate}
 use Rattle.std.proofs.lemmas.Bool.{eqb-true}
 use Rattle.run_desk.specs.Desk.{DoorsState}
-use Rattle.run_desk.specs.Telling.{joined, inputs_of, outputs_of, first_of}
+use Rattle.run_desk.specs.Telling.{joined, inputs_of, outputs_of, first_of, LeadsBelow, IsJoined}
 use Rattle.run_desk.specs.Standing.{link_through}
 use Rattle.run_desk.specs.Turns.{list_changed_behind}
 use Rattle.run_desk.specs.Blank.{closed_doors, doors_from, led_in, led_out, with_link, with_links}
-use Rattle.run_desk.proofs.Lists.{changed_here, changed_there, changed_length}
+use Rattle.run_desk.proofs.Lists.{changed_here, changed_there, changed_at, changed_length}
 
 -- Lists
 
@@ -29,6 +29,15 @@ stays {A} {B} g f hidden xs k s = go (equal_or_not s k)
     go : (s ≡ k) ⊎ (s ≢ k) → g (slice_get (list_changed_behind xs f (Some k)) s) ≡ g (slice_get xs s)
     go (inl is) = let P : ℕ → Type 0 = λ z. g (slice_get (list_changed_behind xs f (Some k)) z) ≡ g (slice_get xs z) in subst P (sym is) (ap g (changed_here xs f k) ∙ hidden (slice_get xs k))
     go (inr apart) = ap g (changed_there xs f k s apart)
+
+-- a door that is led to one of so many wires leads there, as the others do
+changed_below : (xs : List (Option ℕ)) (wires j k i : ℕ) → j < wires → LeadsBelow wires (joined (slice_get xs i)) → LeadsBelow wires (joined (slice_get (list_changed_behind xs (λ door. Some j) (Some k)) i))
+changed_below xs wires j k i few before = subst (λ x. LeadsBelow wires (joined x)) (sym (changed_at xs (λ door. Some j) (Some k) i)) (go (slice_get xs i) (k == i) before)
+  where
+    go : (x : Option (Option ℕ)) (b : Bool) → LeadsBelow wires (joined x) → LeadsBelow wires (joined (option_map (λ door. cond b (Some j) door) x))
+    go None b was = tt
+    go (Some door) true was = few
+    go (Some door) false was = was
 
 -- One link
 
@@ -152,6 +161,24 @@ module _ (lists : List DoorsState → ℕ → List (Option ℕ)) (end place : Li
       go false is rest =
           ap (λ b. cond b (Some link) (find (is_at s i) links)) is ∙ rest ∙ sym (ap (link_through whole) (leads_on old j link s i is))
 
+  -- and it leads to one of so many links
+  below_link : (doors : List DoorsState) (j : ℕ) (link : Link) (s i wires : ℕ) → j < wires → ((t : ℕ) → LeadsBelow wires (joined (slice_get (lists doors t) i))) →
+      LeadsBelow wires (joined (slice_get (lists (with_link doors j link) s) i))
+  below_link doors j link s i wires few before = go (equal_or_not s (end link))
+    where
+      go : (s ≡ end link) ⊎ (s ≢ end link) → LeadsBelow wires (joined (slice_get (lists (with_link doors j link) s) i))
+      go (inl is) =
+          let P : ℕ → Type 0 = λ z. LeadsBelow wires (joined (slice_get (lists (with_link doors j link) z) i)) in
+          let Q : List (Option ℕ) → Type 0 = λ xs. LeadsBelow wires (joined (slice_get xs i)) in
+          subst P (sym is) (subst Q (sym (here doors j link)) (changed_below (lists doors (end link)) wires j (place link) i few (before (end link))))
+      go (inr apart) = let Q : List (Option ℕ) → Type 0 = λ xs. LeadsBelow wires (joined (slice_get xs i)) in subst Q (sym (there doors j link s apart)) (before s)
+
+  below_links : (doors : List DoorsState) (i wires : ℕ) → ((t : ℕ) → joined (slice_get (lists doors t) i) ≡ None) → (links : List Link) (j : ℕ) → j + length links ≤ wires →
+      (s : ℕ) → LeadsBelow wires (joined (slice_get (lists (with_links doors j links) s) i))
+  below_links doors i wires closed [] j few s = subst (LeadsBelow wires) (sym (closed s)) tt
+  below_links doors i wires closed (link ∷ links) j few s =
+      below_link (with_links doors (suc j) links) j link s i wires (omega (arith, few)) (below_links doors i wires closed links (suc j) (omega (arith, few)))
+
 -- Strands
 
 -- each strand has its doors
@@ -179,6 +206,44 @@ out_closed m n o (Some strand) = leads_nowhere strand.ports.outputs o
 first_closed : (s m n : ℕ) (x : Option Strand) → m ≡ s → first_of s (option_map (closed_doors m n) x) ≡ part_down s x
 first_closed s m n None is = refl
 first_closed s m n (Some strand) is = ap (λ z. part_down z (Some strand)) is
+
+doors_count : (s n : ℕ) (strands : List Strand) → length (doors_from s n strands) ≡ length strands
+doors_count s n [] = refl
+doors_count s n (strand ∷ strands) = ap suc (doors_count (suc s) (n + strand.ports.inputs) strands)
+
+links_count : (doors : List DoorsState) (j : ℕ) (links : List Link) → length (with_links doors j links) ≡ length doors
+links_count doors j [] = refl
+links_count doors j (link ∷ links) =
+    let old = with_links doors (suc j) links in
+    changed_length (list_changed_behind old (led_out link.output j) (Some link.from)) (led_in link.input j) (Some link.to)
+    ∙ changed_length old (led_out link.output j) (Some link.from) ∙ links_count doors (suc j) links
+
+-- each strand has doors, and they lead to the links
+pub joins : (strands : List Strand) (links : List Link) → IsJoined (length strands) (length links) (with_links (doors_from 0 0 strands) 0 links)
+joins strands links = record {
+  count = links_count (doors_from 0 0 strands) 0 links ∙ doors_count 0 0 strands;
+  ins = λ s i. below_links ins (λ link. link.to) (λ link. link.input) in_here in_there (doors_from 0 0 strands) i (length links)
+      (λ t. let own = at_from strands 0 0 t in ap (λ x. joined (slice_get (inputs_of x) i)) own.1 ∙ in_closed (0 + t) own.0 i (slice_get strands t)) links 0 (omega arith) s;
+  outs = λ s o. below_links outs (λ link. link.from) (λ link. link.output) out_here out_there (doors_from 0 0 strands) o (length links)
+      (λ t. let own = at_from strands 0 0 t in ap (λ x. joined (slice_get (outputs_of x) o)) own.1 ∙ out_closed (0 + t) own.0 o (slice_get strands t)) links 0 (omega arith) s;
+}
+
+-- doors with no input and no output lead nowhere
+abbrev pub no_doors : DoorsState
+no_doors = record { inputs = []; outputs = []; first = 0; first_sight = 0 }
+
+pub joins_nowhere : (n wires : ℕ) → IsJoined n wires (replicate n no_doors)
+joins_nowhere n wires = record { count = length-replicate n no_doors; ins = go n; outs = go_out n }
+  where
+    go : (n s i : ℕ) → LeadsBelow wires (joined (slice_get (inputs_of (slice_get (replicate n no_doors) s)) i))
+    go zero s i = tt
+    go (suc n) zero i = tt
+    go (suc n) (suc s) i = go n s i
+
+    go_out : (n s o : ℕ) → LeadsBelow wires (joined (slice_get (outputs_of (slice_get (replicate n no_doors) s)) o))
+    go_out zero s o = tt
+    go_out (suc n) zero o = tt
+    go_out (suc n) (suc s) o = go_out n s o
 
 module _ (net : Net) (formed : IsWellFormed net) where
   abbrev first_doors : List DoorsState

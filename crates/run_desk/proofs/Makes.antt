@@ -1,20 +1,17 @@
 -- A desk after a turn stands for the state after the event, with the strand out.
-use Rattle.std.proofs.Common.{◌≡◌, ◌≢◌, inl, inr, ℕ, ℤ, ◌<◌, ◌≤◌, ◌*◌, Bool, true, false, ◌||◌, ◌==◌, List, [], length, refl, sym, ◌∙◌, ap, subst, Option, Some, None, slice_get}
-use Rattle.std.proofs.lemmas.Bool.{eqb-true}
+use Rattle.std.proofs.Common.{◌≡◌, ◌≢◌, inl, inr, ℕ, ℤ, ◌<◌, ◌≤◌, ◌*◌, ◌||◌, List, [], length, refl, sym, ◌∙◌, ap, subst, Option, Some, None, slice_get}
 use Rattle.std.specs.Option.{option_map}
 use Rattle.pipe_model.specs.declared.net.Net.{Net}
 use Rattle.pipe_model.specs.declared.step.Seen.{Seen}
 use Rattle.pipe_model.specs.declared.step.Seen.TheVariants as Told
 use Rattle.pipe_model.specs.Event.{Event, has_ended, has_seen}
-use Rattle.pipe_model.specs.Event.Event.{Saw}
 use Rattle.pipe_model.specs.Event.Want.{Commit}
-use Rattle.pipe_model.specs.State.{Who, State, past, with_event, link_in}
-use Rattle.pipe_model.specs.Licence.{Left, want_at, at_hand, licence}
+use Rattle.pipe_model.specs.State.{Who, State, past, with_event}
+use Rattle.pipe_model.specs.Licence.{Left, want_at, licence}
 use Rattle.pipe_model.specs.WellFormed.{IsWellFormed}
 use Rattle.pipe_model.proofs.Numbers.{equal_or_not}
 use Rattle.pipe_model.proofs.Lists.{at_some}
 use Rattle.confluence_laws.proofs.Basics.{at_same, at_other}
-use Rattle.confluence_laws.proofs.Reached.{saw_it}
 use Rattle.commit_levels.specs.UnitState.{IsLevel, place_of}
 use Rattle.commit_levels.specs.UnitState as units
 use Rattle.commit_levels.specs.declared.member.Progress.TheVariants.{Reached}

@@ -1,12 +1,12 @@
 -- What a record that is offered holds, and that the other records stay.
-use Rattle.std.proofs.Common.{◌≡◌, inl, inr, ℕ, ◌<◌, false, List, [], refl, sym, ◌∙◌, ap, subst, arith, Option, Some, None, slice_get}
+use Rattle.std.proofs.Common.{◌≡◌, inl, inr, ℕ, ◌<◌, false, List, [], refl, sym, ◌∙◌, ap, subst, arith, Option, Some, None}
 use Rattle.std.specs.Prelude.{IsSome, unwrap_or}
 use Rattle.std.specs.Option.{option_map, option_map_or}
 use Rattle.pipe_model.specs.declared.net.Net.{Net}
 use Rattle.pipe_model.specs.declared.step.Out.{Out}
 use Rattle.pipe_model.specs.declared.step.Out.TheVariants.{Same, Fresh}
 use Rattle.pipe_model.specs.Event.{has_ended, last_seen_on}
-use Rattle.pipe_model.specs.State.{Who, State, past, link_in}
+use Rattle.pipe_model.specs.State.{Who, State, past}
 use Rattle.pipe_model.specs.Licence.{Left}
 use Rattle.pipe_model.proofs.Numbers.{equal_or_not}
 use Rattle.stage_steps.specs.Coroutine.{written, last_seen, record_seen_on}

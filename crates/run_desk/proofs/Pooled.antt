@@ -1,5 +1,5 @@
 -- The pool's holders stay exact through a run: at a turn, where a strand comes home, and when all is given back at the end.
-use Rattle.std.proofs.Common.{◌≡◌, ℕ, zero, suc, ◌+◌, ◌<◌, false, List, [], ◌∷◌, ◌++◌, length, refl, sym, ◌∙◌, ap, subst, arith, Option, Some, None, slice_get}
+use Rattle.std.proofs.Common.{◌≡◌, ℕ, ◌+◌, ◌<◌, false, List, [], ◌∷◌, ◌++◌, refl, sym, ◌∙◌, ap, subst, arith, Option, Some, None, slice_get}
 use Rattle.std.specs.Prelude.{IsSome, count_by}
 use Rattle.pipe_model.specs.declared.step.Out.TheVariants.{Same, Fresh}
 use Rattle.pipe_model.specs.declared.step.Out.{Out}
@@ -12,7 +12,7 @@ use Rattle.record_pool.specs.PoolState.{Held, PoolState}
 use Rattle.record_pool.specs.Places.{record_at, IsHeld, holders_of, holders_at, bytes_at, with_record, fresh, shared}
 use Rattle.record_pool.specs.Blocks.{blocks_in}
 use Rattle.record_pool.proofs.Records.{no_blocks}
-use Rattle.connectors.specs.WireState.{WireState, at_hand, taken, settled, cleared, IsHeldIn, given_in}
+use Rattle.connectors.specs.WireState.{WireState, taken, settled, cleared, given_in}
 use Rattle.run_desk.specs.Desk.{DeskState}
 use Rattle.run_desk.specs.Telling.{inputs_of, outputs_of, in_door, out_door, sights_of, sight_door, through, wire_in, wire_out, sight_through}
 use Rattle.run_desk.specs.Holding.{holds, offer_holds, holds_of, IsPooled}

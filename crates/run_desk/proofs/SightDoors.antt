@@ -1,10 +1,10 @@
 -- The sights of a strand's inputs, by their numbers.
-use Rattle.std.proofs.Common.{◌≡◌, ◌≢◌, ℕ, zero, suc, ◌+◌, ◌<◌, ◌≤◌, Bool, true, false, cond, List, [], ◌∷◌, length, drop, refl, sym, ◌∙◌, ap, arith, Option, Some, None, slice_get}
+use Rattle.std.proofs.Common.{◌≡◌, ◌≢◌, ℕ, zero, suc, ◌+◌, ◌<◌, ◌≤◌, Bool, true, false, cond, List, [], ◌∷◌, length, drop, refl, ◌∙◌, ap, arith, Option, Some, None, slice_get}
 use Rattle.std.specs.Option.{option_map}
 use Rattle.std.proofs.lemmas.Bool.{eqb-true}
-use Rattle.run_desk.specs.Desk.{DoorsState, DeskState}
+use Rattle.run_desk.specs.Desk.{DoorsState}
 use Rattle.run_desk.specs.Telling.{joined, inputs_of, numbered, sights_of, sight_through}
-use Rattle.run_desk.specs.Turns.{list_changed_behind, no_sight, sights_without}
+use Rattle.run_desk.specs.Turns.{list_changed_behind, sights_without}
 use Rattle.run_desk.proofs.Lists.{leads, leads_any, map_same, changed_there, sights_without_at, which_leads}
 
 -- Numbers

@@ -1,6 +1,5 @@
 -- Before the first step each input of a net has a sight of its own.
-use Rattle.std.proofs.Common.{◌≡◌, ℕ, zero, suc, ◌+◌, ◌*◌, ◌<◌, ◌≤◌, List, [], ◌∷◌, length, replicate, refl, sym, ◌∙◌, ap, arith, Option, Some, None, slice_get}
-use Rattle.std.specs.Prelude.{min}
+use Rattle.std.proofs.Common.{◌≡◌, ℕ, zero, suc, ◌+◌, ◌*◌, ◌<◌, ◌≤◌, List, [], ◌∷◌, length, replicate, refl, ◌∙◌, ap, arith, Option, Some, None, slice_get}
 use Rattle.std.specs.Option.{option_map}
 use Rattle.std.proofs.lemmas.List.{length-replicate}
 use Rattle.pipe_model.specs.declared.net.Link.{Link}
@@ -11,9 +10,9 @@ use Rattle.pipe_model.specs.Form.Parting.{Whole, Queued, Streamed}
 use Rattle.pipe_model.specs.Table.{form}
 use Rattle.pipe_model.specs.WellFormed.{IsWellFormed, places_of}
 use Rattle.run_desk.specs.Desk.{DoorsState}
-use Rattle.run_desk.specs.Telling.{joined, numbered, sights_of}
+use Rattle.run_desk.specs.Telling.{joined, sights_of}
 use Rattle.run_desk.specs.Turns.{list_changed_behind}
-use Rattle.run_desk.specs.Blank.{closed_doors, doors_from, inputs_in, led_in, led_out, with_link, with_links}
+use Rattle.run_desk.specs.Blank.{doors_from, inputs_in, led_in, led_out, with_links}
 use Rattle.run_desk.proofs.Laying.{stays}
 use Rattle.run_desk.proofs.Lists.{changed_length}
 use Rattle.run_desk.proofs.SightDoors.{numbered_at, numbered_long}

@@ -1,5 +1,5 @@
 -- What a strand would be told, read off the plain data of a desk.
-use Rattle.std.specs.Prelude.{◌≡◌, ◌<◌, ℕ, suc, Bool, true, false, ◌&&◌, ◌==◌, nat_lt, int_le, if◌then◌else◌, List, [], ◌∷◌, ℤ, pos, negsuc, slice_get, Option, Some, None, is_some}
+use Rattle.std.specs.Prelude.{◌≡◌, ◌<◌, ℕ, suc, length, Bool, true, false, ◌&&◌, ◌==◌, nat_lt, int_le, if◌then◌else◌, List, [], ◌∷◌, ℤ, pos, negsuc, slice_get, Option, Some, None, is_some}
 use Rattle.std.specs.List.{list_all}
 use Rattle.pipe_model.specs.declared.step.Seen.{Seen}
 use Rattle.pipe_model.specs.declared.step.Seen.TheVariants.{Up, Saw, SawEnd, SawAllEnd, Took, Put, Refused, Cut, Primed, Ended}
@@ -35,6 +35,21 @@ in_door d s i = joined (slice_get (inputs_of (slice_get d.doors s)) i)
 
 abbrev pub out_door : DeskState → ℕ → ℕ → Option ℕ
 out_door d s o = joined (slice_get (outputs_of (slice_get d.doors s)) o)
+
+-- the door leads to one of so many wires, if it leads anywhere
+abbrev pub LeadsBelow : ℕ → Option ℕ → Type 0
+LeadsBelow wires None = Unit {0}
+LeadsBelow wires (Some j) = j < wires
+
+-- so does each of these
+abbrev pub LeadBelow : ℕ → List (Option ℕ) → Type 0
+LeadBelow wires doors = (k : ℕ) → LeadsBelow wires (joined (slice_get doors k))
+
+-- each of so many strands has doors, and they lead to so many wires
+pub record IsJoined (strands wires : ℕ) (doors : List DoorsState) : Type 0 where
+  pub count : length doors ≡ strands
+  pub ins : (s : ℕ) → LeadBelow wires (inputs_of (slice_get doors s))
+  pub outs : (s : ℕ) → LeadBelow wires (outputs_of (slice_get doors s))
 
 -- Sights
 

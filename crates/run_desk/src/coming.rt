@@ -1,5 +1,5 @@
 //! What a strand that comes home does to the desk.
-ghost use Rattle.std.specs.Prelude.{◌≡◌, ℕ, true, IfOk, OnErr};
+ghost use Rattle.std.specs.Prelude.{◌≡◌, ◌<◌, ℕ, true, length, IfOk, OnErr};
 ghost use Rattle.run_desk.specs.declared.seat.Ask.TheVariants as Now;
 ghost use Rattle.run_desk.specs.Turns.{desk_at_home, desk_at_home_writing, unit_at_home, CanAsk, CanHold, IsHold, CanCome, HasCome, is_new, writes_new, bare, bare_out};
 ghost use Rattle.run_desk.specs.Telling as Telling;
@@ -22,7 +22,8 @@ impl Desk {
         strand: u32,
         want: &mut Want,
     ) -> Result<(), NoMemory>
-        requires { CanCome self.old pool.old strand want.old }
+        requires strand { strand < length self.old.seats }
+        requires can { CanCome self.old pool.old strand want.old }
         ensures home { IfOk result (λ done. HasCome self.old pool.old strand want.old self.new pool.new) }
         ensures bare { want.new ≡ bare want.old }
         ensures err { OnErr result (self.new ≡ self.old) }
@@ -47,7 +48,8 @@ impl Desk {
 
     // A strand that writes nothing.
     fn ask(&mut self, strand: u32, ask: Ask)
-        requires { CanAsk self.old strand ask }
+        requires strand { strand < length self.old.seats }
+        requires can { CanAsk self.old strand ask }
         ensures { self.new ≡ desk_at_home self.old strand ask }
     {
         self.ask_unit(strand, ask);
@@ -57,6 +59,7 @@ impl Desk {
     // One that writes a record on an output.
     #[inline(always)]
     fn write(&mut self, pool: &mut Pool, strand: u32, o: u16, out: &mut Out) -> Result<(), NoMemory>
+        requires strand { strand < length self.old.seats }
         requires ask { CanAsk self.old strand (Now.Write o) }
         requires hold { CanHold self.old pool.old strand out.old }
         ensures ok { IfOk result (λ done. (grip : ℕ) × IsHold self.old pool.old strand out.old grip pool.new × (self.new ≡ desk_at_home_writing self.old strand o grip)) }
@@ -80,6 +83,7 @@ impl Desk {
         out: &mut Out,
         door: Option<u32>,
     ) -> Result<(), NoMemory>
+        requires strand { strand < length self.old.seats }
         requires door { door ≡ Telling.out_door self.old strand o }
         requires ask { CanAsk self.old strand (Now.Write o) }
         requires hold { CanHold self.old pool.old strand out.old }
@@ -98,7 +102,8 @@ impl Desk {
     // A hold on what is to be written.
     #[inline(always)]
     fn hold(&self, pool: &mut Pool, strand: u32, out: &mut Out) -> Result<Grip, NoMemory>
-        requires { CanHold self.now pool.old strand out.old }
+        requires strand { strand < length self.now.seats }
+        requires can { CanHold self.now pool.old strand out.old }
         ensures hold { IfOk result (λ grip. IsHold self.now pool.old strand out.old grip pool.new) }
         ensures bare { out.new ≡ bare_out out.old }
         ensures err { OnErr result (pool.new ≡ pool.old) }

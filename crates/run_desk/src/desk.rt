@@ -1,4 +1,4 @@
-ghost use Rattle.std.specs.Prelude.{◌≡◌, length, slice_get};
+ghost use Rattle.std.specs.Prelude.{◌≡◌, ◌<◌, Some, length, slice_get};
 ghost use Rattle.run_desk.specs.Telling as Telling;
 
 use crate::doors::Doors;
@@ -9,7 +9,8 @@ use record_pool::Grip;
 use std::marker::Model;
 
 /// What is kept of a run, and all that a licence rests on: the seats and doors of the strands, what they saw last on
-/// each input, the wires of the links, and how far each strand is at each commit level.
+/// each input, the wires of the links, and how far each strand is at each commit level. Who has a seat has doors, and
+/// what they lead to is there.
 pub struct Desk {
     pub(crate) seats: Vec<Seat>,
     pub(crate) wires: Vec<Wire>,
@@ -19,7 +20,9 @@ pub struct Desk {
 }
 
 impl Model for Desk {
+    ghost use Rattle.std.specs.Prelude.{length};
     ghost use Rattle.run_desk.specs.Desk.{DeskState};
+    ghost use Rattle.run_desk.specs.Telling.{IsJoined};
 
     ghost Value = { DeskState };
 
@@ -30,6 +33,8 @@ impl Model for Desk {
       doors = desk.doors.items;
       unit = desk.unit;
     } };
+
+    ghost invariant = { λ desk. IsJoined (length desk.seats.items) (length desk.wires.items) desk.doors.items };
 }
 
 impl Desk {
@@ -42,6 +47,7 @@ impl Desk {
         doors: Vec<Doors>,
         unit: Unit,
     ) -> Desk
+        requires { Telling.IsJoined (length seats.items) (length wires.items) doors.items }
         ensures { result ≡ record { seats = seats.items; wires = wires.items; sights = sights.items; doors = doors.items; unit = unit } }
     {
         Desk {
@@ -70,52 +76,46 @@ impl Desk {
 
     /// The number of the link at a strand's input.
     pub fn in_door(&self, strand: u32, i: u16) -> Option<u32>
-        ensures { result ≡ Telling.in_door self.now strand i }
+        requires { strand < length self.now.seats }
+        ensures door { result ≡ Telling.in_door self.now strand i }
+        ensures there { Telling.LeadsBelow (length self.now.wires) result }
     {
-        match self.doors.get(strand as usize) {
-            None => None,
-            Some(doors) => doors.input(i),
-        }
+        self.doors[strand as usize].input(i)
     }
 
     // The number of the sight of a strand's input.
     pub(crate) fn sight_door(&self, strand: u32, i: u16) -> Option<usize>
+        requires { strand < length self.now.seats }
         ensures { result ≡ Telling.sight_door self.now strand i }
     {
-        match self.doors.get(strand as usize) {
-            None => None,
-            Some(doors) => doors.sight(i),
-        }
+        self.doors[strand as usize].sight(i)
     }
 
     /// The number of the link at a strand's output.
     pub fn out_door(&self, strand: u32, o: u16) -> Option<u32>
-        ensures { result ≡ Telling.out_door self.now strand o }
+        requires { strand < length self.now.seats }
+        ensures door { result ≡ Telling.out_door self.now strand o }
+        ensures there { Telling.LeadsBelow (length self.now.wires) result }
     {
-        match self.doors.get(strand as usize) {
-            None => None,
-            Some(doors) => doors.output(o),
-        }
+        self.doors[strand as usize].output(o)
     }
 
     /// The numbers of the links at all of a strand's inputs.
     pub fn inputs(&self, strand: u32) -> &[Option<u32>]
-        ensures { result.now ≡ Telling.inputs_of (slice_get self.now.doors strand) }
+        requires { strand < length self.now.seats }
+        ensures doors { result.now ≡ Telling.inputs_of (slice_get self.now.doors strand) }
+        ensures there { Telling.LeadBelow (length self.now.wires) result.now }
     {
-        match self.doors.get(strand as usize) {
-            None => &[],
-            Some(doors) => doors.inputs(),
-        }
+        self.doors[strand as usize].inputs()
     }
 
     /// The numbers of the links at all of a strand's outputs.
     pub fn outputs(&self, strand: u32) -> &[Option<u32>]
-        ensures { result.now ≡ Telling.outputs_of (slice_get self.now.doors strand) }
+        requires { strand < length self.now.seats }
+        ensures doors { result.now ≡ Telling.outputs_of (slice_get self.now.doors strand) }
+        ensures there { Telling.LeadBelow (length self.now.wires) result.now }
     {
-        match self.doors.get(strand as usize) {
-            None => &[],
-            Some(doors) => doors.outputs(),
-        }
+        self.doors[strand as usize].outputs()
     }
 
     pub(crate) fn input_count(&self, strand: u32) -> u16
@@ -137,9 +137,10 @@ impl Desk {
         }
     }
 
-    pub(crate) fn seat(&self, strand: u32) -> Option<Seat>
-        ensures { result ≡ slice_get self.now.seats strand }
+    pub(crate) fn seat(&self, strand: u32) -> Seat
+        requires { strand < length self.now.seats }
+        ensures { slice_get self.now.seats strand ≡ Some result }
     {
-        self.seats.get(strand as usize).copied()
+        self.seats[strand as usize]
     }
 }

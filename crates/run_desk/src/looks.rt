@@ -1,5 +1,5 @@
 //! What a wire, a level or an ask tells of the event that may come.
-ghost use Rattle.std.specs.Prelude.{◌≡◌};
+ghost use Rattle.std.specs.Prelude.{◌≡◌, length};
 ghost use Rattle.run_desk.specs.Telling as Telling;
 
 use crate::seat::Ask;
@@ -7,14 +7,12 @@ use connectors::Wire;
 use pipe_model::Seen;
 
 pub(crate) fn shows(wires: &[Wire], door: Option<u32>) -> bool
+    requires { Telling.LeadsBelow (length wires.now) door }
     ensures { result ≡ Telling.shows (Telling.through wires.now door) }
 {
     match door {
         None => false,
-        Some(j) => match wires.get(j as usize) {
-            None => false,
-            Some(wire) => wire.at_hand().is_some(),
-        },
+        Some(j) => wires[j as usize].at_hand().is_some(),
     }
 }
 
@@ -31,26 +29,28 @@ pub(crate) fn is_over(wires: &[Wire], door: Option<u32>) -> bool
 }
 
 pub(crate) fn can_put(wires: &[Wire], door: Option<u32>) -> bool
+    requires { Telling.LeadsBelow (length wires.now) door }
     ensures { result ≡ Telling.can_put (Telling.through wires.now door) }
 {
     match door {
         None => false,
-        Some(j) => match wires.get(j as usize) {
-            None => false,
-            Some(wire) => wire.puts() < wire.tooks(),
-        },
+        Some(j) => {
+            let wire = &wires[j as usize];
+            wire.puts() < wire.tooks()
+        }
     }
 }
 
 pub(crate) fn can_refuse(wires: &[Wire], door: Option<u32>) -> bool
+    requires { Telling.LeadsBelow (length wires.now) door }
     ensures { result ≡ Telling.can_refuse (Telling.through wires.now door) }
 {
     match door {
         None => false,
-        Some(j) => match wires.get(j as usize) {
-            None => false,
-            Some(wire) => wire.in_closed() && wire.puts() == wire.tooks(),
-        },
+        Some(j) => {
+            let wire = &wires[j as usize];
+            wire.in_closed() && wire.puts() == wire.tooks()
+        }
     }
 }
 

@@ -18,7 +18,8 @@ use record_pool::{Grip, Pool};
 impl Desk {
     /// The bytes of the record that a strand saw last on an input, and none where it saw none.
     pub fn seen_bytes<'a>(&self, pool: &'a Pool, strand: u32, i: u16) -> &'a [u8]
-        requires { IsHeldIn pool.now (sight_through self.now.sights (Telling.sight_door self.now strand i)) }
+        requires strand { strand < length self.now.seats }
+        requires held { IsHeldIn pool.now (sight_through self.now.sights (Telling.sight_door self.now strand i)) }
         ensures { result.now ≡ option_map_or (bytes_at pool.now) (sight_through self.now.sights (Telling.sight_door self.now strand i)) [] }
     {
         bytes_seen(&self.sights, pool, self.sight_door(strand, i))
@@ -29,14 +30,17 @@ impl Desk {
         requires { IsHeldIn pool.now (hand_on (Telling.wire_in self.now strand i)) }
         ensures { result ≡ length (option_map_or (bytes_at pool.now) (hand_on (Telling.wire_in self.now strand i)) []) }
     {
-        size_on(&self.wires, pool, self.in_door(strand, i))
+        match self.doors.get(strand as usize) {
+            None => 0,
+            Some(doors) => size_on(&self.wires, pool, doors.input(i)),
+        }
     }
 
     /// Whether a strand has ended.
     pub fn has_ended(&self, strand: u32) -> bool
         ensures { result ≡ Telling.ended_at self.now strand }
     {
-        match self.seat(strand) {
+        match self.seats.get(strand as usize) {
             None => false,
             Some(seat) => seat.has_ended,
         }
@@ -46,7 +50,10 @@ impl Desk {
     pub fn asks_nothing(&self, strand: u32) -> bool
         ensures { result ≡ Telling.asks_nothing (Telling.ask_at self.now strand) }
     {
-        matches!(self.ask_of(strand), Ask::Nothing)
+        match self.seats.get(strand as usize) {
+            None => true,
+            Some(seat) => matches!(seat.ask, Ask::Nothing),
+        }
     }
 
     /// The code with which a strand ended, and none before.

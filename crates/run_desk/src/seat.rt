@@ -1,4 +1,4 @@
-ghost use Rattle.std.specs.Prelude.{◌≡◌, Some};
+ghost use Rattle.std.specs.Prelude.{◌≡◌, ◌<◌, Some, length};
 ghost use Rattle.run_desk.specs.Turns.{seat_after, list_changed_behind, asking};
 
 use pipe_model::Seen;
@@ -42,19 +42,17 @@ pub struct Seat {
 }
 
 pub(crate) fn ask_seat(seats: &mut Vec<Seat>, strand: u32, ask: Ask)
+    requires { strand < length seats.old.items }
     ensures { seats.new.items ≡ list_changed_behind seats.old.items (asking ask) (Some strand) }
 {
-    if let Some(seat) = seats.get_mut(strand as usize) {
-        seat.ask = ask;
-    }
+    seats[strand as usize].ask = ask;
 }
 
 pub(crate) fn change_seat(seats: &mut Vec<Seat>, strand: u32, seen: Seen)
+    requires { strand < length seats.old.items }
     ensures { seats.new.items ≡ list_changed_behind seats.old.items (seat_after seen) (Some strand) }
 {
-    if let Some(seat) = seats.get_mut(strand as usize) {
-        seat.note(seen);
-    }
+    seats[strand as usize].note(seen);
 }
 
 impl Seat {

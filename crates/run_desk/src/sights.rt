@@ -1,7 +1,7 @@
 ghost use Rattle.std.specs.Prelude.{◌≡◌, ◌<◌, ℕ, Some, length};
 ghost use Rattle.record_pool.specs.Places.{IsHeld, holders_at, shared};
 ghost use Rattle.connectors.specs.WireState.{IsHeldIn, given_in};
-ghost use Rattle.run_desk.specs.Telling.{numbered, sight_through, through};
+ghost use Rattle.run_desk.specs.Telling.{numbered, sight_through, through, LeadsBelow};
 ghost use Rattle.run_desk.specs.Turns.{list_changed_behind, hand_on, HasSight, sights_seen, pool_seen, no_sight, sights_without, pool_without, CanForget, CanShare, IsShare};
 
 use connectors::Wire;
@@ -17,6 +17,7 @@ pub(crate) fn see_at(
     door: Option<u32>,
     place: Option<usize>,
 )
+    requires leads { LeadsBelow (length wires.now) door }
     requires there { (grip : ℕ) → hand_on (through wires.now door) ≡ Some grip → HasSight sights.old.items place }
     requires held { (grip : ℕ) → hand_on (through wires.now door) ≡ Some grip → IsHeld pool.old grip }
     requires room { (grip : ℕ) → hand_on (through wires.now door) ≡ Some grip → holders_at pool.old grip < 4294967295 }
@@ -25,12 +26,10 @@ pub(crate) fn see_at(
     ensures pool { pool.new ≡ pool_seen pool.old (sight_through sights.old.items place) (hand_on (through wires.now door)) }
 {
     if let Some(j) = door {
-        if let Some(wire) = wires.get(j as usize) {
-            if let Some(grip) = wire.at_hand() {
-                match place {
-                    None => unreachable!(),
-                    Some(n) => look(&mut sights[n], pool, grip),
-                }
+        if let Some(grip) = wires[j as usize].at_hand() {
+            match place {
+                None => unreachable!(),
+                Some(n) => look(&mut sights[n], pool, grip),
             }
         }
     }
@@ -88,9 +87,9 @@ pub(crate) fn hold_of(sights: &[Option<Grip>], pool: &mut Pool, door: Option<usi
 {
     match door {
         None => unreachable!(),
-        Some(n) => match sights.get(n) {
-            Some(Some(grip)) => pool.share(grip),
-            _ => unreachable!(),
+        Some(n) => match &sights[n] {
+            Some(grip) => pool.share(grip),
+            None => unreachable!(),
         },
     }
 }

@@ -1,5 +1,5 @@
 //! What a desk tells of the event that a strand may have.
-ghost use Rattle.std.specs.Prelude.{◌≡◌, ◌&&◌, ◌||◌, ◌==◌, slice_get, true, is_some};
+ghost use Rattle.std.specs.Prelude.{◌≡◌, ◌<◌, ◌&&◌, ◌||◌, ◌==◌, length, slice_get, true, is_some};
 ghost use Rattle.run_desk.specs.Telling as Telling;
 
 use crate::desk::Desk;
@@ -15,6 +15,9 @@ impl Desk {
     pub fn seen_at(&self, strand: u32, stream: u16) -> Option<Seen>
         ensures { result ≡ Telling.seen_at self.now strand stream }
     {
+        if strand as usize >= self.seats.len() {
+            return None;
+        }
         self.seen_by(strand, stream, self.ask_of(strand))
     }
 
@@ -22,6 +25,9 @@ impl Desk {
     pub fn ready_stream(&self, strand: u32) -> Option<u16>
         ensures { Telling.IsFirst self.now strand result }
     {
+        if strand as usize >= self.seats.len() {
+            return None;
+        }
         let (stream, _) = self.ready_event(strand)?;
         Some(stream)
     }
@@ -29,6 +35,7 @@ impl Desk {
     /// The least stream on which a strand may go on, with what it would be told there.
     #[inline(always)]
     pub fn ready_event(&self, strand: u32) -> Option<(u16, Seen)>
+        requires { strand < length self.now.seats }
         ensures { Telling.IsFirstEvent self.now strand result }
     {
         match self.ask_of(strand) {
@@ -44,7 +51,8 @@ impl Desk {
     #[tactic(auto, using(crate::proofs::Streams::wide_none, crate::proofs::Streams::next_none))]
     #[inline(never)]
     fn wide_event(&self, strand: u32) -> Option<(u16, Seen)>
-        requires { Telling.is_wide (Telling.ask_at self.now strand) ≡ true }
+        requires wide { Telling.is_wide (Telling.ask_at self.now strand) ≡ true }
+        requires strand { strand < length self.now.seats }
         ensures { Telling.IsFirstEvent self.now strand result }
     {
         let count = self.input_count(strand);
@@ -62,6 +70,7 @@ impl Desk {
     }
 
     fn seen_by(&self, strand: u32, stream: u16, ask: Ask) -> Option<Seen>
+        requires { strand < length self.now.seats }
         ensures { result ≡ Telling.seen_by self.now strand stream ask }
     {
         match ask {
@@ -80,6 +89,7 @@ impl Desk {
     }
 
     fn read_seen(&self, strand: u32, i: u16) -> Option<Seen>
+        requires { strand < length self.now.seats }
         ensures { result ≡ Telling.read_seen i (Telling.shows (Telling.wire_in self.now strand i)) (Telling.is_over (Telling.wire_in self.now strand i)) }
     {
         let door = self.in_door(strand, i);
@@ -93,6 +103,7 @@ impl Desk {
     }
 
     fn any_seen(&self, strand: u32, i: u16) -> Option<Seen>
+        requires { strand < length self.now.seats }
         ensures { result ≡ Telling.any_seen i (Telling.shows (Telling.wire_in self.now strand i)) ((i == 0) && Telling.all_over self.now strand) }
     {
         if self.shows(self.in_door(strand, i)) {
@@ -105,6 +116,7 @@ impl Desk {
     }
 
     fn gate_seen(&self, strand: u32, i: u16) -> Option<Seen>
+        requires { strand < length self.now.seats }
         ensures { result ≡ Telling.read_seen i (Telling.shows (Telling.wire_in self.now strand i)) ((i == 0) && Telling.is_over (Telling.wire_in self.now strand i)) }
     {
         let door = self.in_door(strand, i);
@@ -118,6 +130,7 @@ impl Desk {
     }
 
     fn write_seen(&self, strand: u32, o: u16) -> Option<Seen>
+        requires { strand < length self.now.seats }
         ensures { result ≡ Telling.write_seen o (Telling.can_put (Telling.wire_out self.now strand o)) (Telling.can_refuse (Telling.wire_out self.now strand o)) }
     {
         let door = self.out_door(strand, o);
@@ -132,12 +145,14 @@ impl Desk {
 
     /// Whether what is offered behind a door may be put, or refused.
     pub fn may_write(&self, door: Option<u32>) -> bool
+        requires { Telling.LeadsBelow (length self.now.wires) door }
         ensures { result ≡ (Telling.can_put (Telling.through self.now.wires door) || Telling.can_refuse (Telling.through self.now.wires door)) }
     {
         self.can_put(door) || self.can_refuse(door)
     }
 
     fn shows(&self, door: Option<u32>) -> bool
+        requires { Telling.LeadsBelow (length self.now.wires) door }
         ensures { result ≡ Telling.shows (Telling.through self.now.wires door) }
     {
         shows(&self.wires, door)
@@ -150,12 +165,14 @@ impl Desk {
     }
 
     fn can_put(&self, door: Option<u32>) -> bool
+        requires { Telling.LeadsBelow (length self.now.wires) door }
         ensures { result ≡ Telling.can_put (Telling.through self.now.wires door) }
     {
         can_put(&self.wires, door)
     }
 
     fn can_refuse(&self, door: Option<u32>) -> bool
+        requires { Telling.LeadsBelow (length self.now.wires) door }
         ensures { result ≡ Telling.can_refuse (Telling.through self.now.wires door) }
     {
         can_refuse(&self.wires, door)
@@ -174,7 +191,7 @@ impl Desk {
     fn primed(&self, strand: u32) -> Option<bool>
         ensures { result ≡ Telling.primed_at self.now strand }
     {
-        let seat = self.seat(self.first_of(strand))?;
+        let seat = self.seats.get(self.first_of(strand) as usize)?;
         if seat.has_seen {
             Some(true)
         } else if seat.has_ended {
@@ -199,20 +216,17 @@ impl Desk {
 
     /// Whether a strand has seen a record, or ended without one. Then it is settled what those are told that wait for it.
     pub fn is_primer(&self, strand: u32) -> bool
+        requires { strand < length self.now.seats }
         ensures { result ≡ is_some (Telling.primed_of (slice_get self.now.seats strand)) }
     {
-        match self.seat(strand) {
-            None => false,
-            Some(seat) => seat.has_seen || seat.has_ended,
-        }
+        let seat = self.seat(strand);
+        seat.has_seen || seat.has_ended
     }
 
-    pub(crate) fn ask_of(&self, strand: u32) -> Ask
+    fn ask_of(&self, strand: u32) -> Ask
+        requires { strand < length self.now.seats }
         ensures { result ≡ Telling.ask_at self.now strand }
     {
-        match self.seat(strand) {
-            None => Ask::Nothing,
-            Some(seat) => seat.ask,
-        }
+        self.seat(strand).ask
     }
 }

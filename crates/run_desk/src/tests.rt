@@ -1,4 +1,5 @@
-ghost use Rattle.std.specs.Prelude.{◌≡◌, ◌∷◌, [], MatchResult};
+ghost use Rattle.std.specs.Prelude.{◌≡◌, ◌∷◌, [], IfOk, MatchResult};
+ghost use Rattle.run_desk.specs.Telling.{IsJoined};
 
 use crate::{Ask, Desk, Doors, Seat, tells_the_licence, wants_early_levels};
 use commit_levels::Unit;
@@ -17,8 +18,22 @@ const fn seat(ask: Ask) -> Seat {
 }
 
 // The doors of a strand whose input and output are these links.
-fn doors(alloc: Global, input: Option<u32>, output: Option<u32>) -> Result<Doors, NoMemory> {
+fn doors(alloc: Global, input: Option<u32>, output: Option<u32>) -> Result<Doors, NoMemory>
+    ensures inputs { IfOk result (λ doors. doors.inputs ≡ input ∷ []) }
+    ensures outputs { IfOk result (λ doors. doors.outputs ≡ output ∷ []) }
+{
     Ok(Doors::new(vec![in alloc; input]?, vec![in alloc; output]?, 0, 0))
+}
+
+// The doors of so many strands with no input and no output.
+fn no_doors(alloc: Global, count: usize) -> Result<Vec<Doors>, NoMemory>
+    ensures { IfOk result (λ doors. IsJoined count 0 doors.items) }
+{
+    let mut doors = Vec::new(alloc);
+    for _ in 0..count {
+        doors.push(Doors::new(Vec::new(alloc), Vec::new(alloc), 0, 0))?;
+    }
+    Ok(doors)
 }
 
 // What a strand that writes a record and one that looks at any input are told, before or after the record was taken.
@@ -93,13 +108,8 @@ fn strands_go_on_alone(rt: HostRuntime) -> Result<(), Fail> {
         seat(Ask::Nothing),
     ]?;
     let unit = Unit::new(alloc, 0)?;
-    let desk = Desk::new(
-        seats,
-        Vec::new(alloc),
-        Vec::new(alloc),
-        Vec::new(alloc),
-        unit,
-    );
+    let doors = no_doors(alloc, 6)?;
+    let desk = Desk::new(seats, Vec::new(alloc), Vec::new(alloc), doors, unit);
     assert_eq!(rt;
         [
             desk.seen_at(0, 0),
@@ -134,14 +144,9 @@ fn a_strand_goes_out_and_comes_home(rt: HostRuntime) -> Result<(), Fail> {
     let alloc = rt.alloc();
     let seats = vec![in alloc; seat(Ask::Read(0))]?;
     let unit = Unit::new(alloc, 1)?;
+    let doors = no_doors(alloc, 1)?;
     let mut pool = Pool::new(alloc);
-    let mut desk = Desk::new(
-        seats,
-        Vec::new(alloc),
-        Vec::new(alloc),
-        Vec::new(alloc),
-        unit,
-    );
+    let mut desk = Desk::new(seats, Vec::new(alloc), Vec::new(alloc), doors, unit);
     let first = desk.seen_at(0, 0);
     desk.make(&mut pool, 0, Seen::SawEnd(0));
     let out = desk.seen_at(0, 0);
@@ -185,7 +190,8 @@ fn a_run_begins_with_nothing(rt: HostRuntime) -> Result<(), Fail> {
 #[test]
 fn a_sight_is_read_and_given_back(rt: HostRuntime) -> Result<(), Fail> {
     let alloc = rt.alloc();
-    let doors = vec![in alloc; doors(alloc, Some(0), None)?]?;
+    let seats = vec![in alloc; seat(Ask::Nothing)]?;
+    let doors = vec![in alloc; doors(alloc, None, None)?]?;
     let unit = Unit::new(alloc, 1)?;
     let mut sights = Vec::with_capacity(alloc, 1)?;
     let mut pool = Pool::new(alloc);
@@ -195,7 +201,7 @@ fn a_sight_is_read_and_given_back(rt: HostRuntime) -> Result<(), Fail> {
         return Err("no memory")?;
     };
     sights.push_reserved(Some(grip));
-    let desk = Desk::new(Vec::new(alloc), Vec::new(alloc), sights, doors, unit);
+    let desk = Desk::new(seats, Vec::new(alloc), sights, doors, unit);
     let is_read = desk.seen_bytes(&pool, 0, 0) == b"one".as_slice();
     let used = pool.in_use();
     desk.drain(&mut pool);

@@ -15,7 +15,8 @@ impl Desk {
     /// What a turn does where a strand is told this: the strand is out then, and asks for nothing. It takes no memory.
     #[inline(always)]
     pub fn make(&mut self, pool: &mut Pool, strand: u32, seen: Seen)
-        requires { CanTurn self.old pool.old strand seen }
+        requires strand { strand < length self.old.seats }
+        requires can { CanTurn self.old pool.old strand seen }
         ensures desk { self.new ≡ desk_after_turn self.old strand seen }
         ensures pool { pool.new ≡ pool_after_turn self.old pool.old strand seen }
     {
@@ -26,7 +27,8 @@ impl Desk {
     // The same, but for the seat.
     #[inline(always)]
     fn move_on(&mut self, pool: &mut Pool, strand: u32, seen: Seen)
-        requires { CanTurn self.old pool.old strand seen }
+        requires strand { strand < length self.old.seats }
+        requires can { CanTurn self.old pool.old strand seen }
         ensures desk { self.new ≡ rest_after_turn self.old strand seen }
         ensures pool { pool.new ≡ pool_after_turn self.old pool.old strand seen }
     {
@@ -56,6 +58,7 @@ impl Desk {
 
     #[cold]
     fn end(&mut self, pool: &mut Pool, strand: u32, code: i32)
+        requires strand { strand < length self.old.seats }
         requires member { strand < length self.old.unit }
         requires live { IsLive self.old.unit strand }
         requires sights { CanForget (Telling.sights_of (slice_get self.old.doors strand)) self.old.sights pool.old }
@@ -68,14 +71,14 @@ impl Desk {
 
     // The ends of the wires that the strand holds are closed, and what it saw is given back.
     fn close(&mut self, pool: &mut Pool, strand: u32)
-        requires { CanForget (Telling.sights_of (slice_get self.old.doors strand)) self.old.sights pool.old }
+        requires strand { strand < length self.old.seats }
+        requires sights { CanForget (Telling.sights_of (slice_get self.old.doors strand)) self.old.sights pool.old }
         ensures desk { self.new ≡ desk_without_ends self.old strand }
         ensures pool { pool.new ≡ pool_without (Telling.sights_of (slice_get self.old.doors strand)) self.old.sights pool.old }
     {
-        if let Some(doors) = self.doors.get(strand as usize) {
-            close_outs(&mut self.wires, doors.outputs());
-            close_ins(&mut self.wires, doors.inputs());
-            forget(&mut self.sights, pool, doors.inputs(), doors.first_sight);
-        }
+        let doors = &self.doors[strand as usize];
+        close_outs(&mut self.wires, doors.outputs());
+        close_ins(&mut self.wires, doors.inputs());
+        forget(&mut self.sights, pool, doors.inputs(), doors.first_sight);
     }
 }

@@ -1,6 +1,6 @@
-ghost use Rattle.std.specs.Prelude.{◌≡◌, ◌+◌, ◌-◌, ◌<◌, ◌^◌, Some, None, IsSome, false};
+ghost use Rattle.std.specs.Prelude.{◌≡◌, ◌+◌, ◌-◌, ◌<◌, ◌^◌, Some, None, IsSome, false, length};
 ghost use Rattle.connectors.specs.WireState.{WireState, IsHeldIn, at_hand, taken, settled, cleared, offered, given_in};
-ghost use Rattle.run_desk.specs.Telling.{through};
+ghost use Rattle.run_desk.specs.Telling.{through, LeadsBelow};
 ghost use Rattle.run_desk.specs.Turns.{offers, list_changed_behind, offer_on, out_shut, in_shut, wires_changed};
 
 use connectors::Wire;
@@ -11,32 +11,31 @@ pub(crate) fn take_at(wires: &mut Vec<Wire>, pool: &mut Pool, door: Option<u32>)
     requires hand { (wire : WireState) → through wires.old.items door ≡ Some wire → IsSome (at_hand wire) }
     requires held { (wire : WireState) → through wires.old.items door ≡ Some wire → IsHeldIn pool.old wire.offer }
     requires count { (wire : WireState) → through wires.old.items door ≡ Some wire → wire.tooks < 2 ^ 64 - 1 }
+    requires there { LeadsBelow (length wires.old.items) door }
     ensures wires { wires.new.items ≡ list_changed_behind wires.old.items taken door }
     ensures pool { pool.new ≡ pool.old }
 {
     if let Some(j) = door {
-        if let Some(wire) = wires.get_mut(j as usize) {
-            wire.take(pool);
-        }
+        wires[j as usize].take(pool);
     }
 }
 
 // The record behind a door, which was taken, is put.
 pub(crate) fn settle_at(wires: &mut Vec<Wire>, pool: &mut Pool, door: Option<u32>)
+    requires there { LeadsBelow (length wires.old.items) door }
     requires taken { (wire : WireState) → through wires.old.items door ≡ Some wire → wire.tooks ≡ wire.puts + 1 }
     requires held { (wire : WireState) → through wires.old.items door ≡ Some wire → IsHeldIn pool.old wire.offer }
     ensures wires { wires.new.items ≡ list_changed_behind wires.old.items settled door }
     ensures pool { pool.new ≡ given_in pool.old (offer_on (through wires.old.items door)) }
 {
     if let Some(j) = door {
-        if let Some(wire) = wires.get_mut(j as usize) {
-            wire.settle(pool);
-        }
+        wires[j as usize].settle(pool);
     }
 }
 
 // The offer behind a door was refused.
 pub(crate) fn withdraw_at(wires: &mut Vec<Wire>, pool: &mut Pool, door: Option<u32>)
+    requires there { LeadsBelow (length wires.old.items) door }
     requires offer { (wire : WireState) → through wires.old.items door ≡ Some wire → IsSome wire.offer }
     requires open { (wire : WireState) → through wires.old.items door ≡ Some wire → wire.tooks ≡ wire.puts }
     requires held { (wire : WireState) → through wires.old.items door ≡ Some wire → IsHeldIn pool.old wire.offer }
@@ -44,9 +43,7 @@ pub(crate) fn withdraw_at(wires: &mut Vec<Wire>, pool: &mut Pool, door: Option<u
     ensures pool { pool.new ≡ given_in pool.old (offer_on (through wires.old.items door)) }
 {
     if let Some(j) = door {
-        if let Some(wire) = wires.get_mut(j as usize) {
-            wire.withdraw(pool);
-        }
+        wires[j as usize].withdraw(pool);
     }
 }
 
@@ -59,10 +56,7 @@ pub(crate) fn offer_at(wires: &mut Vec<Wire>, grip: Grip, door: Option<u32>)
 {
     match door {
         None => unreachable!(),
-        Some(j) => match wires.get_mut(j as usize) {
-            None => unreachable!(),
-            Some(wire) => wire.offer(grip),
-        },
+        Some(j) => wires[j as usize].offer(grip),
     }
 }
 

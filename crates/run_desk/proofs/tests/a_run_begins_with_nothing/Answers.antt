@@ -1,5 +1,5 @@
 -- The net is a well-formed one, and what its desk holds is held in the pool.
-use Rattle.std.proofs.Common.{rules, ◌≡◌, [], ◌∷◌, true, List, refl, sym, subst}
+use Rattle.std.proofs.Common.{rules, arith, length, ◌≡◌, [], ◌∷◌, true, List, refl, sym, subst}
 use Rattle.pipe_model.specs.declared.kind.Kind.TheVariants.{ConsoleOut}
 use Rattle.pipe_model.specs.declared.net.Link.{Link}
 use Rattle.pipe_model.specs.declared.net.Net.{Net}
@@ -28,4 +28,7 @@ size_at_hand-size-requires g c =
 pub seen_bytes-seen-requires : goal.seen_bytes-seen-requires
 seen_bytes-seen-requires g c =
     let d = c.in_ok-desk.desk in
-    rw c.new-pool.ensures (sights_held d.wires d.sights empty_pool c.in_ok-desk.ensures.pooled (sight_door d 0 0))
+    record {
+      strand = let seats = c.in_ok-desk.ensures.kept.laid.seat_count in let one : length c.new-net.result.strands ≡ 1 = search rules in omega (arith, seats, one);
+      held = rw c.new-pool.ensures (sights_held d.wires d.sights empty_pool c.in_ok-desk.ensures.pooled (sight_door d 0 0));
+    }

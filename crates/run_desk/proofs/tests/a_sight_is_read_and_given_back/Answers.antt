@@ -23,11 +23,11 @@ held_lists wires sights now grip no_wires one pooled = rw (no_wires, one) pooled
 pub drain-requires : goal.drain-requires
 drain-requires g c =
     let pooled = one_held c.new-pool.result c.put.new.self _ c.in-Ok.grip c.new-pool.ensures c.in-Ok.ensures.put in
-    rw c.new-desk.ensures (held_lists c.new-3.result.items c.push_reserved.new.self.items c.put.new.self c.in-Ok.grip c.new-3.ensures.items (search rules) pooled)
+    rw c.new-desk.ensures (held_lists c.new-2.result.items c.push_reserved.new.self.items c.put.new.self c.in-Ok.grip c.new-2.ensures.items (search rules) pooled)
 
-pub seen_bytes-requires : goal.seen_bytes-requires
-seen_bytes-requires g c =
+pub seen_bytes-requires-clause-held : goal.seen_bytes-requires-clause-held
+seen_bytes-requires-clause-held g c =
     let pooled = one_held c.new-pool.result c.put.new.self _ c.in-Ok.grip c.new-pool.ensures c.in-Ok.ensures.put in
-    let held : IsPooled c.new-3.result.items c.push_reserved.new.self.items c.put.new.self =
-    held_lists c.new-3.result.items c.push_reserved.new.self.items c.put.new.self c.in-Ok.grip c.new-3.ensures.items (search rules) pooled in
-    rw c.new-desk.ensures (sights_held c.new-3.result.items c.push_reserved.new.self.items c.put.new.self held (joined (slice_get (sights_of (slice_get c.in_ok-doors-2.doors.items 0)) 0)))
+    let held : IsPooled c.new-2.result.items c.push_reserved.new.self.items c.put.new.self =
+    held_lists c.new-2.result.items c.push_reserved.new.self.items c.put.new.self c.in-Ok.grip c.new-2.ensures.items (search rules) pooled in
+    rw c.new-desk.ensures (sights_held c.new-2.result.items c.push_reserved.new.self.items c.put.new.self held (joined (slice_get (sights_of (slice_get c.in_ok-doors-2.doors.items 0)) 0)))

@@ -5,7 +5,7 @@ use Rattle.core_machine.specs.Actors.{gone_out}
 use Rattle.core_machine.specs.Machine.{Machine, licence_of, turned}
 use Rattle.core_machine.specs.Jobs.{JobStands}
 use Rattle.core_machine.specs.Sound.{IsSound}
-use Rattle.core_machine.proofs.Sounds.{in_use, in_range, out_room, its_stage, is_live, can_turn, sound_turned, job_turned}
+use Rattle.core_machine.proofs.Sounds.{out_room, its_stage, can_make, sound_turned, job_turned}
 use Rattle.core_machine.proofs.core_state.Core.go_out.Goals as goal
 
 pub send_out-stage-requires : goal.send_out-stage-requires
@@ -15,29 +15,12 @@ send_out-stage-requires g c =
     let may = subst (λ (z : Machine). licence_of z c.args.strand c.args.stream ≡ Some c.requires.may.0) (sym v) c.requires.may.1 in
     its_stage g.S.Stage.stands i.floor.net i.budget i.journal.items i.out.items i.actors.items i.floor.desk i.floor.pool c.self.invariant.0 c.args.strand c.args.stream c.requires.may.0 may
 
-pub make-requires-clause-can : goal.make-requires-clause-can
-make-requires-clause-can g c =
+pub make-requires : goal.make-requires
+make-requires g c =
     let i = c.self.inside in
     let v : ◌≡◌ {A = Machine} (record { net = i.floor.net; budget = i.budget; journal = i.journal.items; out = i.out.items; is_broken = i.is_broken }) c.args.self.now = c.self.view_is in
     let may = subst (λ (z : Machine). licence_of z c.args.strand c.args.stream ≡ Some c.requires.may.0) (sym v) c.requires.may.1 in
-    can_turn g.S.Stage.stands i.floor.net i.budget i.journal.items i.out.items i.actors.items i.floor.desk i.floor.pool c.self.invariant.0 c.args.strand c.args.stream c.requires.may.0 may c.args.seen c.requires.may.2
-
-pub make-requires-clause-live : goal.make-requires-clause-live
-make-requires-clause-live g c =
-    let i = c.self.inside in
-    let v : ◌≡◌ {A = Machine} (record { net = i.floor.net; budget = i.budget; journal = i.journal.items; out = i.out.items; is_broken = i.is_broken }) c.args.self.now = c.self.view_is in
-    let may = subst (λ (z : Machine). licence_of z c.args.strand c.args.stream ≡ Some c.requires.may.0) (sym v) c.requires.may.1 in
-    is_live g.S.Stage.stands i.floor.net i.budget i.journal.items i.out.items i.actors.items i.floor.desk i.floor.pool c.self.invariant.0 c.args.strand c.args.stream c.requires.may.0 may
-
-pub make-requires-clause-strand : goal.make-requires-clause-strand
-make-requires-clause-strand g c =
-    let i = c.self.inside in
-    let v : ◌≡◌ {A = Machine} (record { net = i.floor.net; budget = i.budget; journal = i.journal.items; out = i.out.items; is_broken = i.is_broken }) c.args.self.now = c.self.view_is in
-    let may = subst (λ (z : Machine). licence_of z c.args.strand c.args.stream ≡ Some c.requires.may.0) (sym v) c.requires.may.1 in
-    in_range g.S.Stage.stands i.floor.net i.budget i.journal.items i.out.items i.actors.items i.floor.desk i.floor.pool c.self.invariant.0 c.args.strand c.args.stream c.requires.may.0 may
-
-pub make-requires-clause-used : goal.make-requires-clause-used
-make-requires-clause-used g c = let i = c.self.inside in in_use g.S.Stage.stands i.floor.net i.budget i.journal.items i.out.items i.actors.items i.floor.desk i.floor.pool c.self.invariant.0
+    can_make g.S.Stage.stands i.floor.net i.budget i.journal.items i.out.items i.actors.items i.floor.desk i.floor.pool c.self.invariant.0 c.args.strand c.args.stream c.requires.may.0 may c.args.seen c.requires.may.2
 
 pub push_reserved-requires-2 : goal.push_reserved-requires-2
 push_reserved-requires-2 g c =

@@ -1,12 +1,22 @@
 -- A strand that neither writes nor asks for a commit level settles nothing for others.
-use Rattle.std.proofs.Common.{◌≡◌, ◌||◌, not, refl, sym, ap, subst, is_some, true, false, pos, negsuc}
-use Rattle.run_desk.specs.Turns.{HasCome}
+use Rattle.std.proofs.Common.{◌≡◌, ◌<◌, length, ◌||◌, not, refl, sym, ap, subst, is_some, true, false, pos, negsuc}
+use Rattle.run_desk.specs.Turns.{CanCome, HasCome}
 use Rattle.run_desk.specs.Telling as Telling
 use Rattle.core_machine.specs.Floor.{FloorState, IsInUse, StaysEarly}
 use Rattle.core_machine.specs.Members.{is_member}
 use Rattle.core_machine.specs.Woken.{commits}
+use Rattle.core_machine.proofs.Plays.{has_seat}
 use Rattle.core_machine.proofs.Homes.{covers_home, no_commit, no_reader}
 use Rattle.core_machine.proofs.floor.Floor.come_home.Goals as goal
+
+pub come_home-requires : goal.come_home-requires
+come_home-requires c =
+    let i = c.self.inside in
+    let v : ◌≡◌ {A = FloorState} (record { net = i.net; desk = i.desk; pool = i.pool; ready = i.ready }) c.args.self.now = c.self.view_is in
+    record {
+      strand = has_seat i.net i.desk c.args.strand (subst (λ (f : FloorState). IsInUse f.net f.desk) (sym v) c.requires.used) (subst (λ (f : FloorState). c.args.strand < length f.net.strands) (sym v) c.requires.strand);
+      can = subst (λ (f : FloorState). CanCome f.desk f.pool c.args.strand c.args.want.now) (sym v) (c.requires.can c.if-has_ended.false);
+    }
 
 pub invariant_of-self-in_default : goal.invariant_of-self-in_default
 invariant_of-self-in_default c =

@@ -6,14 +6,32 @@ use Rattle.run_desk.specs.Telling as Telling
 use Rattle.core_machine.specs.Floor.{FloorState, IsInUse, StaysEarly}
 use Rattle.core_machine.specs.Members.{is_member}
 use Rattle.core_machine.specs.Woken.{IsCovering, commits}
-use Rattle.core_machine.proofs.Homes.{covers_home, no_reader}
+use Rattle.core_machine.proofs.Homes.{covers_home, no_reader, seats_home}
+use Rattle.core_machine.proofs.Plays.{has_seat}
 use Rattle.core_machine.proofs.floor.Floor.come_settling.Goals as goal
+
+pub settled_before-before-requires : goal.settled_before-before-requires
+settled_before-before-requires c =
+    let i = c.self.inside in
+    let v : ◌≡◌ {A = FloorState} (record { net = i.net; desk = i.desk; pool = i.pool; ready = i.ready }) c.args.self.now = c.self.view_is in
+    has_seat i.net i.desk c.args.strand (subst (λ (f : FloorState). IsInUse f.net f.desk) (sym v) c.requires.used) (subst (λ (f : FloorState). c.args.strand < length f.net.strands) (sym v) c.requires.strand)
+
+pub come_home-requires-clause-strand : goal.come_home-requires-clause-strand
+come_home-requires-clause-strand c =
+    let i = c.self.inside in
+    let v : ◌≡◌ {A = FloorState} (record { net = i.net; desk = i.desk; pool = i.pool; ready = i.ready }) c.args.self.now = c.self.view_is in
+    has_seat i.net i.desk c.args.strand (subst (λ (f : FloorState). IsInUse f.net f.desk) (sym v) c.requires.used) (subst (λ (f : FloorState). c.args.strand < length f.net.strands) (sym v) c.requires.strand)
 
 pub wake_settled-requires : goal.wake_settled-requires
 wake_settled-requires c =
     let i = c.self.inside in
     let v : ◌≡◌ {A = FloorState} (record { net = i.net; desk = i.desk; pool = i.pool; ready = i.ready }) c.args.self.now = c.self.view_is in
-    subst (λ n. c.args.strand < n) (sym (c.self.invariant.size)) (subst (λ (f : FloorState). c.args.strand < length f.net.strands) (sym v) c.requires.strand)
+    let within = subst (λ (f : FloorState). c.args.strand < length f.net.strands) (sym v) c.requires.strand in
+    let seat = has_seat i.net i.desk c.args.strand (subst (λ (f : FloorState). IsInUse f.net f.desk) (sym v) c.requires.used) within in
+    record {
+      strand = subst (λ n. c.args.strand < n) (sym (c.self.invariant.size)) within;
+      seat = subst (λ n. c.args.strand < n) (sym (seats_home i.desk i.pool c.args.strand c.args.want.now c.come_home.new.self c.come_home.new.pool c.in_ok-come_home.ensures.home)) seat;
+    }
 
 pub invariant_of-self : goal.invariant_of-self
 invariant_of-self c =

@@ -1,5 +1,5 @@
 -- Whom the turn concerns was woken, and it settled nothing for others.
-use Rattle.std.proofs.Common.{◌≡◌, inl, ◌&&◌, ◌||◌, not, refl, sym, ◌∙◌, ap, subst, is_some, true, false, slice_get, pos, negsuc}
+use Rattle.std.proofs.Common.{◌≡◌, ◌<◌, length, inl, ◌&&◌, ◌||◌, not, refl, sym, ◌∙◌, ap, subst, is_some, true, false, slice_get, pos, negsuc}
 use Rattle.pipe_model.proofs.Truths.{neither}
 use Rattle.run_desk.specs.Desk.{DeskState}
 use Rattle.run_desk.specs.Turns.{desk_after_turn, pool_after_turn, CanTurn, ends, sees}
@@ -7,20 +7,33 @@ use Rattle.run_desk.specs.Telling as Telling
 use Rattle.core_machine.specs.Floor.{FloorState, IsInUse}
 use Rattle.core_machine.specs.Woken.{IsCovering, AreEndsIn, AreInside, may_settle}
 use Rattle.core_machine.proofs.Outs.{covers_out, was_settled}
-use Rattle.core_machine.proofs.Plays.{links_inside}
+use Rattle.core_machine.proofs.Plays.{links_inside, has_seat}
 use Rattle.core_machine.proofs.floor.Floor.make.Goals as goal
+
+pub may_settle-requires : goal.may_settle-requires
+may_settle-requires c =
+    let i = c.self.inside in
+    let v : ◌≡◌ {A = FloorState} (record { net = i.net; desk = i.desk; pool = i.pool; ready = i.ready }) c.args.self.now = c.self.view_is in
+    has_seat i.net i.desk c.args.strand (subst (λ (f : FloorState). IsInUse f.net f.desk) (sym v) c.requires.used) (subst (λ (f : FloorState). c.args.strand < length f.net.strands) (sym v) c.requires.strand)
 
 pub wake_ends-requires : goal.wake_ends-requires
 wake_ends-requires c =
     let i = c.self.inside in
     let v : ◌≡◌ {A = FloorState} (record { net = i.net; desk = i.desk; pool = i.pool; ready = i.ready }) c.args.self.now = c.self.view_is in
-    subst (λ l. AreInside l i.ready.size) (sym c.as_slice.ensures) (links_inside i.net i.ready.size c.self.invariant.formed c.self.invariant.size)
+    record {
+      strand = has_seat i.net i.desk c.args.strand (subst (λ (f : FloorState). IsInUse f.net f.desk) (sym v) c.requires.used) (subst (λ (f : FloorState). c.args.strand < length f.net.strands) (sym v) c.requires.strand);
+      wires = let used = subst (λ (f : FloorState). IsInUse f.net f.desk) (sym v) c.requires.used in used.kept.laid.wire_count ∙ ap length (sym c.as_slice.ensures);
+      inside = subst (λ l. AreInside l i.ready.size) (sym c.as_slice.ensures) (links_inside i.net i.ready.size c.self.invariant.formed c.self.invariant.size);
+    }
 
 pub make-requires : goal.make-requires
 make-requires c =
     let i = c.self.inside in
     let v : ◌≡◌ {A = FloorState} (record { net = i.net; desk = i.desk; pool = i.pool; ready = i.ready }) c.args.self.now = c.self.view_is in
-    subst (λ (f : FloorState). CanTurn f.desk f.pool c.args.strand c.args.seen) (sym v) c.requires.can
+    record {
+      strand = has_seat i.net i.desk c.args.strand (subst (λ (f : FloorState). IsInUse f.net f.desk) (sym v) c.requires.used) (subst (λ (f : FloorState). c.args.strand < length f.net.strands) (sym v) c.requires.strand);
+      can = subst (λ (f : FloorState). CanTurn f.desk f.pool c.args.strand c.args.seen) (sym v) c.requires.can;
+    }
 
 pub invariant_of-self : goal.invariant_of-self
 invariant_of-self c =

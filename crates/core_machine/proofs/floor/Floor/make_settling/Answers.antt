@@ -1,12 +1,13 @@
 -- Whom the turn concerns was woken.
-use Rattle.std.proofs.Common.{◌≡◌, ◌<◌, ◌⊎◌, inl, inr, Bool, ◌||◌, not, refl, sym, ◌∙◌, ap, subst, length, is_some, false, true, slice_get, pos, negsuc}
+use Rattle.std.proofs.Common.{◌≡◌, ◌<◌, ◌⊎◌, inl, inr, Bool, ◌||◌, not, refl, sym, ◌∙◌, ap, subst, length, is_some, false, true, Some, slice_get, pos, negsuc}
 use Rattle.run_desk.specs.Desk.{DeskState}
-use Rattle.run_desk.specs.Turns.{desk_after_turn, pool_after_turn, CanTurn, ends}
+use Rattle.run_desk.specs.Turns.{desk_after_turn, pool_after_turn, CanTurn, seat_after, ends}
 use Rattle.run_desk.specs.Telling as Telling
 use Rattle.core_machine.specs.Floor.{FloorState, IsInUse}
 use Rattle.core_machine.specs.Woken.{IsCovering, AreEndsIn, AreInside, IsWhole, IsStageIn}
 use Rattle.core_machine.proofs.Outs.{covers_out}
-use Rattle.core_machine.proofs.Plays.{links_inside}
+use Rattle.run_desk.proofs.Lists.{changed_length}
+use Rattle.core_machine.proofs.Plays.{links_inside, has_seat}
 use Rattle.core_machine.proofs.floor.Floor.make_settling.Goals as goal
 
 -- what is settled now was settled before, or those whom it concerns were woken
@@ -14,23 +15,42 @@ before_or_woken : {Now Woken : Type 0} (primer was : Bool) → primer ≡ was �
 before_or_woken true was is woken now = inl (sym is)
 before_or_woken false was is woken now = inr (woken refl now)
 
+pub settled_before-before-requires : goal.settled_before-before-requires
+settled_before-before-requires c =
+    let i = c.self.inside in
+    let v : ◌≡◌ {A = FloorState} (record { net = i.net; desk = i.desk; pool = i.pool; ready = i.ready }) c.args.self.now = c.self.view_is in
+    has_seat i.net i.desk c.args.strand (subst (λ (f : FloorState). IsInUse f.net f.desk) (sym v) c.requires.used) (subst (λ (f : FloorState). c.args.strand < length f.net.strands) (sym v) c.requires.strand)
+
 pub wake_ends-requires : goal.wake_ends-requires
 wake_ends-requires c =
     let i = c.self.inside in
     let v : ◌≡◌ {A = FloorState} (record { net = i.net; desk = i.desk; pool = i.pool; ready = i.ready }) c.args.self.now = c.self.view_is in
-    subst (λ l. AreInside l i.ready.size) (sym c.as_slice.ensures) (links_inside i.net i.ready.size c.self.invariant.formed c.self.invariant.size)
+    record {
+      strand = has_seat i.net i.desk c.args.strand (subst (λ (f : FloorState). IsInUse f.net f.desk) (sym v) c.requires.used) (subst (λ (f : FloorState). c.args.strand < length f.net.strands) (sym v) c.requires.strand);
+      wires = let used = subst (λ (f : FloorState). IsInUse f.net f.desk) (sym v) c.requires.used in used.kept.laid.wire_count ∙ ap length (sym c.as_slice.ensures);
+      inside = subst (λ l. AreInside l i.ready.size) (sym c.as_slice.ensures) (links_inside i.net i.ready.size c.self.invariant.formed c.self.invariant.size);
+    }
 
 pub make-requires : goal.make-requires
 make-requires c =
     let i = c.self.inside in
     let v : ◌≡◌ {A = FloorState} (record { net = i.net; desk = i.desk; pool = i.pool; ready = i.ready }) c.args.self.now = c.self.view_is in
-    subst (λ (f : FloorState). CanTurn f.desk f.pool c.args.strand c.args.seen) (sym v) c.requires.can
+    record {
+      strand = has_seat i.net i.desk c.args.strand (subst (λ (f : FloorState). IsInUse f.net f.desk) (sym v) c.requires.used) (subst (λ (f : FloorState). c.args.strand < length f.net.strands) (sym v) c.requires.strand);
+      can = subst (λ (f : FloorState). CanTurn f.desk f.pool c.args.strand c.args.seen) (sym v) c.requires.can;
+    }
 
 pub wake_settled-requires : goal.wake_settled-requires
 wake_settled-requires c =
     let i = c.self.inside in
     let v : ◌≡◌ {A = FloorState} (record { net = i.net; desk = i.desk; pool = i.pool; ready = i.ready }) c.args.self.now = c.self.view_is in
-    subst (λ n. c.args.strand < n) (sym (c.wake_ends.ensures.larger.0 ∙ c.self.invariant.size)) (subst (λ (f : FloorState). c.args.strand < length f.net.strands) (sym v) c.requires.strand)
+    let within = subst (λ (f : FloorState). c.args.strand < length f.net.strands) (sym v) c.requires.strand in
+    let seat = has_seat i.net i.desk c.args.strand (subst (λ (f : FloorState). IsInUse f.net f.desk) (sym v) c.requires.used) within in
+    record {
+      strand = subst (λ n. c.args.strand < n) (sym (c.wake_ends.ensures.larger.0 ∙ c.self.invariant.size)) within;
+      seat = subst (λ (z : DeskState). c.args.strand < length z.seats) (sym c.make.ensures.desk)
+          (subst (λ n. c.args.strand < n) (sym (changed_length i.desk.seats (seat_after c.args.seen) (Some c.args.strand))) seat);
+    }
 
 pub invariant_of-self : goal.invariant_of-self
 invariant_of-self c =

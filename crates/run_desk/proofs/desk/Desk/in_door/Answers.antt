@@ -1,0 +1,15 @@
+-- The doors lead to wires that are there.
+use Rattle.std.proofs.Common.{◌<◌, length, arith, refl, sym, ◌∙◌, ap, subst, slice_get}
+use Rattle.std.proofs.lemmas.Option.{slice_get_read}
+use Rattle.run_desk.specs.Desk.{DeskState}
+use Rattle.run_desk.specs.Telling.{joined, inputs_of, LeadsBelow}
+use Rattle.run_desk.proofs.desk.Desk.in_door.Goals as goal
+
+pub returns-clause-there : goal.returns-clause-there
+returns-clause-there c =
+    let i = c.self.inside in
+    let s = c.args.strand in
+    let seat : s < length i.seats.items = subst (λ (d : DeskState). s < length d.seats) (sym c.self.view_is) c.requires in
+    let at = slice_get_read i.doors.items (length i.doors.items) s c.index.result.now refl (omega (arith, seat, c.self.invariant.count)) c.index.ensures in
+    let door = c.input.ensures ∙ ap (λ x. joined (slice_get (inputs_of x) c.args.i)) (sym at) in
+    subst (λ (d : DeskState). LeadsBelow (length d.wires) c.input.result) c.self.view_is (subst (LeadsBelow (length i.wires.items)) (sym door) (c.self.invariant.ins s c.args.i))
