@@ -126,53 +126,65 @@ fn at(alloc: Global, string: &[u8]) -> Result<Blocks, NoMemory> {
 }
 
 #[test]
-fn a_string_is_found_across_records(rt: HostRuntime) -> Result<(), Fail> {
+fn lines_end_at_each_line_feed(rt: HostRuntime) -> Result<(), Fail> {
     let alloc = rt.alloc();
     let rows: [(&[u8], &[&[u8]]); 3] = [(b"a\nb", &[b"a"]), (b"c\n\n", &[b"bc", b""]), (b"d", &[])];
-    cuts(&rt, alloc, at(alloc, b"\n")?, &rows, &[b"d"])?;
-    let rows: [(&[u8], &[&[u8]]); 4] = [
-        (b"a<", &[]),
+    cuts(&rt, alloc, at(alloc, b"\n")?, &rows, &[b"d"])
+}
+
+#[test]
+fn a_string_is_found_across_records(rt: HostRuntime) -> Result<(), Fail> {
+    let alloc = rt.alloc();
+    let rows: [(&[u8], &[&[u8]]); 3] = [
+        (b"-<=>a<", &[b"-"]),
         (b"=", &[]),
-        (b">b<=>", &[b"a", b"b"]),
-        (b"<=", &[]),
+        (b">b<=>c<=", &[b"a", b"b"]),
     ];
-    cuts(&rt, alloc, at(alloc, b"<=>")?, &rows, &[b"<="])?;
-    cuts(
-        &rt,
-        alloc,
-        at(alloc, b"aa")?,
-        &[(b"baaa", &[b"b"])],
-        &[b"a"],
-    )
+    cuts(&rt, alloc, at(alloc, b"<=>")?, &rows, &[b"c<="])
+}
+
+#[test]
+fn occurrences_do_not_overlap(rt: HostRuntime) -> Result<(), Fail> {
+    let alloc = rt.alloc();
+    let rows: [(&[u8], &[&[u8]]); 1] = [(b"baaa", &[b"b"])];
+    cuts(&rt, alloc, at(alloc, b"aa")?, &rows, &[b"a"])
 }
 
 #[test]
 fn lengths_are_read(rt: HostRuntime) -> Result<(), Fail> {
     let alloc = rt.alloc();
-    let mut lists = Blocks::new(alloc, Image::Fixed, Cuts::ByLengths);
-    // The record, what is given, whether it ends, and its code.
-    let rows: [(&[u8], &[&[u8]], bool, i32); 4] = [
-        (b"\0\x04ab\0", &[b"ab"], false, 8),
-        (b"\x02", &[b""], false, 0),
-        (b"\x01\x01c", &[], false, 8),
-        (b"", &[], false, 8),
+    let rows: [(&[u8], &[&[u8]]); 3] = [
+        (b"\0\x04ab\0", &[b"ab"]),
+        (b"\x02", &[b""]),
+        (b"\x01\x01c", &[]),
     ];
-    for (rec, wanted, stops, code) in rows {
+    let lists = Blocks::new(alloc, Image::Fixed, Cuts::ByLengths);
+    cuts(&rt, alloc, lists, &rows, &[])
+}
+
+#[test]
+fn a_length_may_end_it(rt: HostRuntime) -> Result<(), Fail> {
+    let alloc = rt.alloc();
+    let mut lists = Blocks::new(alloc, Image::Fixed, Cuts::ByLengths);
+    // The record, how many are given with it, whether it ends, and its code.
+    let rows: [(&[u8], usize, bool, i32); 4] = [
+        (b"\0\x03", 0, false, 8),
+        (b"a", 1, false, 0),
+        (b"", 0, false, 0),
+        (b"\0\x03b\0\x01c", 1, true, 8),
+    ];
+    for (rec, count, stops, code) in rows {
         lists.see(alloc, rec)?;
-        gives(&rt, alloc, &mut lists, wanted)?;
+        for _ in 0..count {
+            assert!(rt; lists.next(alloc)?.is_some(), "after {rec:?}");
+        }
+        assert!(rt; lists.next(alloc)?.is_none(), "after {rec:?}");
         assert_eq!(rt;
             (lists.stops(), lists.code()),
             (stops, code),
             "after {rec:?}"
         );
     }
-    lists.end(alloc)?;
-    gives(&rt, alloc, &mut lists, &[])?;
-    assert_eq!(rt; lists.code(), 8);
-    let mut bad = Blocks::new(alloc, Image::Fixed, Cuts::ByLengths);
-    bad.see(alloc, b"\0\x03d\0\x01e")?;
-    gives(&rt, alloc, &mut bad, &[b"d"])?;
-    assert_eq!(rt; (bad.stops(), bad.code()), (true, 8));
     Ok(())
 }
 
