@@ -1,5 +1,5 @@
 -- What BUFFER stands for.
-use Rattle.std.specs.Prelude.{◌≡◌, ℕ, Bool, true, false, List, [], length, if◌then◌else◌}
+use Rattle.std.specs.Prelude.{◌≡◌, ℕ, Bool, true, false, List, [], length}
 use Rattle.std.specs.declared.option.Option.{Option}
 use Rattle.pipe_model.specs.Counts.{all_on}
 use Rattle.pipe_model.specs.DeviceRows.{buffer}

@@ -25,13 +25,7 @@ impl GateStage {
     ) -> Result<GateStage, NoMemory>
         ensures { IfOk result (λ stage. (kind : KindIs) → AreListsOf kind lists → (s : StrandIs) → s.kind ≡ kind → s.ports.has_output ≡ outputs.now → GateStands stage s []) }
     {
-        Ok(GateStage::Lists(Listed::new(
-            alloc,
-            lists,
-            Order::TakesFirst,
-            outputs,
-            false,
-        )?))
+        Ok(GateStage::Lists(Listed::new(alloc, lists, Order::TakesFirst, outputs, false)?))
     }
 
     /// The stage of a strand, before its first event.
