@@ -46,6 +46,7 @@ pub(crate) fn take_back<S: Stage>(actors: &mut Vec<Actor<S>>, strand: usize, sta
 }
 
 /// The strand's coroutine is told this, and goes on in place. What it asks for is kept.
+#[inline(always)]
 pub(crate) fn resume<S: Stage>(
     actor: &mut Actor<S>,
     alloc: Global,
