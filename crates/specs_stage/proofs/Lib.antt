@@ -1,0 +1,3 @@
+pub mod HexSteps
+pub mod Fitting
+pub mod Running
