@@ -1,5 +1,5 @@
 -- What a desk in code stands for; it serves the inside.
-use Rattle.std.specs.Prelude.{ℕ, Bool, true, false, List, [], ◌∷◌, ℤ, set, option_and_then}
+use Rattle.std.specs.Prelude.{ℕ, Bool, true, false, List, [], ◌∷◌, ◌++◌, ℤ, set, option_and_then}
 use Rattle.std.specs.Fmt.{signed_decimal}
 use Rattle.std.specs.declared.option.Option.{Option}
 use Rattle.pipe_model.specs.declared.items.Amount.{Amount}
@@ -24,6 +24,9 @@ set_value k op amount d = option_and_then (λ z. within_i64 (rows.counter_after 
 
 abbrev pub with_counter : ℕ → ℤ → rows.Desk → rows.Desk
 with_counter k z d = record d { counters = set d.counters k z }
+
+abbrev pub with_output_written : rows.Desk → rows.Desk
+with_output_written d = record d { written = d.written ++ d.output ∷ [] }
 
 -- the bytes of an origin, by the cycle's number and the value of the counter that it names
 abbrev pub origin_from : Origin → ℕ → ℤ → List ℕ → List ℕ

@@ -1,9 +1,9 @@
-ghost use Rattle.std.specs.Prelude.{◌≡◌, List, ℕ, IfOk, IfSome, OnOk, option_map, if◌then◌else◌, length, Some, None, false, is_some};
+ghost use Rattle.std.specs.Prelude.{◌≡◌, ◌<◌, List, [], ℕ, drop, IfOk, IfSome, OnOk, option_map, if◌then◌else◌, length, Some, None, false, is_some};
 ghost use Rattle.pipe_model.specs.declared.items.Item.TheVariants.{Field, Write, Set};
 ghost use Rattle.pipe_model.specs.Fields.{field_stripped, converted};
 ghost use Rattle.pipe_model.specs.Shape.{Records};
-ghost use Rattle.pipe_model.specs.SpecsRows.{counter, origin_of, amount_of, effect, run};
-ghost use Rattle.specs_stage.specs.Desks.{desk_of, set_value, with_counter, origin_from, is_read, before_read};
+ghost use Rattle.pipe_model.specs.SpecsRows.{counter, origin_of, amount_of, effect, run, at_first, begun, closed, first_of_all, has_unwritten};
+ghost use Rattle.specs_stage.specs.Desks.{desk_of, set_value, with_counter, origin_from, is_read, before_read, with_output_written};
 
 use crate::hex_digits::{add_from_hex, add_to_hex};
 use crate::numbers::{
@@ -97,7 +97,73 @@ fn origin_of<'a>(
     }
 }
 
+// Whether a field stands behind the last WRITE, or anywhere where there is none.
+fn has_unwritten(items: &[Item]) -> bool
+    ensures { result ≡ has_unwritten false items.now }
+{
+    let mut is_unwritten = false;
+    for item in items {
+        match item {
+            Item::Field { .. } => is_unwritten = true,
+            Item::Write => is_unwritten = false,
+            _ => {}
+        }
+    }
+    is_unwritten
+}
+
 impl Desk {
+    // Before the first cycle.
+    pub(crate) fn new(alloc: Global) -> Desk
+        ensures { desk_of result [] [] ≡ at_first }
+    {
+        Desk {
+            counters: [0; 10],
+            number: 0,
+            output: Vec::new(alloc),
+            pad: b' ',
+            written: Vec::new(alloc),
+            digits: Vec::new(alloc),
+            room: Vec::new(alloc),
+        }
+    }
+
+    // Begins the next cycle.
+    pub(crate) fn begin(&mut self)
+        ensures { self.old.number < 50000000 → (hand : List ℕ) (coming recs : Records) → desk_of self.new (first_of_all recs) (drop 1 recs) ≡ begun (desk_of self.old hand coming) recs }
+    {
+        self.number = self.number.saturating_add(1);
+        self.output.clear();
+        self.pad = b' ';
+        self.written.clear();
+    }
+
+    // Writes the output, and doesn't empty it.
+    fn add_output(&mut self, alloc: Global) -> Result<(), NoMemory>
+        ensures { OnOk result ((hand : List ℕ) (coming : Records) → desk_of self.new hand coming ≡ with_output_written (desk_of self.old hand coming)) }
+    {
+        let rec = Rec::from_slice(alloc, &self.output)?;
+        self.written.push(rec)?;
+        Ok(())
+    }
+
+    // Ends a cycle: the output is written where a field was put into it behind the last WRITE.
+    pub(crate) fn close(&mut self, alloc: Global, items: &[Item]) -> Result<(), NoMemory>
+        ensures { OnOk result ((hand : List ℕ) (coming : Records) → desk_of self.new hand coming ≡ closed items.now (desk_of self.old hand coming)) }
+    {
+        if has_unwritten(items) {
+            self.add_output(alloc)?;
+        }
+        Ok(())
+    }
+
+    // What the cycle wrote.
+    pub(crate) fn written(&self) -> &[Rec]
+        ensures { (hand : List ℕ) (coming : Records) → result.now ≡ (desk_of self.now hand coming).written }
+    {
+        &self.written
+    }
+
     // The value of a counter.
     fn counter(&self, k: u8) -> i64
         ensures { (hand : List ℕ) (coming : Records) → result ≡ counter k (desk_of self.now hand coming) }
@@ -135,11 +201,11 @@ impl Desk {
     fn write(&mut self, alloc: Global) -> Result<(), NoMemory>
         ensures { OnOk result ((hand : List ℕ) (coming : Records) → Some (desk_of self.new hand coming) ≡ effect Write (desk_of self.old hand coming)) }
     {
-        let rec = Rec::from_slice(alloc, &self.output)?;
-        self.written.push(rec)?;
+        self.add_output(alloc)?;
         self.output.clear();
         Ok(())
     }
+
     // The value of the counter that an origin names.
     fn printed(&self, origin: &Origin) -> i64
         ensures { (hand : List ℕ) (coming : Records) → origin_from origin.now self.now.number result hand ≡ origin_of origin.now (desk_of self.now hand coming) }

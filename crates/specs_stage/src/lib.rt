@@ -5,3 +5,5 @@ mod desk;
 mod hex_digits;
 mod numbers;
 mod output;
+#[cfg(test)]
+mod tests;
