@@ -1,20 +1,18 @@
 -- The cycles of SPECS: how a run of the items stands after one more record, at a fault, and at the end of input.
-use Rattle.std.proofs.Common.{◌≡◌, ◌≢◌, ℕ, zero, suc, ◌+◌, ◌-◌, ◌<◌, ◌≤◌, Bool, true, false, not, ◌&&◌, ◌==◌, cond, List, [], ◌∷◌, ◌++◌, length, take, drop, map, fold, slice_get, is_none, option_map, option_and_then, pos, refl, sym, ◌∙◌, ap, subst, arith, Option, Some, None, ◌⊎◌, inl, inr, ⊎_elim, take-append-drop, length-append, append_assoc}
+use Rattle.std.proofs.Common.{◌≡◌, ◌≢◌, ℕ, zero, suc, ◌+◌, ◌-◌, ◌<◌, ◌≤◌, Bool, true, false, not, ◌&&◌, ◌==◌, cond, List, [], ◌∷◌, ◌++◌, length, take, drop, fold, slice_get, is_none, option_map, option_and_then, pos, refl, sym, ◌∙◌, ap, subst, arith, Option, Some, None, ◌⊎◌, inl, inr, take-append-drop, length-append, append_assoc}
 use Rattle.std.proofs.lemmas.List.Sums.{fold-append}
-use Rattle.std.proofs.lemmas.List.{append-nil, length-drop, drop_all, drop-drop}
+use Rattle.std.proofs.lemmas.List.{length-drop, drop_all, drop-drop, map-append}
 use Rattle.std.proofs.lemmas.Bool.{ne_eqb, eqb-true, eqb-false, cond-true, cond-false}
 use Rattle.std.specs.List.{onto_first}
 use Rattle.pipe_model.specs.declared.items.Origin.TheVariants as Origins
-use Rattle.pipe_model.specs.declared.items.Amount.{Amount}
 use Rattle.pipe_model.specs.declared.items.Amount.TheVariants as Amounts
 use Rattle.pipe_model.specs.declared.items.Item.{Item}
 use Rattle.pipe_model.specs.declared.items.Item.TheVariants.{Field, Read, Write, Pad, Set}
-use Rattle.pipe_model.specs.Fields.{field_stripped, converted, placed}
+use Rattle.pipe_model.specs.Fields.{field_stripped, converted}
 use Rattle.pipe_model.specs.Counts.{all_on}
-use Rattle.pipe_model.specs.Row.{Pair}
-use Rattle.pipe_model.specs.Shape.{Records, Stream, writes, acts_of, last_pairs}
-use Rattle.pipe_model.specs.Parts.{without_last, last_part, onto_part, cut_after, cut_every}
-use Rattle.pipe_model.specs.SpecsRows.{Desk, effect, run, at_first, begun, closed, cycle, reads, groups, waiting, waits, after_cycles, reached, so_far, after_input, after_all, written_by, cycle_pairs, waiting_pairs, eof_pairs, specs_last, specs, origin_of, first_of_all}
+use Rattle.pipe_model.specs.Shape.{Records, writes, acts_of, last_pairs}
+use Rattle.pipe_model.specs.Parts.{without_last, last_part, onto_part, cut_after}
+use Rattle.pipe_model.specs.SpecsRows.{Desk, effect, run, at_first, begun, closed, cycle, reads, groups, waiting, waits, after_cycles, reached, so_far, after_input, after_all, written_by, cycle_pairs, waiting_pairs, eof_pairs, specs, origin_of, first_of_all, has_unwritten}
 use Rattle.pipe_model.proofs.Numbers.{equal_or_not}
 use Rattle.pipe_model.proofs.Truths.{not_second}
 use Rattle.specs_stage.specs.Cycling.{handed, IsBetween, IsUnderWay, IsWaiting, IsRunning, IsFaulty}
@@ -91,6 +89,10 @@ mapped_some : {X Y : Type 0} (f : X → Y) (o : Option X) (y : Y) → option_map
 mapped_some f None y is = cc
 mapped_some f (Some x) y is = (x, let e : f x ≡ y = cc in e)
 
+mapped_from : {X Y : Type 0} (f : X → Y) (o : Option X) (y : Y) → option_map f o ≡ Some y → (x : X) × (o ≡ Some x) × (f x ≡ y)
+mapped_from f None y is = cc
+mapped_from f (Some x) y is = (x, refl, let e : f x ≡ y = cc in e)
+
 first_later : (recs more : Records) → 0 < length recs → first_of_all (recs ++ more) ≡ first_of_all recs
 first_later [] more some = absurd (omega arith)
 first_later (rec ∷ recs) more some = refl
@@ -136,6 +138,7 @@ run_later (item ∷ items) more d some = by (effect item d) refl (λ e. run_late
   where
     counted : reads (item ∷ items) ≡ reads (item ∷ []) + reads items
     counted = reads-append (item ∷ []) items
+
     by : (o : Option Desk) → effect item d ≡ o → ((e : Desk) → reads items ≤ length e.coming → run items (with_coming more e) ≡ option_map (with_coming more) (run items e))
         → run (item ∷ items) (with_coming more d) ≡ option_map (with_coming more) (run (item ∷ items) d)
     by None is others =
@@ -200,9 +203,9 @@ reached_part : (items : List Item) (k : ℕ) → IsFront (reached k items) items
 reached_part [] k = ([], refl)
 reached_part (Field origin strip convert spot align ∷ items) k = behind _ _ _ (reached_part items k)
 reached_part (Read ∷ items) k = elim (k == 1) as (λ b. IsFront (cond b [] (Read ∷ reached (k - 1) items)) (Read ∷ items)) [
-    | true ↦ (Read ∷ items, refl)
-    | false ↦ behind Read _ _ (reached_part items (k - 1))
-  ]
+  | true ↦ (Read ∷ items, refl)
+  | false ↦ behind Read _ _ (reached_part items (k - 1))
+]
 reached_part (Write ∷ items) k = behind _ _ _ (reached_part items k)
 reached_part (Pad byte ∷ items) k = behind _ _ _ (reached_part items k)
 reached_part (Set n op amount ∷ items) k = behind _ _ _ (reached_part items k)
@@ -229,9 +232,11 @@ reached_more (Read ∷ items) k some = by (equal_or_not k 1) (reached_more items
     by : (k ≡ 1) ⊎ (k ≢ 1) → (0 < k - 1 → IsFront (reached (k - 1) items) (reached (suc (k - 1)) items)) → IsFront (reached k (Read ∷ items)) (reached (suc k) (Read ∷ items))
     by (inl one) others = (reached (suc k) (Read ∷ items), ap (λ n. reached n (Read ∷ items) ++ reached (suc k) (Read ∷ items)) (sym one))
     by (inr other) others =
-        let next = others (omega arith) in
-        (next.0, reached_read (suc k) items (omega arith) ∙ ap (λ n. Read ∷ reached n items) (let e : suc k - 1 ≡ suc (k - 1) = omega arith in e) ∙ ap (λ rest. Read ∷ rest) next.1
-        ∙ ap (λ front. front ++ next.0) (sym (reached_read k items other)))
+        let next = others (omega arith) in (
+          next.0,
+          reached_read (suc k) items (omega arith) ∙ ap (λ n. Read ∷ reached n items) (let e : suc k - 1 ≡ suc (k - 1) = omega arith in e) ∙ ap (λ rest. Read ∷ rest) next.1
+              ∙ ap (λ front. front ++ next.0) (sym (reached_read k items other)),
+        )
 reached_more (Write ∷ items) k some = behind _ _ _ (reached_more items k some)
 reached_more (Pad byte ∷ items) k some = behind _ _ _ (reached_more items k some)
 reached_more (Set n op amount ∷ items) k some = behind _ _ _ (reached_more items k some)
@@ -293,10 +298,12 @@ onto_filled left n lacking y parts some filled = by (left == 1) refl
     first [] e = absurd (omega (arith, e))
     first (p ∷ []) e = e
     first (p ∷ q ∷ ps) e = e
+
     next : (ps : List (List _)) → IsFilledBy (left - 1) n lacking ps → IsFilledBy left n lacking (onto_first y ps)
     next [] e = absurd (omega (arith, e))
     next (p ∷ []) e = omega (arith, e, some)
     next (p ∷ q ∷ ps) e = e
+
     by : (b : Bool) → (left == 1) ≡ b → IsFilledBy left n lacking (onto_part (left == 1) y parts)
     by true is = subst (λ b. IsFilledBy left n lacking (onto_part b y parts)) (sym is) (first parts (subst (λ b. IsFilledBy (cond b n (left - 1)) n lacking parts) is filled))
     by false is = subst (λ b. IsFilledBy left n lacking (onto_part b y parts)) (sym is) (next parts (subst (λ b. IsFilledBy (cond b n (left - 1)) n lacking parts) is filled))
@@ -450,6 +457,10 @@ mapped_none : {X Y : Type 0} (f : X → Y) (o : Option X) → option_map f o ≡
 mapped_none f None is = refl
 mapped_none f (Some x) is = cc
 
+faulty_cycles : (items : List Item) (all : List Records) → fold (cycle items) None all ≡ None
+faulty_cycles items [] = refl
+faulty_cycles items (recs ∷ all) = faulty_cycles items all
+
 faulty_cycle : (items : List Item) (desk : Option Desk) (recs : Records) → desk ≡ None → cycle items desk recs ≡ None
 faulty_cycle items desk recs is = ap (λ desk. cycle items desk recs) is
 
@@ -537,16 +548,17 @@ none_coming items begin recs place d under =
 
 -- A record comes
 
--- a new cycle begins with it
-pub begins : (items : List Item) (recs : Records) (rec : List ℕ) (d : Desk) → IsBetween items recs d → IsRunning items recs rec d 0 (begun d (rec ∷ []))
-begins items recs rec d is =
-    let one : rec ∷ [] ≡ waiting items recs ++ rec ∷ [] = ap (λ (w : Records). w ++ rec ∷ []) (sym is.none_waits) in
-    record { began = is.ran; under_way = subst (λ (w : Records). IsUnderWay items d w 0 (begun d (rec ∷ []))) one (record { took = refl; ran = refl }) }
-
 -- what a cycle begins with, besides its records, are the counters and the number
 pub begun_alike : (d e : Desk) (recs : Records) → d.counters ≡ e.counters → d.number ≡ e.number → begun d recs ≡ begun e recs
 begun_alike d e recs counters number =
     ap (λ some. record (begun d recs) { counters = some }) counters ∙ ap (λ n. record (begun e recs) { number = suc n }) number
+
+-- a new cycle begins with it, on the counters and the number that the last one left
+pub begins : (items : List Item) (recs : Records) (rec : List ℕ) (d e : Desk) → IsBetween items recs d → d.counters ≡ e.counters → d.number ≡ e.number → IsRunning items recs rec d 0 (begun e (rec ∷ []))
+begins items recs rec d e is counters number =
+    let one : rec ∷ [] ≡ waiting items recs ++ rec ∷ [] = ap (λ (w : Records). w ++ rec ∷ []) (sym is.none_waits) in
+    let ran : run [] (begun d (rec ∷ [])) ≡ Some (begun e (rec ∷ [])) = ap Some (begun_alike d e (rec ∷ []) counters number) in
+    record { began = is.ran; under_way = subst (λ (w : Records). IsUnderWay items d w 0 (begun e (rec ∷ []))) one (record { took = refl; ran = ran }) }
 
 handed_by_read : (rec : List ℕ) (d : Desk) → d.coming ≡ [] → effect Read (with_coming (rec ∷ []) d) ≡ Some (handed rec d)
 handed_by_read rec d none = ap (λ (coming : Records). Some (record d { hand = first_of_all (coming ++ rec ∷ []); coming = drop 1 (coming ++ rec ∷ []) })) none
@@ -586,6 +598,7 @@ fails items recs rec begin place d item is at fault = by (short_or_full items re
   where
     ran : run (take (place + 1) items) (begun begin (waiting items recs ++ rec ∷ [])) ≡ None
     ran = run_item items place item (begun begin (waiting items recs ++ rec ∷ [])) d at is.under_way.ran ∙ fault
+
     by : (length (waiting items recs) < reads items) ⊎ (length (waiting items recs) ≡ reads items) → so_far items (recs ++ rec ∷ []) ≡ None
     by (inl short) =
         let took : suc (reads (take place items)) ≡ length (waiting items recs ++ rec ∷ []) = is.under_way.took in
@@ -729,18 +742,23 @@ run_next items place item d at = ap (λ rest. run rest d) (next_dropped items pl
 pub run_none : (items : List Item) (place : ℕ) (d : Desk) → slice_get items place ≡ None → run (drop place items) d ≡ Some d
 run_none items place d at = ap (λ rest. run rest d) (none_dropped items place at)
 
--- the cycle that waits runs on, and its READs find no record
-pub after_input_ran : (items : List Item) (recs : Records) (begin : Desk) (place : ℕ) (d : Desk) → IsWaiting items recs begin place d → after_input items recs ≡ option_map (closed items) (run (drop place items) d)
+-- the cycle that waits runs on: each READ, that at which it waits too, finds no record
+pub after_input_ran : (items : List Item) (recs : Records) (begin : Desk) (place : ℕ) (d : Desk) → IsWaiting items recs begin place d → after_input items recs ≡ option_map (closed items) (run (drop (place + 1) items) (handed [] d))
 after_input_ran items recs begin place d is =
+    let w : Records = waiting items recs in
+    let empty : effect Read d ≡ Some (handed [] d) = ap (λ (coming : Records). Some (record d { hand = first_of_all coming; coming = drop 1 coming })) (none_coming items begin w place d is.under_way) in
     after_input-waiting items recs (some_wait items recs begin place d is)
-    ∙ cycle_ran items (after_cycles items recs) (waiting items recs) begin _ is.began (run_rest items place (begun begin (waiting items recs)) d is.under_way.ran)
+    ∙ cycle_ran items (after_cycles items recs) w begin _ is.began (run_rest items place (begun begin w) d is.under_way.ran)
+    ∙ ap (option_map (closed items)) (run_next items place Read d is.at_read ∙ ap (option_and_then (run (drop (place + 1) items))) empty)
 
 pub after_input_sound : (items : List Item) (recs : Records) (d : Desk) → IsBetween items recs d → after_input items recs ≡ Some d
 after_input_sound items recs d is = after_input-between items recs is.none_waits ∙ is.ran
 
--- then the EOF list runs, over no record
-pub after_all_ran : (items eof : List Item) (recs : Records) (d : Desk) → after_input items recs ≡ Some d → after_all items (Some eof) recs ≡ option_map (closed eof) (run eof (begun d []))
-after_all_ran items eof recs d is = ap (λ desk. cycle eof desk []) is
+-- then the EOF list runs, over no record, on the counters and the number that are left
+pub after_all_ran : (items eof : List Item) (recs : Records) (d e : Desk) → after_input items recs ≡ Some d → d.counters ≡ e.counters → d.number ≡ e.number
+    → after_all items (Some eof) recs ≡ option_map (closed eof) (run eof (begun e []))
+after_all_ran items eof recs d e is counters number =
+    ap (λ desk. cycle eof desk []) is ∙ ap (λ begin. option_map (closed eof) (run eof begin)) (begun_alike d e [] counters number)
 
 pub after_all_fault : (items : List Item) (eof : Option (List Item)) (recs : Records) → after_input items recs ≡ None → after_all items eof recs ≡ None
 after_all_fault items None recs is = is
@@ -751,8 +769,6 @@ pub last_pairs-specs : (items : List Item) (eof : Option (List Item)) (recs : Re
 last_pairs-specs items (Some eof) recs = ap (λ (none : Bool). last_pairs (cond none None (Some (λ recs. waiting_pairs items recs ++ eof_pairs items (Some eof) recs))) recs) (not_second (reads items == 0) false refl)
 last_pairs-specs items None recs = by (reads items == 0) refl
   where
-    some : Records → List Pair
-    some recs = waiting_pairs items recs ++ eof_pairs items None recs
     by : (b : Bool) → (reads items == 0) ≡ b → last_pairs (specs items None).last recs ≡ waiting_pairs items recs ++ []
     by true is =
         let none : reads items ≡ 0 = eqb-true (reads items) 0 is in
@@ -779,3 +795,94 @@ module _ (items : List Item) (recs : Records) where
   pub eof_pairs-fault : (eof : Option (List Item)) → after_input items recs ≡ None → eof_pairs items eof recs ≡ []
   eof_pairs-fault None is = refl
   eof_pairs-fault (Some eof) is = eof_pairs-of eof None (after_all_fault items (Some eof) recs is)
+
+-- all pairs at the end, by the records that the cycle that waits and the EOF list wrote
+pub last_pairs-all : (items : List Item) (eof : Option (List Item)) (recs some more : Records) → waiting_pairs items recs ≡ all_on 0 some → eof_pairs items eof recs ≡ all_on 0 more → last_pairs (specs items eof).last recs ≡ all_on 0 (some ++ more)
+last_pairs-all items eof recs some more first last =
+    last_pairs-specs items eof recs ∙ ap (λ pairs. pairs ++ eof_pairs items eof recs) first ∙ ap (λ pairs. all_on 0 some ++ pairs) last ∙ sym (map-append (λ rec. (0, rec)) some more)
+
+pub last_pairs-faulty : (items : List Item) (eof : Option (List Item)) (recs : Records) → IsFaulty items recs → last_pairs (specs items eof).last recs ≡ []
+last_pairs-faulty items eof recs is = last_pairs-all items eof recs [] [] (waiting_pairs-faulty items recs is) (eof_pairs-fault items recs eof (after_input-faulty items recs is))
+
+-- The number of cycles
+
+number_after : (item : Item) (d e : Desk) → effect item d ≡ Some e → e.number ≡ d.number
+number_after (Field origin strip convert spot align) d e is =
+    let made = mapped_some _ (converted convert (field_stripped strip (origin_of origin d))) e is in
+    sym (ap (λ desk. desk.number) made.1)
+number_after Read d e is = let same : record d { hand = first_of_all d.coming; coming = drop 1 d.coming } ≡ e = cc in sym (ap (λ desk. desk.number) same)
+number_after Write d e is = let same : record d { written = d.written ++ d.output ∷ []; output = [] } ≡ e = cc in sym (ap (λ desk. desk.number) same)
+number_after (Pad byte) d e is = let same : record d { pad = byte } ≡ e = cc in sym (ap (λ desk. desk.number) same)
+number_after (Set k op amount) d e is =
+    let made = mapped_some _ _ e is in
+    sym (ap (λ desk. desk.number) made.1)
+
+-- items don't change it
+pub number_after_all : (items : List Item) (d e : Desk) → run items d ≡ Some e → e.number ≡ d.number
+number_after_all [] d e is = let same : d ≡ e = cc in sym (ap (λ desk. desk.number) same)
+number_after_all (item ∷ items) d e is = by (effect item d) refl (λ f. number_after_all items f e)
+  where
+    by : (o : Option Desk) → effect item d ≡ o → ((f : Desk) → run items f ≡ Some e → e.number ≡ f.number) → e.number ≡ d.number
+    by None none others = let no = sym (run_first item items d None none) ∙ is in absurd (cc no)
+    by (Some f) some others = others f (sym (run_first item items d (Some f) some) ∙ is) ∙ number_after item d f some
+
+number_closed : (b : Bool) (d : Desk) → (cond b (record d { written = d.written ++ d.output ∷ [] }) d).number ≡ d.number
+number_closed true d = refl
+number_closed false d = refl
+
+-- each cycle adds one
+number_cycle : (items : List Item) (recs : Records) (d e : Desk) → cycle items (Some d) recs ≡ Some e → e.number ≡ suc d.number
+number_cycle items recs d e is =
+    let made = mapped_from (closed items) (run items (begun d recs)) e is in
+    sym (ap (λ desk. desk.number) made.2) ∙ number_closed (has_unwritten false items) made.0 ∙ number_after_all items (begun d recs) made.0 made.1
+
+numbers : (items : List Item) (all : List Records) (d e : Desk) → fold (cycle items) (Some d) all ≡ Some e → e.number ≡ d.number + length all
+numbers items [] d e is = let same : d ≡ e = cc in omega (arith, ap (λ desk. desk.number) same)
+numbers items (recs ∷ all) d e is = by (cycle items (Some d) recs) refl (λ f. numbers items all f e)
+  where
+    by : (o : Option Desk) → cycle items (Some d) recs ≡ o → ((f : Desk) → fold (cycle items) (Some f) all ≡ Some e → e.number ≡ f.number + length all) → e.number ≡ d.number + suc (length all)
+    by None none others = let no = sym (faulty_cycles items all) ∙ ap (λ o. fold (cycle items) o all) (sym none) ∙ is in absurd (cc no)
+    by (Some f) some others =
+        let rest = others f (ap (λ o. fold (cycle items) o all) (sym some) ∙ is) in
+        let one = number_cycle items recs d f some in
+        omega (arith, rest, one)
+
+few_onto : {X : Type 0} (b : Bool) (x : X) (parts : List (List X)) → length (without_last (onto_part b x parts)) ≤ suc (length (without_last parts))
+few_onto true x [] = omega arith
+few_onto true x (p ∷ ps) = omega arith
+few_onto false x [] = omega arith
+few_onto false x (p ∷ []) = omega arith
+few_onto false x (p ∷ q ∷ ps) = omega arith
+
+-- there are no more whole parts than members
+few_parts : {X : Type 0} (n left : ℕ) (xs : List X) → length (without_last (cut_after n left xs)) ≤ length xs
+few_parts n left [] = omega arith
+few_parts n left (x ∷ xs) =
+    let then_left : ℕ = cond (left == 1) n (left - 1) in
+    let one = few_onto (left == 1) x (cut_after n then_left xs) in
+    let rest = few_parts n then_left xs in
+    omega (arith, one, rest)
+
+-- there are no more cycles than records
+pub number_few : (items : List Item) (recs : Records) (d : Desk) → after_cycles items recs ≡ Some d → d.number ≤ length recs
+number_few items recs d is =
+    let counted = numbers items (without_last (groups items recs)) at_first d is in
+    let few = few_parts (suc (reads items)) (suc (reads items)) recs in
+    omega (arith, counted, few)
+
+-- nor at the end, but for the one that lacks records
+pub number_at_end : (items : List Item) (recs : Records) (d : Desk) → after_input items recs ≡ Some d → d.number ≤ suc (length recs)
+number_at_end items recs d is = by (equal_or_not (length (waiting items recs)) 0) (after_cycles items recs) refl
+  where
+    by : (length (waiting items recs) ≡ 0) ⊎ (length (waiting items recs) ≢ 0) → (o : Option Desk) → after_cycles items recs ≡ o → d.number ≤ suc (length recs)
+    by (inl none) o some =
+        let few = number_few items recs d (sym (after_input-between items recs (is_empty (waiting items recs) none)) ∙ is) in
+        omega (arith, few)
+    by (inr other) None none =
+        let no = sym (faulty_cycle items (after_cycles items recs) (waiting items recs) none) ∙ sym (after_input-waiting items recs (omega arith)) ∙ is in
+        absurd (cc no)
+    by (inr other) (Some begin) some =
+        let ran = ap (λ desk. cycle items desk (waiting items recs)) (sym some) ∙ sym (after_input-waiting items recs (omega arith)) ∙ is in
+        let one = number_cycle items (waiting items recs) begin d ran in
+        let few = number_few items recs begin some in
+        omega (arith, one, few)

@@ -6,5 +6,4 @@ ghost use Rattle.pipe_model.specs.declared.items.Item.{Item};
 // A fault stays.
 fn fault_stays()
     ensures { (items : List Item) (recs : Records) (rec : List ℕ) → IsFaulty items recs → IsFaulty items (recs ++ rec ∷ []) }
-{
-}
+{}
