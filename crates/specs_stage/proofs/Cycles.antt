@@ -14,8 +14,8 @@ use Rattle.pipe_model.specs.Shape.{Records, writes, acts_of, last_pairs}
 use Rattle.pipe_model.specs.Parts.{without_last, last_part, onto_part, cut_after}
 use Rattle.pipe_model.specs.SpecsRows.{Desk, effect, run, at_first, begun, closed, cycle, reads, groups, waiting, waits, after_cycles, reached, so_far, after_input, after_all, written_by, cycle_pairs, waiting_pairs, eof_pairs, specs, origin_of, first_of_all, has_unwritten}
 use Rattle.pipe_model.proofs.Numbers.{equal_or_not}
-use Rattle.pipe_model.proofs.Truths.{not_second}
-use Rattle.specs_stage.specs.Cycling.{handed, IsBetween, IsUnderWay, IsWaiting, IsRunning, IsFaulty}
+use Rattle.pipe_model.proofs.Truths.{both, not_second}
+use Rattle.specs_stage.specs.Cycling.{handed, IsBetween, IsUnderWay, IsWaiting, IsRunning, IsFaulty, IsOver}
 
 -- Runs of items
 
@@ -655,6 +655,10 @@ sound_waiting items recs begin place d is =
     ∙ ap (λ part. cycle part (after_cycles items recs) (waiting items recs)) (reached_is items place (length (waiting items recs)) is.at_read is.under_way.took)
     ∙ cycle_ran (take place items) (after_cycles items recs) (waiting items recs) begin (Some d) is.began is.under_way.ran
 
+is_fault : (o : Option Desk) → is_none o ≡ true → o ≡ None
+is_fault None is = refl
+is_fault (Some d) is = cc
+
 and_true : (b : Bool) → (b && true) ≡ b
 and_true true = refl
 and_true false = refl
@@ -701,6 +705,13 @@ module _ (items : List Item) (eof : Option (List Item)) (recs : Records) where
 
   pub code-faulty : IsFaulty items recs → (specs items eof).code recs ≡ pos 8
   code-faulty is = ap (λ desk. cond (is_none desk) (pos 8) (pos 0)) (after_all-faulty items eof recs is)
+
+  -- where it ends before the end of input, a fault came
+  pub stops_at_fault : (specs items eof).stops recs ≡ true → IsFaulty items recs
+  stops_at_fault is = is_fault (so_far items recs) (both (not (reads items == 0)) (is_none (so_far items recs)) is).1
+
+  pub halts_at_fault : (specs items eof).halts recs ≡ true → IsFaulty items recs
+  halts_at_fault is = is_fault (so_far items recs) (both (reads items == 0) (is_none (so_far items recs)) is).1
 
   -- the code with which it ends is that of all
   pub code-of : (o : Option Desk) → after_all items eof recs ≡ o → (specs items eof).code recs ≡ cond (is_none o) (pos 8) (pos 0)
@@ -886,3 +897,25 @@ number_at_end items recs d is = by (equal_or_not (length (waiting items recs)) 0
         let one = number_cycle items (waiting items recs) begin d ran in
         let few = number_few items recs begin some in
         omega (arith, one, few)
+
+-- Behind the end of input
+
+module _ (items : List Item) (eof : Option (List Item)) (recs : Records) where
+  -- after a fault, and without one, by what the end of input gave
+  pub over_faulty : IsFaulty items recs → IsOver items eof recs true true
+  over_faulty is = record { before = ap is_none is; at_all = ap is_none (after_all-faulty items eof recs is) }
+
+  pub over_between : (d : Desk) (o : Option Desk) → IsBetween items recs d → after_all items eof recs ≡ o → IsOver items eof recs false (is_none o)
+  over_between d o is all = record { before = ap is_none (sound_between items recs d is); at_all = ap is_none all }
+
+  pub over_waiting : (begin : Desk) (place : ℕ) (d : Desk) (o : Option Desk) → IsWaiting items recs begin place d → after_all items eof recs ≡ o → IsOver items eof recs false (is_none o)
+  over_waiting begin place d o is all = record { before = ap is_none (sound_waiting items recs begin place d is); at_all = ap is_none all }
+
+  pub over-stops : (before at_all : Bool) → IsOver items eof recs before at_all → (specs items eof).stops recs ≡ (not (reads items == 0) && before)
+  over-stops before at_all is = ap (λ fault. not (reads items == 0) && fault) is.before
+
+  pub over-halts : (before at_all : Bool) → IsOver items eof recs before at_all → (specs items eof).halts recs ≡ (reads items == 0 && before)
+  over-halts before at_all is = ap (λ fault. reads items == 0 && fault) is.before
+
+  pub over-code : (before at_all : Bool) → IsOver items eof recs before at_all → (specs items eof).code recs ≡ cond at_all (pos 8) (pos 0)
+  over-code before at_all is = ap (λ fault. cond fault (pos 8) (pos 0)) is.at_all

@@ -1,10 +1,11 @@
 -- Where a list of items of SPECS stands between records; it serves the inside.
-use Rattle.std.specs.Prelude.{◌≡◌, ℕ, suc, List, [], ◌∷◌, ◌++◌, length, take, slice_get}
+use Rattle.std.specs.Prelude.{◌≡◌, ℕ, suc, Bool, List, [], ◌∷◌, ◌++◌, length, take, slice_get, is_none}
+use Rattle.std.specs.declared.option.Option.{Option}
 use Rattle.std.specs.declared.option.Option.TheVariants.{Some, None}
 use Rattle.pipe_model.specs.declared.items.Item.{Item}
 use Rattle.pipe_model.specs.declared.items.Item.TheVariants.{Read}
 use Rattle.pipe_model.specs.Shape.{Records}
-use Rattle.pipe_model.specs.SpecsRows.{Desk, run, reads, begun, waiting, after_cycles, so_far}
+use Rattle.pipe_model.specs.SpecsRows.{Desk, run, reads, begun, waiting, after_cycles, so_far, after_all}
 
 -- the desk with the record that a READ brought
 abbrev pub handed : List ℕ → Desk → Desk
@@ -34,3 +35,8 @@ pub record IsRunning (items : List Item) (recs : Records) (rec : List ℕ) (begi
 -- a fault came
 abbrev pub IsFaulty : List Item → Records → Type 0
 IsFaulty items recs = so_far items recs ≡ None
+
+-- behind the end of input: whether a fault came before it, and whether one came at all
+pub record IsOver (items : List Item) (eof : Option (List Item)) (recs : Records) (was_faulty is_faulty : Bool) : Type 0 where
+  pub before : is_none (so_far items recs) ≡ was_faulty
+  pub at_all : is_none (after_all items eof recs) ≡ is_faulty
