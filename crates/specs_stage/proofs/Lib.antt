@@ -1,3 +1,4 @@
+pub mod Cycles
 pub mod HexSteps
 pub mod Fitting
 pub mod Running

@@ -1,2 +1,3 @@
+pub mod Cycling
 pub mod Output
 pub mod Desks
