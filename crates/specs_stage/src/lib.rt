@@ -7,6 +7,5 @@ mod hex_digits;
 mod laws;
 mod numbers;
 mod output;
-
 #[cfg(test)]
 mod tests;
