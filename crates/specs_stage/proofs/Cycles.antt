@@ -1,5 +1,5 @@
 -- The cycles of SPECS: how a run of the items stands after one more record, at a fault, and at the end of input.
-use Rattle.std.proofs.Common.{◌≡◌, ◌≢◌, ℕ, zero, suc, ◌+◌, ◌-◌, ◌<◌, ◌≤◌, Bool, true, false, not, ◌&&◌, ◌==◌, cond, List, [], ◌∷◌, ◌++◌, length, take, drop, fold, slice_get, is_none, option_map, option_and_then, pos, refl, sym, ◌∙◌, ap, subst, arith, Option, Some, None, ◌⊎◌, inl, inr, take-append-drop, length-append, append_assoc}
+use Rattle.std.proofs.Common.{◌≡◌, ◌≢◌, ℕ, zero, suc, ◌+◌, ◌-◌, ◌<◌, ◌≤◌, Bool, true, false, not, ◌&&◌, ◌||◌, ◌==◌, cond, List, [], ◌∷◌, ◌++◌, length, take, drop, fold, slice_get, is_none, option_map, option_and_then, pos, refl, sym, ◌∙◌, ap, subst, arith, Option, Some, None, ◌⊎◌, inl, inr, ⊎_elim, take-append-drop, length-append, append_assoc}
 use Rattle.std.proofs.lemmas.List.Sums.{fold-append}
 use Rattle.std.proofs.lemmas.List.{length-drop, drop_all, drop-drop, map-append}
 use Rattle.std.proofs.lemmas.Bool.{ne_eqb, eqb-true, eqb-false, cond-true, cond-false}
@@ -14,7 +14,7 @@ use Rattle.pipe_model.specs.Shape.{Records, writes, acts_of, last_pairs}
 use Rattle.pipe_model.specs.Parts.{without_last, last_part, onto_part, cut_after}
 use Rattle.pipe_model.specs.SpecsRows.{Desk, effect, run, at_first, begun, closed, cycle, reads, groups, waiting, waits, after_cycles, reached, so_far, after_input, after_all, written_by, cycle_pairs, waiting_pairs, eof_pairs, specs, origin_of, first_of_all, has_unwritten}
 use Rattle.pipe_model.proofs.Numbers.{equal_or_not}
-use Rattle.pipe_model.proofs.Truths.{both, not_second}
+use Rattle.pipe_model.proofs.Truths.{both, either, not_second}
 use Rattle.specs_stage.specs.Cycling.{handed, IsBetween, IsUnderWay, IsWaiting, IsRunning, IsFaulty, IsOver}
 
 -- Runs of items
@@ -712,6 +712,9 @@ module _ (items : List Item) (eof : Option (List Item)) (recs : Records) where
 
   pub halts_at_fault : (specs items eof).halts recs ≡ true → IsFaulty items recs
   halts_at_fault is = is_fault (so_far items recs) (both (reads items == 0) (is_none (so_far items recs)) is).1
+
+  pub ends_at_fault : ((specs items eof).stops recs || (specs items eof).halts recs) ≡ true → IsFaulty items recs
+  ends_at_fault is = ⊎_elim stops_at_fault halts_at_fault (either ((specs items eof).stops recs) ((specs items eof).halts recs) is)
 
   -- the code with which it ends is that of all
   pub code-of : (o : Option Desk) → after_all items eof recs ≡ o → (specs items eof).code recs ≡ cond (is_none o) (pos 8) (pos 0)
