@@ -43,3 +43,6 @@ item_fails items at item d low is other fails = ap (λ xs. run (before_read xs) 
 pub one_less : (items : List Item) (at : ℕ) (item : Item) → at < length items → item ≡ get_or items at item → is_read item ≡ false
     → length (before_read (drop at items)) ≡ suc (length (before_read (drop (at + 1) items)))
 one_less items at item low is other = ap (λ xs. length (before_read xs)) (from_place items at item low is) ∙ ap length (before_more item (drop (at + 1) items) other)
+
+pub fails_here : (items : List Item) (at : ℕ) (item : Item) (d : Desk) → at < length items → item ≡ get_or items at item → effect item d ≡ None → run (drop at items) d ≡ None
+fails_here items at item d low is fails = ap (λ xs. run xs d) (from_place items at item low is) ∙ ap (λ x. fold (λ desk item. option_and_then (effect item) desk) x (drop (at + 1) items)) fails ∙ stays_none (drop (at + 1) items)

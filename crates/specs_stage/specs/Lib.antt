@@ -1,3 +1,3 @@
-pub mod Cycling
 pub mod Output
 pub mod Desks
+pub mod Cycles

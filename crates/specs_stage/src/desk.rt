@@ -1,4 +1,4 @@
-ghost use Rattle.std.specs.Prelude.{◌≡◌, ◌<◌, List, [], ℕ, drop, IfOk, IfSome, OnOk, option_map, if◌then◌else◌, length, Some, None, false, is_some};
+ghost use Rattle.std.specs.Prelude.{◌≡◌, ◌<◌, List, [], ◌∷◌, ◌++◌, ℕ, drop, IfOk, IfSome, OnOk, option_map, if◌then◌else◌, length, Some, None, false, is_some};
 ghost use Rattle.pipe_model.specs.declared.items.Item.TheVariants.{Field, Write, Set};
 ghost use Rattle.pipe_model.specs.Fields.{field_stripped, converted};
 ghost use Rattle.pipe_model.specs.Shape.{Records};
@@ -302,5 +302,58 @@ impl Desk {
             count += 1;
         }
         Ok(Some(count))
+    }
+    // Begins the next cycle with a record, and does what the items before the first READ say.
+    pub(crate) fn start(
+        &mut self,
+        alloc: Global,
+        items: &[Item],
+        rec: &[u8],
+    ) -> Result<Option<usize>, NoMemory>
+        ensures ran { IfOk result (λ count. self.old.number < 50000000 → (hand : List ℕ) (coming more : Records) → run (before_read items.now) (begun (desk_of self.old hand coming) (rec.now ∷ more)) ≡ (if is_some count then Some (desk_of self.new rec.now more) else None)) }
+        ensures count { IfOk result (λ count. IfSome count (λ n. n ≡ length (before_read items.now))) }
+    {
+        self.begin();
+        self.run(alloc, items, rec)
+    }
+
+    // Does what the items say, with an empty record at hand, and none that comes. Where that is a fault, `false` says so.
+    pub(crate) fn run_to_end(&mut self, alloc: Global, items: &[Item]) -> Result<bool, NoMemory>
+        ensures { IfOk result (λ good. run items.now (desk_of self.old [] []) ≡ (if good then Some (desk_of self.new [] []) else None)) }
+    {
+        for item in items {
+            if let Item::Read = item {
+                continue;
+            }
+            if !self.effect(alloc, item, b"")? {
+                return Ok(false);
+            }
+        }
+        Ok(true)
+    }
+}
+
+// Copies of some records.
+fn add_copies(alloc: Global, copies: &mut Vec<Rec>, recs: &[Rec]) -> Result<(), NoMemory>
+    ensures { OnOk result (copies.new.items ≡ copies.old.items ++ recs.now) }
+{
+    for rec in recs {
+        copies.push(rec.copy(alloc)?)?;
+    }
+    Ok(())
+}
+
+impl Desk {
+    // Makes it a copy of another.
+    pub(crate) fn copy(&mut self, alloc: Global, other: &Desk) -> Result<(), NoMemory>
+        ensures { OnOk result ((hand : List ℕ) (coming : Records) → desk_of self.new hand coming ≡ desk_of other.now hand coming) }
+    {
+        self.counters = other.counters;
+        self.number = other.number;
+        self.pad = other.pad;
+        self.output.clear();
+        self.output.extend_from_slice(&other.output)?;
+        self.written.clear();
+        add_copies(alloc, &mut self.written, &other.written)
     }
 }

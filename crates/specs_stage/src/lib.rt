@@ -1,10 +1,11 @@
-//! SPECS, which puts fields of records into records of its own: its lower half. A desk does what items say, up to a READ,
-//! as the row of SPECS has it, and the laws of its cycles are proved; the lists and the stage over them come next.
+//! SPECS, which puts fields of records into records of its own, up to its cycles: a desk does what items say, and a cycle
+//! takes records one by one, as the row of SPECS has it. The lists and the stage over them come next.
 #![tactic(auto)]
 
+mod copies;
+mod cycle;
 mod desk;
 mod hex_digits;
-mod laws;
 mod numbers;
 mod output;
 #[cfg(test)]

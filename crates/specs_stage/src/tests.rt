@@ -1,8 +1,9 @@
+use crate::cycle::Cycle;
 use crate::desk::Desk;
 use crate::hex_digits::{add_from_hex, add_to_hex};
 use crate::numbers::{add_in_ten_places, counter_after, number_in};
 use crate::output::put;
-use pipe_model::{Align, Item, Origin, Range, SetOp, Span, Spot};
+use pipe_model::{Align, Item, Lines, Origin, Range, SetOp, Span, Spot};
 use std::test::Fail;
 
 #[test]
@@ -129,5 +130,26 @@ fn a_cycle_writes_its_records(rt: HostRuntime) -> Result<(), Fail> {
         text.push(b'.')?;
     }
     assert_eq!(rt; text.as_slice(), b"ab.c.".as_slice());
+    Ok(())
+}
+
+#[test]
+fn cycles_go_on_record_by_record(rt: HostRuntime) -> Result<(), Fail> {
+    let alloc = rt.alloc();
+    let mut items = Vec::new(alloc);
+    items.push(whole())?;
+    items.push(Item::Read)?;
+    items.push(whole())?;
+    let mut cycle = Cycle::new(alloc, items);
+    let mut text = Vec::new(alloc);
+    for rec in Lines::new(b"a\nb\nc\nd\ne") {
+        cycle.see(alloc, rec)?;
+        for made in cycle.written() {
+            text.extend_from_slice(made.bytes())?;
+        }
+        text.push(b'.')?;
+    }
+    assert_eq!(rt; text.as_slice(), b".ab..cd..".as_slice());
+    assert!(rt; !cycle.is_faulty());
     Ok(())
 }
