@@ -32,9 +32,9 @@ use Rattle.stage_steps.specs.Group.{group_acts, held_acts, is_due, IsOfRecord, I
 use Rattle.stage_steps.specs.KeptText.{KeptText}
 use Rattle.stage_steps.specs.Kept.{kept_after}
 use Rattle.stage_steps.specs.Lists.{Sees, Finishes, Tells}
-use Rattle.stage_steps.specs.Listed.{list_row, first_write, when_written, and_behind, goal_behind, is_last, IsBeforeTake, PlaceIs, AllIs, WalkIs}
+use Rattle.stage_steps.specs.Listed.{list_row, first_write, when_written, and_behind, goal_behind, IsBeforeTake, PlaceIs, AllIs, WalkIs}
 use Rattle.stage_steps.specs.Outputs.{open_after, open_from, live, none_left}
-use Rattle.stage_steps.specs.Places.{order_of, want_at, place_with, sight_place, look_place, taken_place, place_behind}
+use Rattle.stage_steps.specs.Places.{order_of, want_at, place_with, is_last, sight_place, look_place, taken_place, place_behind}
 use Rattle.stage_steps.specs.Walk.{IsBegun, Hears, Fetches, Puts, Turns, Asks}
 use Rattle.stage_steps.proofs.Flags.{closed_open, refused_is}
 use Rattle.stage_steps.proofs.Acts.{live_is, live_refused, want_first, after_put, after_refused, live_behind, left_of, left_seen, pair_of, comes}
@@ -420,7 +420,7 @@ module _ {L : Type 0} (stands : L → Bool → Stream → Records → List Act �
   asks_at follow given None sight seen is fetches turn =
       let rec = at_hand_of (records_of p.known.seen) in
       let f = fetches (is_last follow) t (records_of p.known.seen) is.0 is.1 in
-      behind follow (subst (λ z. stands z (is_last follow) t (records_of p.known.seen) []) (sym turn.0) f.1) turn.1 (turn.2 (is_last follow) t (records_of p.known.seen) [] f.1) turn.3
+      behind follow (subst (λ z. stands z (is_last follow) t (records_of p.known.seen) []) (sym turn.0) f.1) turn.1 (turn.2 t (records_of p.known.seen) [] f.1) turn.3
       (is.2 ∙ ap (λ l. Doing l (goal_behind follow t (records_of p.known.seen))) (live_behind flags follow (held_acts rec hand ++ is.0) ∙ ap (and_behind follow) f.0))
   asks_at follow given (Some g) sight seen is fetches turn =
       let f = fetches.2 (is_last follow) t (records_of p.known.seen) is.0 is.1 in

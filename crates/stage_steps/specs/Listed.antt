@@ -28,7 +28,7 @@ use Rattle.stage_steps.specs.Coroutine.{kept_by, record_seen_on}
 use Rattle.stage_steps.specs.Group.{held_acts, IsLeftOfRecord}
 use Rattle.stage_steps.specs.KeptText.{KeptText}
 use Rattle.stage_steps.specs.Outputs.{open_from, live}
-use Rattle.stage_steps.specs.Places.{order_of}
+use Rattle.stage_steps.specs.Places.{order_of, is_last}
 
 -- Which lists a strand's shape is made of
 
@@ -80,11 +80,6 @@ and_behind _ acts = acts
 abbrev pub goal_behind : Follow → Stream → Records → Goal
 goal_behind End t recs = Ends (t.code recs)
 goal_behind _ t recs = next_record t recs
-
--- the input has ended
-abbrev pub is_last : Follow → Bool
-is_last End = true
-is_last _ = false
 
 -- the rest is to be done, before the walk asks, or when it has asked for a record before it
 abbrev pub IsDoing : Bool → List Act → Goal → Phase → Type 0

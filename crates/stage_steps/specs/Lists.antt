@@ -1,5 +1,5 @@
 -- What the calls of a stage of lists do, where the value stands for a stream of the stage table, the records so far, and what is left to write of the list that it gives now.
-use Rattle.std.specs.Prelude.{◌≡◌, ◌<◌, ℕ, Bool, true, false, List, [], ◌∷◌, ◌++◌, length, is_some, unwrap_or}
+use Rattle.std.specs.Prelude.{◌≡◌, ◌<◌, ◌||◌, ℕ, Bool, true, false, List, [], ◌∷◌, ◌++◌, length, is_some, unwrap_or}
 use Rattle.std.specs.declared.option.Option.{Option}
 use Rattle.std.specs.declared.option.Option.TheVariants.{Some, None}
 use Rattle.pipe_model.specs.Row.{Act}
@@ -37,6 +37,10 @@ HandsOver stands made x rec y = is_some (made x) ≡ true → (rec ≡ unwrap_or
 -- what it tells is what the stream says after the records so far
 abbrev pub Tells : {L A : Type 0} → (L → Bool → Stream → Records → List Act → Type 0) → L → A → (Stream → Records → A) → Type 0
 Tells stands x a f = (over : Bool) (t : Stream) (recs : Records) (acts : List Act) → stands x over t recs acts → a ≡ f t recs
+
+-- the same of what is told only where the stage ends: behind the end of input, or at a record that ends it
+abbrev pub TellsAtEnd : {L A : Type 0} → (L → Bool → Stream → Records → List Act → Type 0) → L → A → (Stream → Records → A) → Type 0
+TellsAtEnd stands x a f = (over : Bool) (t : Stream) (recs : Records) (acts : List Act) → stands x over t recs acts → (over || (t.stops recs || t.halts recs)) ≡ true → a ≡ f t recs
 
 -- Where pairs are written for each record alone, and nothing ends the stage
 

@@ -1,5 +1,5 @@
 -- Where a walk of pairs stands, and what is asked for there.
-use Rattle.std.specs.Prelude.{if◌then◌else◌, pos, negsuc}
+use Rattle.std.specs.Prelude.{if◌then◌else◌, Bool, true, false, pos, negsuc}
 use Rattle.pipe_model.specs.declared.step.Want.{Want}
 use Rattle.pipe_model.specs.declared.step.Want.TheVariants.{Commit, Read, Take, Done}
 use Rattle.pipe_model.specs.Shape.{Records, Stream, Order as RowOrder}
@@ -48,3 +48,8 @@ abbrev pub place_behind : Follow → Stream → Records → Place
 place_behind Follows.Take t recs = Taking
 place_behind Follows.Look t recs = look_place t recs
 place_behind Follows.End t recs = Ending (t.code recs)
+
+-- the input has ended
+abbrev pub is_last : Follow → Bool
+is_last Follows.End = true
+is_last _ = false

@@ -21,7 +21,7 @@ use Rattle.stage_steps.specs.declared.place.Place.TheVariants.{Starting, Committ
 use Rattle.stage_steps.specs.Group.{group_acts, held_acts, is_due, less_one, IsHeld, IsOfRecord, IsLeftOfRecord}
 use Rattle.stage_steps.specs.Lists.{Begins, Sees, Finishes, StandsOn, Tells}
 use Rattle.stage_steps.specs.Outputs.{live}
-use Rattle.stage_steps.specs.Places.{want_at, sight_place, taken_place, place_behind}
+use Rattle.stage_steps.specs.Places.{want_at, sight_place, taken_place, place_behind, is_last}
 
 -- behind commit level 0 the pairs at the start are given, unless the code ends it
 abbrev pub IsBegun : {L : Type 0} → (L → Bool → Stream → Records → List Act → Type 0) → L → L → Place → Bool → Type 0
@@ -53,10 +53,14 @@ abbrev pub Puts : {L : Type 0} → (L → Bool → Stream → Records → List A
 Puts stands made y (AtHand r) z hand asked = (z ≡ y) × (hand ≡ less_one r) × (asked ≡ Write r.output (Same 0))
 Puts stands made y (New o) z hand asked = StandsOn stands y z × (hand ≡ None) × (asked ≡ Write o (Fresh (unwrap_or (made y) [])))
 
+-- when nothing is left to write it goes on as the stream says
+abbrev pub TellsBehind : {L : Type 0} → (L → Bool → Stream → Records → List Act → Type 0) → L → Follow → Place → Type 0
+TellsBehind stands x follow place = (t : Stream) (recs : Records) (acts : List Act) → stands x (is_last follow) t recs acts → place ≡ place_behind follow t recs
+
 -- a group is written, or where there is none the walk goes on
 abbrev pub Turns : {L : Type 0} → (L → Bool → Stream → Records → List Act → Type 0) → (L → Option (List ℕ)) → Follow → L → Option Group → L → Option Repeat → Place → Want → Type 0
 Turns stands made follow y (Some g) z hand place asked = Puts stands made y g z hand asked × (place ≡ Writing follow)
-Turns stands made follow y None z hand place asked = (z ≡ y) × (hand ≡ None) × Tells stands y place (place_behind follow) × (asked ≡ want_at place)
+Turns stands made follow y None z hand place asked = (z ≡ y) × (hand ≡ None) × TellsBehind stands y follow place × (asked ≡ want_at place)
 
 -- what is asked for in a place, and what is so then
 abbrev pub Asks : {L : Type 0} → (L → Bool → Stream → Records → List Act → Type 0) → (L → Option (List ℕ)) → List Bool → L → Option Repeat → Place → L → Option Repeat → Place → Want → Type 0

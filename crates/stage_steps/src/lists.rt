@@ -1,7 +1,7 @@
 ghost use Rattle.std.specs.Prelude.{◌≡◌, ◌<◌, ℕ, List, [], Bool, IfOk, IfSome, Option};
 ghost use Rattle.pipe_model.specs.Row.{Act};
 ghost use Rattle.pipe_model.specs.Shape.{Records, Stream};
-ghost use Rattle.stage_steps.specs.Lists.{Begins, Sees, Finishes, GivesNext, HandsOver, Tells};
+ghost use Rattle.stage_steps.specs.Lists.{Begins, Sees, Finishes, GivesNext, HandsOver, Tells, TellsAtEnd};
 
 use crate::group::Group;
 use pipe_model::{NoMemory, Rec};
@@ -57,9 +57,9 @@ pub trait Lists: Sized + Drop {
     fn stops(&self) -> bool
         ensures { Tells stands self.now result (λ t recs. t.stops recs) };
 
-    /// The code with which it ends.
+    /// The code with which it ends. It is asked for behind the end of input, or at a record that ends it.
     fn code(&self) -> i32
-        ensures { Tells stands self.now result (λ t recs. t.code recs) };
+        ensures { TellsAtEnd stands self.now result (λ t recs. t.code recs) };
 
     /// Whether it needs the bytes of the records.
     fn looks(&self) -> bool

@@ -3,9 +3,9 @@ ghost use Rattle.std.specs.Ordering.{int_eq};
 ghost use Rattle.stage_steps.specs.declared.place.Place.TheVariants.{Writing};
 ghost use Rattle.stage_steps.specs.Outputs.{none_left};
 ghost use Rattle.stage_steps.specs.Group.{less, less_one, IsHeld};
-ghost use Rattle.stage_steps.specs.Places.{look_place, sight_place, taken_place, place_behind};
+ghost use Rattle.stage_steps.specs.Places.{look_place, sight_place, taken_place};
 ghost use Rattle.stage_steps.specs.Lists.{Tells};
-ghost use Rattle.stage_steps.specs.Walk.{IsBegun, Hears, Fetches, Puts, Asks};
+ghost use Rattle.stage_steps.specs.Walk.{IsBegun, Hears, Fetches, Puts, Asks, TellsBehind};
 
 use crate::group::{Group, Repeat};
 use crate::kept::Kept;
@@ -80,7 +80,7 @@ fn taken_place<L: Lists>(lists: &L, order: Order) -> Place
 // The place when nothing is left to write.
 #[inline(always)]
 fn place_behind<L: Lists>(lists: &L, follow: Follow) -> Place
-    ensures { Tells L.stands lists.now result (place_behind follow) }
+    ensures { TellsBehind L.stands lists.now follow result }
 {
     match follow {
         Follow::Take => Place::Taking,

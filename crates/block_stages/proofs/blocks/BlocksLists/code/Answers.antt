@@ -6,7 +6,7 @@ use Rattle.block_stages.proofs.Ending.{code_as}
 use Rattle.block_stages.proofs.blocks.BlocksLists.code.Goals as goal
 
 pub returns-else-self : goal.returns-else-self
-returns-else-self c = λ over t recs acts is.
+returns-else-self c = λ over t recs acts is ends.
     let x = c.args.self.now in
     let whole : to_z w32 (of_z w32 c.code_at.result) ≡ c.code_at.result = grind (arith, to_z-of_z, c.code_at.type_inv) in
     whole ∙ c.code_at.ensures ∙ ap (λ text. code_by x.cuts (last_part (parts_by x.cuts text))) (c.behind.ensures ∙ ap (drop x.at) c.deref.ensures.value)

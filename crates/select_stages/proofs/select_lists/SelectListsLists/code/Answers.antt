@@ -11,4 +11,4 @@ zero_by (Pick x) over t recs acts is = sym (ap (λ (t : Stream). t.code recs) is
 zero_by (Hold x) over t recs acts is = sym (ap (λ (t : Stream). t.code recs) is.0)
 
 pub returns : goal.returns
-returns c = zero_by c.args.self.now
+returns c = λ over t recs acts is ends. zero_by c.args.self.now over t recs acts is

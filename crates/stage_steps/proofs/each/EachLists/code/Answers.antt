@@ -3,4 +3,4 @@ use Rattle.pipe_model.specs.Shape.{Stream}
 use Rattle.stage_steps.proofs.each.EachLists.code.Goals as goal
 
 pub returns : goal.returns
-returns g c = λ over t recs acts is. sym (ap (λ (t : Stream). t.code recs) is.1)
+returns g c = λ over t recs acts is ends. sym (ap (λ (t : Stream). t.code recs) is.1)
