@@ -5,6 +5,7 @@ pub mod DeviceForms
 pub mod EditingForms
 pub mod Fault
 pub mod Forms
+pub mod ItemForms
 pub mod Keywords
 pub mod Kinds
 pub mod Names
@@ -21,5 +22,7 @@ pub mod Refusals
 pub mod Rows
 pub mod SelectionForms
 pub mod SpanNames
+pub mod Spots
 pub mod StageForms
 pub mod Strings
+pub mod WholeNumbers

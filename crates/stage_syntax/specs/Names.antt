@@ -15,6 +15,7 @@ use Rattle.stage_syntax.specs.Forms.{row, no_arguments, before_range, of_range, 
 use Rattle.stage_syntax.specs.DeviceForms.{console, file_in, file_out, literal}
 use Rattle.stage_syntax.specs.SelectionForms.{locate, nlocate, find, nfind, takes, drops, between, inside, to_label, fr_label}
 use Rattle.stage_syntax.specs.EditingForms.{change, strip, chop, pad, split, join, xlate, reversed, duplicate}
+use Rattle.stage_syntax.specs.ItemForms.{specs}
 use Rattle.stage_syntax.specs.OrderForms.{unique, sort, count, fblock, block, deblock}
 
 -- OVERLAY: [byte], a blank where it isn't given
@@ -41,7 +42,7 @@ running name arguments = record { name = name; runs = true; arguments = argument
 abbrev pub coming : List ℕ → Arguments → Named
 coming name arguments = record { name = name; runs = false; arguments = arguments }
 
--- all stages but SPECS; `first` says that the stage stands first in its pipeline
+-- all stages; `first` says that the stage stands first in its pipeline
 abbrev pub stages : Bool → List Named
 stages first =
     running (codes "console") (console first)
@@ -91,7 +92,8 @@ stages first =
     ∷ (running (codes "fblock") fblock
     ∷ (running (codes "block") block
     ∷ (running (codes "deblock") deblock
-    ∷ []))))))))))))))))))))))))))))))))))))))))))))))
+    ∷ (running (codes "specs") specs
+    ∷ [])))))))))))))))))))))))))))))))))))))))))))))))
 
 -- the arguments of the first stage of a list that has the name, in any case, and can be typed
 abbrev pub named_in : List Named → List ℕ → Option Arguments

@@ -1,7 +1,8 @@
 -- What may come next among the arguments of a stage, and how it is read.
-use Rattle.std.specs.Prelude.{◌≡◌, ℕ, ◌<◌, List, [], ◌∷◌, length, ◌⊎◌, ⊤}
+use Rattle.std.specs.Prelude.{◌≡◌, ℕ, ℤ, ◌<◌, List, [], ◌∷◌, length, ◌⊎◌, ⊤}
 use Rattle.pipe_model.specs.declared.kind.Times.{Times}
 use Rattle.pipe_model.specs.declared.kind.Times.TheVariants.{Only, All}
+use Rattle.pipe_model.specs.declared.items.Spot.{Spot}
 use Rattle.pipe_model.specs.declared.range.Range.{Range}
 use Rattle.stage_syntax.specs.declared.fault.FaultKind.{FaultKind}
 use Rattle.stage_syntax.specs.declared.fault.FaultKind.TheVariants.{Extra, NotANumber, Unclosed, EmptyString, UnknownWord, BadHex}
@@ -16,7 +17,9 @@ use Rattle.stage_syntax.specs.NamesOfFiles.{IsName, IsNameMisfit}
 use Rattle.stage_syntax.specs.NumberWords.{IsNumberIn, IsNumberMisfit}
 use Rattle.stage_syntax.specs.PairsOfStrings.{IsAnyString, IsAnyStringMisfit, AreStrings, AreMisfits}
 use Rattle.stage_syntax.specs.RangeWords.{IsRange, IsRangeMisfit, IsBareRange, IsBareRangeFault}
+use Rattle.stage_syntax.specs.Spots.{IsSpot, IsSpotMisfit}
 use Rattle.stage_syntax.specs.Strings.{IsString, IsNoString}
+use Rattle.stage_syntax.specs.WholeNumbers.{IsCounter, IsWholeIn, IsWholeMisfit}
 use Rattle.pipe_model.specs.Words.{IsFirstWord, IsUnblanked}
 
 -- One part
@@ -41,6 +44,9 @@ IsPart (Asked.Number least most) text value rest = (number : ℕ) × (value ≡ 
 IsPart Asked.Times text value rest = (times : Times) × (value ≡ Read.Times times) × AreTimes text times rest
 IsPart (Asked.Word key) text value rest = (value ≡ Read.Word key) × IsKeyword text key rest
 IsPart Asked.Name text value rest = (name : List ℕ) × (value ≡ Read.String name) × IsName text name rest
+IsPart Asked.Counter text value rest = (k : ℕ) × (value ≡ Read.Counter k) × IsCounter text k rest
+IsPart Asked.Whole text value rest = (number : ℤ) × (value ≡ Read.Whole number) × IsWholeIn text number rest
+IsPart Asked.Spot text value rest = (spot : Spot) × (value ≡ Read.Spot spot) × IsSpot text spot rest
 
 -- a string has this fault whatever else may come there
 abbrev pub IsOfStrings : FaultKind → Type 0
@@ -62,6 +68,9 @@ IsPartMisfit (Asked.Number least most) text fault = IsNumberMisfit text least mo
 IsPartMisfit Asked.Times text fault = IsNumberMisfit text 0 most_times fault
 IsPartMisfit (Asked.Word key) text fault = ⊥
 IsPartMisfit Asked.Name text fault = IsNameMisfit text fault
+IsPartMisfit Asked.Counter text fault = ⊥
+IsPartMisfit Asked.Whole text fault = IsWholeMisfit text fault
+IsPartMisfit Asked.Spot text fault = IsSpotMisfit text fault
 
 -- the text isn't the part
 abbrev pub IsNot : Part → List ℕ → Type 0
@@ -103,6 +112,7 @@ fault_of Asked.Range = NotANumber
 fault_of Asked.Columns = NotANumber
 fault_of (Asked.Number least most) = NotANumber
 fault_of Asked.Times = NotANumber
+fault_of Asked.Whole = NotANumber
 fault_of _ = UnknownWord
 
 -- the last of the parts gives it, and where none may come, the word is too many

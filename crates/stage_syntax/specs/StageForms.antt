@@ -15,6 +15,7 @@ use Rattle.stage_syntax.specs.DeviceForms.{console, file_in, file_out, literal}
 use Rattle.stage_syntax.specs.SelectionForms.{locate, nlocate, find, nfind, takes, drops, between, inside, to_label, fr_label}
 use Rattle.stage_syntax.specs.EditingForms.{change, strip, chop, pad, split, join, xlate, reversed, duplicate}
 use Rattle.stage_syntax.specs.OrderForms.{unique, sort, count, fblock, block, deblock}
+use Rattle.stage_syntax.specs.ItemForms.{specs}
 use Rattle.stage_syntax.specs.Names.{Named, before_overlay, of_overlay}
 
 -- the arguments of this form; `first` says that the stage stands first in its pipeline
@@ -65,6 +66,7 @@ arguments_by Code.Copy first = no_arguments Kinds.Copy
 arguments_by Code.Fblock first = fblock
 arguments_by Code.Block first = block
 arguments_by Code.Deblock first = deblock
+arguments_by Code.Specs first = specs
 
 -- TEXT is all that the stage has
 abbrev pub is_text : Arguments → Bool

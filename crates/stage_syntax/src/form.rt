@@ -1,4 +1,5 @@
 ghost use Rattle.std.specs.Prelude.{◌≡◌, Bool, IfOk};
+ghost use Rattle.stage_syntax.specs.ItemForms.{draft_of, progress_of};
 ghost use Rattle.stage_syntax.specs.Rows.{text_in};
 ghost use Rattle.stage_syntax.specs.StageForms.{arguments_by, is_text, make_in, row_in};
 
@@ -8,6 +9,8 @@ use crate::editing_forms::{
     before_xlate, of_change, of_chop, of_duplicate, of_join, of_pad, of_split, of_strip, of_xlate,
     wrong_xlate,
 };
+use crate::item_lists::of_specs;
+use crate::item_parts::Progress;
 use crate::order_forms::{
     before_block, before_count, before_deblock, before_fblock, before_sort, before_unique,
     of_block, of_count, of_deblock, of_fblock, of_sort, of_unique, wrong_unique,
@@ -23,7 +26,7 @@ use crate::stream_forms::{
 use pipe_model::{Kind, NoMemory};
 use std::alloc::Global;
 
-/// The form of a stage's arguments: one for each stage but SPECS.
+/// The form of a stage's arguments: one for each stage.
 #[derive(Clone, Copy, Debug, PartialEq, Eq)]
 pub enum Form {
     Console,
@@ -75,6 +78,7 @@ pub enum Form {
     Fblock,
     Block,
     Deblock,
+    Specs,
 }
 
 /// Whether TEXT is all that a stage has.
@@ -87,8 +91,9 @@ pub fn has_text(form: Form) -> bool
     }
 }
 
-/// What may come after these arguments.
-pub fn parts_after(form: Form, values: &[Value]) -> &'static [Part]
+/// What may come after these arguments, which are so far those of SPECS, if they are its.
+pub fn parts_after(form: Form, values: &[Value], progress: Progress) -> &'static [Part]
+    requires { progress ≡ progress_of (draft_of values.now) }
     ensures { (first : Bool) → result.now ≡ (row_in (arguments_by form first)).next values.now }
 {
     match form {
@@ -113,6 +118,7 @@ pub fn parts_after(form: Form, values: &[Value]) -> &'static [Part]
         Form::Fblock => before_fblock(values),
         Form::Block => before_block(values),
         Form::Deblock => before_deblock(values),
+        Form::Specs => progress.parts(),
         _ => &[],
     }
 }
@@ -179,6 +185,7 @@ pub fn kind_by(
         Form::Fblock => Ok(of_fblock(values)),
         Form::Block => of_block(alloc, values),
         Form::Deblock => of_deblock(alloc, values),
+        Form::Specs => of_specs(alloc, values),
         Form::Literal | Form::Find | Form::Nfind | Form::ToLabel | Form::FrLabel => Ok(None),
     }
 }

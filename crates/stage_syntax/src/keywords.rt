@@ -32,6 +32,21 @@ impl Word {
             Word::Linend => b"linend",
             Word::String => b"string",
             Word::Sf => b"sf",
+            Word::Number => b"number",
+            Word::Print => b"print",
+            Word::Read => b"read",
+            Word::Write => b"write",
+            Word::Pad => b"pad",
+            Word::Set => b"set",
+            Word::Eof => b"eof",
+            Word::Strip => b"strip",
+            Word::C2x => b"c2x",
+            Word::X2c => b"x2c",
+            Word::Center => b"center",
+            Word::Put => b"=",
+            Word::Add => b"+=",
+            Word::Subtract => b"-=",
+            Word::Num => b"num",
         }
     }
 }

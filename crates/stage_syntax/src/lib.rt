@@ -10,6 +10,8 @@ mod digits;
 mod editing_forms;
 mod fault;
 mod form;
+mod item_lists;
+mod item_parts;
 mod keywords;
 mod laws;
 mod names;
@@ -24,6 +26,7 @@ mod rows;
 mod selection_forms;
 mod span_words;
 mod spelled;
+mod spots;
 mod stages;
 mod stream_forms;
 mod string_pairs;
@@ -32,6 +35,7 @@ mod taken;
 #[cfg(test)]
 mod tests;
 mod text;
+mod whole_numbers;
 
 pub use arg::Arg;
 pub use bounds::{Misfit, no_misfit, range_of};

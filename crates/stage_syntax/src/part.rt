@@ -2,7 +2,7 @@ ghost use Rattle.std.specs.Prelude.{◌≡◌, IfOk};
 ghost use Rattle.pipe_model.specs.Straight as Ranges;
 
 use crate::fault::FaultKind;
-use pipe_model::{NoMemory, Range, Rec, Span, Times};
+use pipe_model::{NoMemory, Range, Rec, Span, Spot, Times};
 use std::alloc::Global;
 
 /// A keyword, read in any case.
@@ -31,6 +31,24 @@ pub enum Word {
     Linend,
     String,
     Sf,
+    Number,
+    Print,
+    Read,
+    Write,
+    Pad,
+    Set,
+    Eof,
+    Strip,
+    C2x,
+    X2c,
+    Center,
+    /// `=`
+    Put,
+    /// `+=`
+    Add,
+    /// `-=`
+    Subtract,
+    Num,
 }
 
 /// What may come next among the arguments of a stage.
@@ -55,6 +73,12 @@ pub enum Part {
     Word(Word),
     /// A word of at most 255 bytes.
     Name,
+    /// A counter of SPECS, `#0` to `#9`.
+    Counter,
+    /// A whole number of 64 bits, with a minus sign or without one.
+    Whole,
+    /// Where SPECS puts a field.
+    Spot,
 }
 
 /// An argument that was read.
@@ -67,6 +91,10 @@ pub enum Value {
     Number(u32),
     Times(Times),
     Word(Word),
+    /// 0 to 9
+    Counter(u8),
+    Whole(i64),
+    Spot(Spot),
 }
 
 /// A fault in a text, where so many bytes are left of it.

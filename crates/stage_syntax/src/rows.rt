@@ -9,6 +9,7 @@ ghost use Rattle.stage_syntax.specs.StageForms.{arguments_by, make_in, row_in};
 use crate::arg::Arg;
 use crate::fault::{ArgFault, FaultKind, KindFault};
 use crate::form::{Form, has_text, kind_by, parts_after, text_kind, wrong_of};
+use crate::item_parts::Progress;
 use crate::next::{Argument, next_part};
 use crate::part::{TextFault, Value};
 use crate::refusal::Refusal;
@@ -80,12 +81,14 @@ fn read_parts(alloc: Global, form: Form, first: bool, text: &[u8]) -> Result<Kin
 {
     let mut values: Vec<Value> = Vec::new(alloc);
     let mut lefts: Vec<usize> = Vec::new(alloc);
+    let mut progress = Progress::new();
     let mut rest = text;
     while let Some(Argument { value, left, len }) = next_part(
         alloc,
-        parts_after(form, &values),
+        parts_after(form, &values, progress),
         rest,
     )? {
+        progress = progress.after(&value);
         keep(&mut values, &mut lefts, value, left)?;
         if let Some(fault) = wrong_of(form, &values, &lefts) {
             return Err(Refusal::Fault(fault));

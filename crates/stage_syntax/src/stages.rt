@@ -6,7 +6,7 @@ ghost use Rattle.stage_syntax.specs.StageForms.{arguments_by, named_as};
 use crate::form::Form;
 
 /// The names of stages, whether each can be typed, and the form of its arguments.
-pub const STAGES: [(&[u8], bool, Form); 47] = [
+pub const STAGES: [(&[u8], bool, Form); 48] = [
     (b"console", true, Form::Console),
     (b"<", false, Form::FileIn),
     (b">", false, Form::FileOut),
@@ -54,6 +54,7 @@ pub const STAGES: [(&[u8], bool, Form); 47] = [
     (b"fblock", true, Form::Fblock),
     (b"block", true, Form::Block),
     (b"deblock", true, Form::Deblock),
+    (b"specs", true, Form::Specs),
 ];
 
 /// The form of the arguments of the stage of this name, in any case, if it can be typed.

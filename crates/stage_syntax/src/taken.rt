@@ -12,8 +12,10 @@ use crate::number_words::number_in;
 use crate::part::{Part, TextFault, Value, Word};
 use crate::range_words::{columns, range};
 use crate::refusal::Refusal;
+use crate::spots::spot;
 use crate::string_pairs::{any_string, two_strings};
 use crate::text::string;
+use crate::whole_numbers::{counter, whole};
 use std::alloc::Global;
 
 /// A part that was read, and how many bytes spell it.
@@ -42,6 +44,9 @@ pub fn part_at(alloc: Global, part: Part, text: &[u8]) -> Result<Option<Taken>, 
         Part::Times => times_at(text),
         Part::Word(key) => Ok(word_at(text, key)),
         Part::Name => Ok(Some(name_at(alloc, text)?)),
+        Part::Counter => Ok(counter_at(text)),
+        Part::Whole => whole_at(text),
+        Part::Spot => spot_at(text),
     }
 }
 
@@ -210,4 +215,46 @@ fn name_at(alloc: Global, text: &[u8]) -> Result<Taken, Refusal>
         value: Value::String(spelled.string),
         len: spelled.len,
     })
+}
+
+// The counter at the front of a text.
+fn counter_at(text: &[u8]) -> Option<Taken>
+    ensures within { IfSome result (λ taken. taken.len ≤ length text.now) }
+    ensures read { MatchOption result (IsNoPart Asked.Counter text.now) (λ taken. IsPart Asked.Counter text.now taken.value (drop taken.len text.now)) }
+{
+    let k = counter(text)?;
+    Some(Taken {
+        value: Value::Counter(k),
+        len: 2,
+    })
+}
+
+// The whole number at the front of a text.
+fn whole_at(text: &[u8]) -> Result<Option<Taken>, Refusal>
+    ensures within { IfOk result (λ found. IfSome found (λ taken. taken.len ≤ length text.now)) }
+    ensures read { IfOk result (λ found. MatchOption found (IsNoPart Asked.Whole text.now) (λ taken. IsPart Asked.Whole text.now taken.value (drop taken.len text.now))) }
+    ensures refused { IfErr result (Refuses (IsPartMisfit Asked.Whole text.now)) }
+{
+    match whole(text)? {
+        Some(spelled) => Ok(Some(Taken {
+            value: Value::Whole(spelled.value),
+            len: spelled.len,
+        })),
+        None => Ok(None),
+    }
+}
+
+// The place of a field at the front of a text.
+fn spot_at(text: &[u8]) -> Result<Option<Taken>, Refusal>
+    ensures within { IfOk result (λ found. IfSome found (λ taken. taken.len ≤ length text.now)) }
+    ensures read { IfOk result (λ found. MatchOption found (IsNoPart Asked.Spot text.now) (λ taken. IsPart Asked.Spot text.now taken.value (drop taken.len text.now))) }
+    ensures refused { IfErr result (Refuses (IsPartMisfit Asked.Spot text.now)) }
+{
+    match spot(text)? {
+        Some(spelled) => Ok(Some(Taken {
+            value: Value::Spot(spelled.spot),
+            len: spelled.len,
+        })),
+        None => Ok(None),
+    }
 }

@@ -1,0 +1,92 @@
+ghost use Rattle.std.specs.Prelude.{◌≡◌, ◌≤◌, Bool, ℕ, List, length, drop, IfOk, IfErr, IfSome, MatchOption};
+ghost use Rattle.std.specs.declared.option.Option.{Option};
+ghost use Rattle.stage_syntax.specs.Spots.{IsColumn, IsColumnFault, IsNextFault, IsNextName, IsNextPlace, IsNoSpot, IsSpot, IsSpotMisfit};
+
+use crate::bounds::range_of;
+use crate::digits::{first_digits, number};
+use crate::part::TextFault;
+use crate::ranges::{Ending, read_spelling};
+use pipe_model::{Span, Spot, first_word};
+
+/// Where SPECS puts a field, and how many bytes spell it.
+#[derive(Clone, Copy)]
+pub struct SpelledSpot {
+    pub spot: Spot,
+    pub len: usize,
+}
+
+/// The place that is the first word of a text, or None where the text doesn't begin as a place does.
+pub fn spot(text: &[u8]) -> Result<Option<SpelledSpot>, TextFault>
+    ensures within { IfOk result (λ found. IfSome found (λ spelled. spelled.len ≤ length text.now)) }
+    ensures read { IfOk result (λ found. MatchOption found (IsNoSpot text.now) (λ spelled. IsSpot text.now spelled.spot (drop spelled.len text.now))) }
+    ensures refused { IfErr result (IsSpotMisfit text.now) }
+{
+    let (word, _rest) = first_word(text);
+    if let Some(spot) = column(word, text.len())? {
+        return Ok(Some(SpelledSpot {
+            spot,
+            len: word.len(),
+        }));
+    }
+    match next_place(word, text.len())? {
+        Some(spot) => Ok(Some(SpelledSpot {
+            spot,
+            len: word.len(),
+        })),
+        None => Ok(None),
+    }
+}
+
+// The column that a word spells, with its length, where so many bytes are left of the text at the word's beginning.
+fn column(word: &[u8], left: usize) -> Result<Option<Spot>, TextFault>
+{
+    let Some(spelling) = read_spelling(word) else {
+        return Ok(None);
+    };
+    if spelling.ending == Ending::Open {
+        return Ok(None);
+    }
+    match range_of(Span::Columns, spelling) {
+        Ok(range) => Ok(Some(Spot::Column {
+            first: range.first,
+            len: column_length(spelling.ending, range),
+        })),
+        Err(misfit) => {
+            let (digits, _after) = first_digits(word);
+            let fault = place_misfit(misfit, digits.len() + 1);
+            Err(TextFault {
+                left: left - fault.at,
+                kind: fault.kind,
+            })
+        }
+    }
+}
+
+// The length that is named with a column.
+fn column_length(ending: Ending, range: Range) -> Option<u32> {
+    match (ending, range.last) {
+        (Ending::To(_) | Ending::Long(_), Some(last)) => Some(last - range.first + 1),
+        _ => None,
+    }
+}
+
+// NEXT or NEXTWORD, with its length.
+fn next_place(word: &[u8], left: usize) -> Result<Option<Spot>, TextFault>
+{
+    let (name, after) = before_dot(word);
+    let Some(apart) = next_named(name) else {
+        return Ok(None);
+    };
+    match after {
+        [b'.', digits @ ..] => match number(digits) {
+            Some(len) => {
+                if len == 0 || len > LARGEST {
+                    return Err(TextFault { left: left - (name.len() + 1), kind: FaultKind::OutOfRange });
+                }
+                Ok(Some(next_spot(apart, Some(len as u32))))
+            }
+            None => Ok(None),
+        },
+        _ => Ok(Some(next_spot(apart, None))),
+    }
+}
