@@ -6,6 +6,7 @@ pub mod EditingForms
 pub mod Fault
 pub mod Forms
 pub mod ItemForms
+pub mod ItemLists
 pub mod Keywords
 pub mod Kinds
 pub mod Names

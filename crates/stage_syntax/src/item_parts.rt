@@ -38,7 +38,7 @@ pub enum Due {
 pub struct Progress {
     pub due: Due,
     /// They are those behind EOF.
-    pub is_eof: bool,
+    pub in_eof: bool,
 }
 
 impl Progress {
@@ -48,7 +48,7 @@ impl Progress {
     {
         Progress {
             due: Due::First,
-            is_eof: false,
+            in_eof: false,
         }
     }
 
@@ -59,11 +59,11 @@ impl Progress {
         match (self.due, value) {
             (Due::First | Due::Item | Due::Align, Value::Word(Word::Eof)) => Progress {
                 due: Due::Item,
-                is_eof: true,
+                in_eof: true,
             },
             (due, value) => Progress {
                 due: due_after(due, value),
-                is_eof: self.is_eof,
+                in_eof: self.in_eof,
             },
         }
     }
@@ -73,7 +73,7 @@ impl Progress {
         ensures { result.now ≡ parts_at self }
     {
         // The items, and those of the list behind EOF, which has no READ.
-        match (self.due, self.is_eof) {
+        match (self.due, self.in_eof) {
             (Due::First, _) => &[
                 Part::Range,
                 Part::Word(Word::Number),

@@ -33,8 +33,8 @@ pub fn plain_range(span: Span, word: &[u8]) -> Result<Option<Range>, WordFault>
     }
 }
 
-// The fault of a misfit in a word whose second number begins at a place.
-fn place_misfit(misfit: Misfit, second: usize) -> WordFault
+/// The fault of a misfit in a word whose second number begins at a place.
+pub fn place_misfit(misfit: Misfit, second: usize) -> WordFault
     ensures { result ≡ fault_of second misfit }
 {
     match misfit {

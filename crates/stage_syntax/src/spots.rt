@@ -4,9 +4,15 @@ ghost use Rattle.stage_syntax.specs.Spots.{IsColumn, IsColumnFault, IsNextFault,
 
 use crate::bounds::range_of;
 use crate::digits::{first_digits, number};
+use crate::fault::FaultKind;
 use crate::part::TextFault;
 use crate::ranges::{Ending, read_spelling};
-use pipe_model::{Span, Spot, first_word};
+use crate::spelled::place_misfit;
+use bstr::ByteSlice;
+use pipe_model::{Range, Span, Spot, first_word};
+
+/// The greatest length.
+const LARGEST: u64 = 1_048_576;
 
 /// Where SPECS puts a field, and how many bytes spell it.
 #[derive(Clone, Copy)]
@@ -88,5 +94,35 @@ fn next_place(word: &[u8], left: usize) -> Result<Option<Spot>, TextFault>
             None => Ok(None),
         },
         _ => Ok(Some(next_spot(apart, None))),
+    }
+}
+
+// What stands before the first dot of a word, and the rest.
+fn before_dot(word: &[u8]) -> (&[u8], &[u8]) {
+    match word.find_byte(b'.') {
+        Some(at) => (&word[..at], &word[at..]),
+        None => (word, &[]),
+    }
+}
+
+// Whether a name is NEXT or NEXTWORD, in any case; None for any other word. NEXTWORD leaves a gap.
+fn next_named(name: &[u8]) -> Option<bool>
+    ensures { MatchOption result ((apart : Bool) → ¬ IsNextName name.now apart) (IsNextName name.now) }
+{
+    if name.eq_ignore_ascii_case(b"next") || name.eq_ignore_ascii_case(b"n") {
+        return Some(false);
+    }
+    if name.eq_ignore_ascii_case(b"nextword") || name.eq_ignore_ascii_case(b"nw") {
+        return Some(true);
+    }
+    None
+}
+
+// The place, which leaves a gap or none.
+fn next_spot(apart: bool, len: Option<u32>) -> Spot {
+    if apart {
+        Spot::NextWord { len }
+    } else {
+        Spot::Next { len }
     }
 }

@@ -46,3 +46,39 @@ pub fn counter(text: &[u8]) -> Option<u8>
         _ => None,
     }
 }
+
+// A word without the minus sign at its front, and whether there is one.
+fn sign(word: &[u8]) -> (bool, &[u8]) {
+    match word {
+        [b'-', digits @ ..] => (true, digits),
+        digits => (false, digits),
+    }
+}
+
+// The value of digits with or without a minus sign, where it has 64 bits.
+fn value_of(minus: bool, digits: &[u8]) -> Option<i64> {
+    // No number of 64 bits has more digits than this behind its zeros.
+    let digits = without_zeros(digits);
+    if digits.len() > 19 {
+        return None;
+    }
+    let mut value = 0u64;
+    for digit in digits {
+        value = 10 * value + u64::from(*digit - b'0');
+    }
+    let value = i128::from(value);
+    let signed = if minus { -value } else { value };
+    if signed < i128::from(i64::MIN) || signed > i128::from(i64::MAX) {
+        return None;
+    }
+    Some(signed as i64)
+}
+
+// Digits without the zeros at their front.
+fn without_zeros(digits: &[u8]) -> &[u8] {
+    let mut rest = digits;
+    while let [b'0', behind @ ..] = rest {
+        rest = behind;
+    }
+    rest
+}
