@@ -32,4 +32,5 @@ pub mod TakenParts
 pub mod Typed
 pub mod TypedKinds
 pub mod TypedOrder
+pub mod TypedSpecs
 pub mod WordFronts

@@ -1,6 +1,6 @@
 -- What is read of an argument is as the table wants it: a range is proper, a string isn't empty, a number is within its limits.
-use Rattle.std.proofs.Common.{◌≡◌, ◌⊎◌, inl, inr, ℕ, ◌+◌, ◌≤◌, ◌<◌, Bool, true, List, [], ◌∷◌, ◌++◌, length, refl, sym, ◌∙◌, ap, subst, arith, append-nil, append_assoc, Option, Some, None, le-leb, false, ne_eqb, length-append}
-use Rattle.std.specs.Prelude.{⊤}
+use Rattle.std.proofs.Common.{◌≡◌, ◌⊎◌, inl, inr, ℕ, suc, ◌+◌, ◌-◌, ◌≤◌, ◌<◌, Bool, true, List, [], ◌∷◌, ◌++◌, length, refl, sym, ◌∙◌, ap, subst, arith, append-nil, append_assoc, Option, Some, None, le-leb, lt-ltb, false, ne_eqb, length-append}
+use Rattle.std.specs.Prelude.{⊤, ℤ}
 use Rattle.std.specs.List.{Contains, list_all}
 use Rattle.std.proofs.lemmas.List.Elements.{Contains-append_right}
 use Rattle.hex.proofs.HexLemmas.{decode_of-ok}
@@ -8,7 +8,9 @@ use Rattle.std.specs.Int.{is_in_range}
 use Rattle.pipe_model.specs.declared.kind.Kind.{Kind}
 use Rattle.pipe_model.specs.declared.range.Range.{Range}
 use Rattle.pipe_model.specs.declared.range.Span.{Span}
-use Rattle.pipe_model.specs.Proper.{are_columns, greatest, is_count, is_length, is_filled, is_last, is_name, is_range, is_size}
+use Rattle.pipe_model.specs.Proper.{are_columns, greatest, is_count, is_counter, is_field_length, is_length, is_filled, is_last, is_name, is_range, is_size, is_spot}
+use Rattle.pipe_model.specs.declared.items.Spot.{Spot}
+use Rattle.pipe_model.specs.declared.items.Spot.TheVariants.{Column, Next, NextWord}
 use Rattle.pipe_model.specs.Members.{has}
 use Rattle.pipe_model.specs.declared.kind.Times.{Times}
 use Rattle.pipe_model.specs.declared.kind.Times.TheVariants.{Only, All}
@@ -29,6 +31,7 @@ use Rattle.stage_syntax.specs.Parts.{AreTimes, IsFirstPart, IsNext, IsPart}
 use Rattle.stage_syntax.specs.RangeWords.{IsRange}
 use Rattle.stage_syntax.specs.Rows.{Makes, Row}
 use Rattle.stage_syntax.specs.Rows.Makes.{Ended, GoesOn}
+use Rattle.stage_syntax.specs.Spots.{FitsLength, IsColumnLength, IsSpot}
 use Rattle.stage_syntax.specs.Strings.{IsString}
 
 -- Ranges
@@ -84,6 +87,25 @@ string_is_filled text string rest (inr word) =
     let digits = word.worth.digits in
     filled string (omega (arith, word.worth.filled, (decode_of-ok digits string word.worth.worth).2))
 
+-- Places of fields
+
+column_length : (first : ℕ) (ending : Ending) (len : Option ℕ) → Fits first → IsColumnLength first ending len → is_field_length len ≡ true
+column_length first Alone len fits is = ap is_field_length is
+column_length first (To last) len fits is = ap is_field_length is.2 ∙ in_range 1 greatest (suc last - first) (omega (arith, is.1)) (omega (arith, fits.0, is.0.1))
+column_length first Open len fits is = absurd is
+column_length first (Long n) len fits is = ap is_field_length is.1 ∙ size_of n is.0
+
+fits_length : (len : Option ℕ) → FitsLength len → is_field_length len ≡ true
+fits_length None fits = refl
+fits_length (Some len) fits = size_of len fits
+
+spot_is_proper : (text : List ℕ) (spot : Spot) (rest : List ℕ) → IsSpot text spot rest → is_spot spot ≡ true
+spot_is_proper text (Column first len) rest is =
+    let size : is_size first ≡ true = ap is_size is.begins ∙ size_of is.spelling.first is.fits in
+    rw (size, column_length is.spelling.first is.spelling.ending len is.fits is.ends) refl
+spot_is_proper text (Next len) rest is = fits_length len is.fits
+spot_is_proper text (NextWord len) rest is = fits_length len is.fits
+
 -- Arguments
 
 -- a value that the part may have
@@ -98,6 +120,9 @@ IsValueOf (Asked.Number least most) value = (number : ℕ) × (value ≡ Read.Nu
 IsValueOf Asked.Times value = (times : Times) × (value ≡ Read.Times times) × (is_count times ≡ true)
 IsValueOf (Asked.Word key) value = value ≡ Read.Word key
 IsValueOf Asked.Name value = (name : List ℕ) × (value ≡ Read.String name) × (is_name name ≡ true)
+IsValueOf Asked.Counter value = (k : ℕ) × (value ≡ Read.Counter k) × (is_counter k ≡ true)
+IsValueOf Asked.Whole value = (number : ℤ) × (value ≡ Read.Whole number)
+IsValueOf Asked.Spot value = (spot : Spot) × (value ≡ Read.Spot spot) × (is_spot spot ≡ true)
 
 count_is_proper : (text : List ℕ) (times : Times) (rest : List ℕ) → AreTimes text times rest → is_count times ≡ true
 count_is_proper text (Only n) rest is = le-leb n 2147483647 is.few
@@ -114,29 +139,49 @@ value_of (Asked.Number least most) text value rest less is = (is.0, is.1, is.2.e
 value_of Asked.Times text value rest less is = (is.0, is.1, count_is_proper text is.0 rest is.2)
 value_of (Asked.Word key) text value rest less is = is.0
 value_of Asked.Name text value rest less is = (is.0, is.1, name_is_proper text is.0 rest less is.2)
+value_of Asked.Counter text value rest less is = (is.0, is.1, lt-ltb is.0 10 is.2.few)
+value_of Asked.Whole text value rest less is = (is.0, is.1)
+value_of Asked.Spot text value rest less is = (is.0, is.1, spot_is_proper text is.0 rest is.2)
 
 -- a value that one of the parts may have
 abbrev pub IsOfOne : List Part → Value → Type 0
 IsOfOne [] value = ⊥
 IsOfOne (part ∷ parts) value = IsValueOf part value ⊎ IsOfOne parts value
 
-range_of_part : (part : Part) (range : Range) → IsValueOf part (Read.Range range) → is_range range ≡ true
-range_of_part Asked.Range range is = let value = is.1 in let same : is.0 ≡ range = cc in subst (λ (range : Range). is_range range ≡ true) same is.2
-range_of_part Asked.Columns range is = let value = is.1 in let same : is.0 ≡ range = cc in subst (λ (range : Range). is_range range ≡ true) same is.2
-range_of_part Asked.String range is = let value = is.1 in cc
-range_of_part Asked.AnyString range is = let value = is.1 in cc
-range_of_part Asked.Strings range is = let value = is.2 in cc
-range_of_part Asked.Byte range is = let value = is.1 in cc
-range_of_part (Asked.Number least most) range is = let value = is.1 in cc
-range_of_part Asked.Times range is = let value = is.1 in cc
-range_of_part (Asked.Word key) range is = cc
-range_of_part Asked.Name range is = let value = is.1 in cc
+-- its ranges, counts, counters and places are such as a specification can name
+abbrev pub is_proper : Value → Bool
+is_proper (Read.Range range) = is_range range
+is_proper (Read.Times times) = is_count times
+is_proper (Read.Counter k) = is_counter k
+is_proper (Read.Spot spot) = is_spot spot
+is_proper _ = true
 
--- a range is proper whatever else may stand there
+proper_of_part : (part : Part) (value : Value) → IsValueOf part value → is_proper value ≡ true
+proper_of_part Asked.Range value is = ap is_proper is.1 ∙ is.2
+proper_of_part Asked.Columns value is = ap is_proper is.1 ∙ is.2
+proper_of_part Asked.String value is = ap is_proper is.1
+proper_of_part Asked.AnyString value is = ap is_proper is.1
+proper_of_part Asked.Strings value is = ap is_proper is.2
+proper_of_part Asked.Byte value is = ap is_proper is.1
+proper_of_part (Asked.Number least most) value is = ap is_proper is.1
+proper_of_part Asked.Times value is = ap is_proper is.1 ∙ is.2
+proper_of_part (Asked.Word key) value is = ap is_proper is
+proper_of_part Asked.Name value is = ap is_proper is.1
+proper_of_part Asked.Counter value is = ap is_proper is.1 ∙ is.2
+proper_of_part Asked.Whole value is = ap is_proper is.1
+proper_of_part Asked.Spot value is = ap is_proper is.1 ∙ is.2
+
+-- so it is whatever else may stand there
+pub proper_of_one : (parts : List Part) (value : Value) → IsOfOne parts value → is_proper value ≡ true
+proper_of_one [] value is = absurd is
+proper_of_one (part ∷ parts) value (inl is) = proper_of_part part value is
+proper_of_one (part ∷ parts) value (inr is) = proper_of_one parts value is
+
 pub range_of_one : (parts : List Part) (range : Range) → IsOfOne parts (Read.Range range) → is_range range ≡ true
-range_of_one [] range is = absurd is
-range_of_one (part ∷ parts) range (inl is) = range_of_part part range is
-range_of_one (part ∷ parts) range (inr is) = range_of_one parts range is
+range_of_one parts range is = proper_of_one parts (Read.Range range) is
+
+pub times_of_one : (parts : List Part) (times : Times) → IsOfOne parts (Read.Times times) → is_count times ≡ true
+times_of_one parts times is = proper_of_one parts (Read.Times times) is
 
 -- a string that the part gives isn't empty
 abbrev pub fills : Part → Bool
@@ -155,6 +200,9 @@ string_of_part (Asked.Number least most) string fill is = let value = is.1 in cc
 string_of_part Asked.Times string fill is = let value = is.1 in cc
 string_of_part (Asked.Word key) string fill is = cc
 string_of_part Asked.Name string fill is = cc
+string_of_part Asked.Counter string fill is = let value = is.1 in cc
+string_of_part Asked.Whole string fill is = let value = is.1 in cc
+string_of_part Asked.Spot string fill is = let value = is.1 in cc
 
 -- nor is one of several such parts
 pub string_of_one : (parts : List Part) (string : List ℕ) → list_all fills parts ≡ true → IsOfOne parts (Read.String string) → is_filled string ≡ true
@@ -164,26 +212,7 @@ string_of_one (part ∷ parts) string fill (inr is) = string_of_one parts string
 
 -- a count is one that can be named
 pub count_of_times : (times : Times) → IsOfOne (Asked.Times ∷ []) (Read.Times times) → is_count times ≡ true
-count_of_times times (inl is) = let value = is.1 in let same : is.0 ≡ times = cc in subst (λ (times : Times). is_count times ≡ true) same is.2
-count_of_times times (inr is) = absurd is
-
-times_of_part : (part : Part) (times : Times) → IsValueOf part (Read.Times times) → is_count times ≡ true
-times_of_part Asked.Range times is = let value = is.1 in cc
-times_of_part Asked.Columns times is = let value = is.1 in cc
-times_of_part Asked.String times is = let value = is.1 in cc
-times_of_part Asked.AnyString times is = let value = is.1 in cc
-times_of_part Asked.Strings times is = let value = is.2 in cc
-times_of_part Asked.Byte times is = let value = is.1 in cc
-times_of_part (Asked.Number least most) times is = let value = is.1 in cc
-times_of_part Asked.Times times is = let value = is.1 in let same : is.0 ≡ times = cc in subst (λ (times : Times). is_count times ≡ true) same is.2
-times_of_part (Asked.Word key) times is = cc
-times_of_part Asked.Name times is = let value = is.1 in cc
-
--- nor can another one of several parts be read
-pub times_of_one : (parts : List Part) (times : Times) → IsOfOne parts (Read.Times times) → is_count times ≡ true
-times_of_one [] times is = absurd is
-times_of_one (part ∷ parts) times (inl is) = times_of_part part times is
-times_of_one (part ∷ parts) times (inr is) = times_of_one parts times is
+count_of_times times is = times_of_one (Asked.Times ∷ []) times is
 
 -- a range of columns names columns, where two strings may stand in its place
 pub columns_of : (range : Range) → IsOfOne (Asked.Columns ∷ (Asked.Strings ∷ [])) (Read.Range range) → are_columns range.span ≡ true

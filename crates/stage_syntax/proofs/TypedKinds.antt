@@ -15,6 +15,7 @@ use Rattle.pipe_model.specs.Straight.{all_columns}
 use Rattle.stage_syntax.proofs.ReadValues.{AreOfRow, IsOfOne, columns_of, count_of_times, length_of, made_of_row, range_of_one, right_of_row, string_of_one, times_of_one}
 use Rattle.stage_syntax.proofs.Typed.{IsTyped, known}
 use Rattle.stage_syntax.proofs.TypedOrder.{of_unique_row, sorting, counting, filling, blocking, deblocking}
+use Rattle.stage_syntax.proofs.TypedSpecs.{specifying}
 use Rattle.stage_syntax.specs.Arg.{ArgText}
 use Rattle.stage_syntax.specs.DeviceForms.{literal_of}
 use Rattle.stage_syntax.specs.EditingForms.{before_change, of_change, before_strip, blank, of_strip, before_chop, of_chop, before_pad, of_pad, before_split, of_split, before_join, of_join, before_xlate, wrong_xlate, of_xlate}
@@ -281,7 +282,10 @@ rows_typed first = (
                                                           of_parts first _ (blocking first),
                                                           (
                                                             of_parts first _ (deblocking first),
-                                                            tt,
+                                                            (
+                                                              of_parts first _ (specifying first),
+                                                              tt,
+                                                            ),
                                                           ),
                                                         ),
                                                       ),
