@@ -41,4 +41,5 @@ known_is_built first Kinds.Copy is = refl
 known_is_built first (Kinds.Fblock size fill) is = refl
 known_is_built first (Kinds.Block size image) is = refl
 known_is_built first (Kinds.Deblock cutting) is = refl
+known_is_built first (Kinds.Specs items eof) is = refl
 known_is_built first _ is = cc

@@ -8,13 +8,14 @@ use Rattle.select_stages.specs.Select.{is_select, SelectStands}
 use Rattle.edit_stages.specs.Edit.{is_edit, EditStands}
 use Rattle.unique_sort.specs.OrderStage.{is_order, UniqueStands}
 use Rattle.block_stages.specs.Block.{is_block, BlockStands}
+use Rattle.specs_stage.specs.Stage.{is_specs, SpecsStands}
 use Rattle.gate_elastic.specs.Gate.{is_gate, GateStands}
 use Rattle.stage_table.specs.declared.built_in.BuiltIn.{BuiltIn}
-use Rattle.stage_table.specs.declared.built_in.BuiltIn.TheVariants.{Device, Select, Edit, Order, Block, Gate}
+use Rattle.stage_table.specs.declared.built_in.BuiltIn.TheVariants.{Device, Select, Edit, Order, Block, Specs, Gate}
 
 -- a family has the kind
 abbrev pub is_built_in : Kind → Bool
-is_built_in kind = is_device kind || (is_select kind || (is_edit kind || (is_order kind || (is_block kind || is_gate kind))))
+is_built_in kind = is_device kind || (is_select kind || (is_edit kind || (is_order kind || (is_block kind || (is_specs kind || is_gate kind)))))
 
 -- the stage stands for this history of this strand
 abbrev pub BuiltInStands : BuiltIn → Strand → List Event → Type 0
@@ -23,4 +24,5 @@ BuiltInStands (Select x) s h = SelectStands x.value s h
 BuiltInStands (Edit x) s h = EditStands x.value s h
 BuiltInStands (Order x) s h = UniqueStands x.value s h
 BuiltInStands (Block x) s h = BlockStands x.value s h
+BuiltInStands (Specs x) s h = SpecsStands x.value s h
 BuiltInStands (Gate x) s h = GateStands x.value s h

@@ -4,6 +4,7 @@ use edit_stages::EditStage;
 use gate_elastic::GateStage;
 use pipe_model::{NoMemory, Seen, Want};
 use select_stages::SelectStage;
+use specs_stage::SpecsStage;
 use stage_steps::Stage;
 use std::alloc::Global;
 use unique_sort::UniqueStage;
@@ -17,6 +18,7 @@ pub enum BuiltIn {
     Edit(Box<EditStage>),
     Order(Box<UniqueStage>),
     Block(Box<BlockStage>),
+    Specs(Box<SpecsStage>),
     Gate(Box<GateStage>),
 }
 
@@ -34,6 +36,7 @@ impl Stage for BuiltIn {
             BuiltIn::Edit(stage) => stage.first(),
             BuiltIn::Order(stage) => stage.first(),
             BuiltIn::Block(stage) => stage.first(),
+            BuiltIn::Specs(stage) => stage.first(),
             BuiltIn::Gate(stage) => stage.first(),
         }
     }
@@ -49,6 +52,7 @@ impl Stage for BuiltIn {
             BuiltIn::Edit(stage) => (**stage).resume(alloc, seen, bytes),
             BuiltIn::Order(stage) => (**stage).resume(alloc, seen, bytes),
             BuiltIn::Block(stage) => (**stage).resume(alloc, seen, bytes),
+            BuiltIn::Specs(stage) => (**stage).resume(alloc, seen, bytes),
             BuiltIn::Gate(stage) => (**stage).resume(alloc, seen, bytes),
         }
     }
@@ -60,6 +64,7 @@ impl Stage for BuiltIn {
             BuiltIn::Edit(stage) => stage.looks(),
             BuiltIn::Order(stage) => stage.looks(),
             BuiltIn::Block(stage) => stage.looks(),
+            BuiltIn::Specs(stage) => stage.looks(),
             BuiltIn::Gate(stage) => stage.looks(),
         }
     }
@@ -71,6 +76,7 @@ impl Stage for BuiltIn {
             BuiltIn::Edit(stage) => stage.kept(),
             BuiltIn::Order(stage) => stage.kept(),
             BuiltIn::Block(stage) => stage.kept(),
+            BuiltIn::Specs(stage) => stage.kept(),
             BuiltIn::Gate(stage) => stage.kept(),
         }
     }

@@ -11,6 +11,7 @@ use edit_stages::{EditStage, is_edit};
 use gate_elastic::GateStage;
 use pipe_model::{Net, NoMemory, Strand};
 use select_stages::{SelectStage, is_select};
+use specs_stage::{SpecsStage, is_specs};
 use std::alloc::Global;
 use unique_sort::{UniqueStage, is_order};
 
@@ -38,6 +39,10 @@ pub fn make(alloc: Global, strand: &Strand) -> Result<BuiltIn, NoMemory>
     if is_block(&strand.kind) {
         let stage = BlockStage::new(alloc, strand)?;
         return Ok(BuiltIn::Block(Box::new(alloc, stage)?));
+    }
+    if is_specs(&strand.kind) {
+        let stage = SpecsStage::new(alloc, strand)?;
+        return Ok(BuiltIn::Specs(Box::new(alloc, stage)?));
     }
     let stage = GateStage::new(alloc, strand)?;
     Ok(BuiltIn::Gate(Box::new(alloc, stage)?))

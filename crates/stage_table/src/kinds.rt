@@ -7,6 +7,7 @@ use edit_stages::is_edit;
 use gate_elastic::is_gate;
 use pipe_model::Kind;
 use select_stages::is_select;
+use specs_stage::is_specs;
 use unique_sort::is_order;
 
 /// Whether there is a stage of the kind.
@@ -18,5 +19,6 @@ pub fn is_built_in(kind: &Kind) -> bool
         || is_edit(kind)
         || is_order(kind)
         || is_block(kind)
+        || is_specs(kind)
         || is_gate(kind)
 }
