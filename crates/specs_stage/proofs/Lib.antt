@@ -5,3 +5,4 @@ pub mod Groups
 pub mod Reached
 pub mod Numbering
 pub mod CycleSteps
+pub mod Giving

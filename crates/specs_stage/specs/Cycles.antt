@@ -7,7 +7,7 @@ use Rattle.pipe_model.specs.Shape.{Records}
 use Rattle.pipe_model.specs.SpecsRows as rows
 use Rattle.specs_stage.specs.declared.cycle.Cycle.{Cycle}
 use Rattle.specs_stage.specs.declared.desk.Desk.{Desk}
-use Rattle.specs_stage.specs.Desks.{desk_of}
+use Rattle.specs_stage.specs.Desks.{desk_of, with_written}
 
 -- after a fault there is no desk
 abbrev pub unless_faulty : Bool → rows.Desk → Option rows.Desk
@@ -22,11 +22,11 @@ ran_to items n desk recs = option_and_then (λ d. rows.run (rows.reached n items
 abbrev pub come : List Item → Records → ℕ
 come items recs = length (rows.waiting items recs)
 
--- between two cycles, the next place being the front
-pub record IsBetween (items : List Item) (x : Desk) (at : ℕ) (faulty : Bool) (recs : Records) : Type 0 where
+-- between two cycles, the next place being the front; what the last one wrote may have been given away
+pub record IsBetween (items : List Item) (x : Desk) (wrote : Records) (at : ℕ) (faulty : Bool) (recs : Records) : Type 0 where
   pub hand : List ℕ
   pub coming : Records
-  pub desk_is : rows.after_cycles items recs ≡ unless_faulty faulty (desk_of x hand coming)
+  pub desk_is : rows.after_cycles items recs ≡ unless_faulty faulty (with_written wrote (desk_of x hand coming))
   pub at_is : faulty ≡ false → at ≡ 0
 
 -- within one, whatever records come more
@@ -36,13 +36,17 @@ pub record IsWithin (items : List Item) (x : Desk) (at : ℕ) (faulty : Bool) (r
   pub at_is : faulty ≡ false → at ≡ suc (length (rows.reached (come items recs) items))
 
 -- the desk and the place stand for these records
-pub record IsAt (items : List Item) (x : Desk) (at : ℕ) (faulty : Bool) (recs : Records) : Type 0 where
+pub record IsAt (items : List Item) (x : Desk) (wrote : Records) (at : ℕ) (faulty : Bool) (recs : Records) : Type 0 where
   pub number : faulty ≡ false → x.number ≤ length recs
-  pub between : come items recs ≡ 0 → IsBetween items x at faulty recs
+  pub between : come items recs ≡ 0 → IsBetween items x wrote at faulty recs
   pub within : 1 ≤ come items recs → IsWithin items x at faulty recs
 
 abbrev pub IsCycle : Cycle → Records → Type 0
-IsCycle x recs = IsAt x.items.items x.desk x.at x.is_faulty recs
+IsCycle x recs = IsAt x.items.items x.desk x.desk.written.items x.at x.is_faulty recs
+
+-- the same where the last cycle wrote this, and it may have been given away
+abbrev pub IsCycleAfter : Cycle → Records → Records → Type 0
+IsCycleAfter x wrote recs = IsAt x.items.items x.desk wrote x.at x.is_faulty recs
 
 -- the cycle has gone on with one more record, whatever records come then
 abbrev pub RanOn : List Item → Records → List ℕ → Bool → Desk → Type 0
@@ -58,4 +62,6 @@ IsReached items recs rec y (Some at) = RanOn items recs rec false y × (at ≡ l
 pub record IsEnded (items : List Item) (x : Desk) (faulty : Bool) (recs : Records) : Type 0 where
   pub hand : List ℕ
   pub coming : Records
-  pub desk_is : rows.after_input items recs ≡ unless_faulty faulty (desk_of x hand coming)
+  pub wrote : Records
+  pub desk_is : rows.after_input items recs ≡ unless_faulty faulty (with_written wrote (desk_of x hand coming))
+  pub number : faulty ≡ false → x.number ≤ length recs

@@ -28,6 +28,10 @@ with_counter k z d = record d { counters = set d.counters k z }
 abbrev pub with_output_written : rows.Desk → rows.Desk
 with_output_written d = record d { written = d.written ++ d.output ∷ [] }
 
+-- the same but for what it wrote
+abbrev pub with_written : Records → rows.Desk → rows.Desk
+with_written wrote d = record d { written = wrote }
+
 -- the bytes of an origin, by the cycle's number and the value of the counter that it names
 abbrev pub origin_from : Origin → ℕ → ℤ → List ℕ → List ℕ
 origin_from (Cut range) number counter hand = part_of range hand

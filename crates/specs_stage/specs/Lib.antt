@@ -1,3 +1,5 @@
 pub mod Output
 pub mod Desks
 pub mod Cycles
+pub mod SpecsLists
+pub mod SpecsStage

@@ -1,8 +1,9 @@
-ghost use Rattle.std.specs.Prelude.{◌≡◌, ◌<◌, ◌++◌, ◌∷◌, [], drop, length, List, ℕ, IfOk, OnOk, Some, false, is_none};
+ghost use Rattle.std.specs.Prelude.{◌≡◌, ◌<◌, ◌≤◌, ◌++◌, ◌∷◌, [], drop, length, List, ℕ, IfOk, OnOk, Some, false, is_none};
 ghost use Rattle.pipe_model.specs.Shape.{Records};
 ghost use Rattle.pipe_model.specs.Counts.{all_on};
-ghost use Rattle.pipe_model.specs.SpecsRows.{cycle_pairs, so_far};
-ghost use Rattle.specs_stage.specs.Cycles.{IsCycle, IsEnded, IsReached};
+ghost use Rattle.pipe_model.specs.SpecsRows.{cycle, cycle_pairs, waiting_pairs, so_far, after_input, written_by};
+ghost use Rattle.pipe_model.specs.declared.items.Item.{Item};
+ghost use Rattle.specs_stage.specs.Cycles.{IsCycle, IsCycleAfter, IsEnded, IsReached};
 
 use crate::desk::Desk;
 use pipe_model::{Item, NoMemory, Rec};
@@ -44,7 +45,7 @@ impl Cycle {
     fn go_on(&mut self, alloc: Global, rec: &[u8]) -> Result<Option<usize>, NoMemory>
         ensures items { self.new.items.items ≡ self.old.items.items }
         ensures faulty { self.new.is_faulty ≡ self.old.is_faulty }
-        ensures reached { IfOk result (λ at. self.old.is_faulty ≡ false → (recs : Records) → length recs < 50000000 → IsCycle self.old recs → IsReached self.old.items.items recs rec.now self.new.desk at) }
+        ensures reached { IfOk result (λ at. self.old.is_faulty ≡ false → (recs wrote : Records) → length recs < 50000000 → IsCycleAfter self.old wrote recs → IsReached self.old.items.items recs rec.now self.new.desk at) }
     {
         if self.at == 0 {
             return self.desk.start(alloc, &self.items, rec);
@@ -72,7 +73,7 @@ impl Cycle {
     // Goes on with one more record.
     pub(crate) fn see(&mut self, alloc: Global, rec: &[u8]) -> Result<(), NoMemory>
         ensures items { OnOk result (self.new.items.items ≡ self.old.items.items) }
-        ensures at { OnOk result ((recs : Records) → length recs < 50000000 → IsCycle self.old recs → IsCycle self.new (recs ++ rec.now ∷ [])) }
+        ensures at { OnOk result ((recs wrote : Records) → length recs < 50000000 → IsCycleAfter self.old wrote recs → IsCycle self.new (recs ++ rec.now ∷ [])) }
     {
         if self.is_faulty {
             return Ok(());
@@ -88,29 +89,35 @@ impl Cycle {
 
     // Whether there was a fault.
     pub(crate) fn is_faulty(&self) -> bool
-        ensures { (recs : Records) → IsCycle self.now recs → result ≡ is_none (so_far self.now.items.items recs) }
+        ensures value { result ≡ self.now.is_faulty }
+        ensures told { (recs wrote : Records) → IsCycleAfter self.now wrote recs → result ≡ is_none (so_far self.now.items.items recs) }
     {
         self.is_faulty
     }
 
-    // What is written with the record that came last, where a cycle ends with it.
-    pub(crate) fn written(&self) -> &[Rec]
-        ensures { (recs : Records) → IsCycle self.now recs → all_on 0 result.now ≡ cycle_pairs self.now.items.items recs }
+    // Gives away what is written with the record that came last, where a cycle ends with it.
+    pub(crate) fn give(&mut self, due: &mut Vec<Rec>)
+        ensures items { self.new.items.items ≡ self.old.items.items }
+        ensures due { (recs : Records) → IsCycle self.old recs → all_on 0 due.new.items ≡ cycle_pairs self.old.items.items recs }
+        ensures at { (recs : Records) → IsCycle self.old recs → IsCycleAfter self.new self.old.desk.written.items recs }
     {
+        due.clear();
         if self.is_faulty {
-            return &[];
+            return;
         }
         if self.at > 0 {
-            return &[];
+            return;
         }
-        self.desk.written()
+        self.desk.give(due);
     }
 
-    // Ends the input: a cycle that waits is run on, with empty records for those that lack.
-    pub(crate) fn end(&mut self, alloc: Global) -> Result<(), NoMemory>
+    // Ends the input: a cycle that waits is run on, with empty records for those that lack, and gives away what it wrote.
+    pub(crate) fn end(&mut self, alloc: Global, due: &mut Vec<Rec>) -> Result<(), NoMemory>
         ensures items { OnOk result (self.new.items.items ≡ self.old.items.items) }
-        ensures ended { OnOk result ((recs : Records) → IsCycle self.old recs → IsEnded self.new.items.items self.new.desk self.new.is_faulty recs) }
+        ensures ended { OnOk result ((recs wrote : Records) → IsCycleAfter self.old wrote recs → IsEnded self.new.items.items self.new.desk self.new.is_faulty recs) }
+        ensures due { OnOk result ((recs wrote : Records) → IsCycleAfter self.old wrote recs → all_on 0 due.new.items ≡ waiting_pairs self.old.items.items recs) }
     {
+        due.clear();
         if self.is_faulty {
             return Ok(());
         }
@@ -122,6 +129,32 @@ impl Cycle {
             .run_to_end(alloc, items_from(&self.items, self.at))?
         {
             self.desk.close(alloc, &self.items)?;
+            self.desk.give(due);
+        } else {
+            self.is_faulty = true;
+        }
+        Ok(())
+    }
+
+    // Behind the end of input: the EOF list is run, as one more cycle with an empty record. What it wrote is given away
+    // behind what is due.
+    pub(crate) fn run_eof(
+        &mut self,
+        alloc: Global,
+        eof: &[Item],
+        due: &mut Vec<Rec>,
+    ) -> Result<(), NoMemory>
+        ensures items { OnOk result (self.new.items.items ≡ self.old.items.items) }
+        ensures faulty { OnOk result ((items : List Item) (recs : Records) → length recs ≤ 50000000 → IsEnded items self.old.desk self.old.is_faulty recs → self.new.is_faulty ≡ is_none (cycle eof.now (after_input items recs) [])) }
+        ensures due { OnOk result ((items : List Item) (recs : Records) → length recs ≤ 50000000 → IsEnded items self.old.desk self.old.is_faulty recs → all_on 0 due.new.items ≡ all_on 0 due.old.items ++ all_on 0 (written_by (cycle eof.now (after_input items recs) []))) }
+    {
+        if self.is_faulty {
+            return Ok(());
+        }
+        self.desk.begin();
+        if self.desk.run_to_end(alloc, eof)? {
+            self.desk.close(alloc, eof)?;
+            self.desk.give_behind(due)?;
         } else {
             self.is_faulty = true;
         }

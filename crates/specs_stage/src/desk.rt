@@ -1,9 +1,9 @@
-ghost use Rattle.std.specs.Prelude.{◌≡◌, ◌<◌, List, [], ◌∷◌, ◌++◌, ℕ, drop, IfOk, IfSome, OnOk, option_map, if◌then◌else◌, length, Some, None, false, is_some};
+ghost use Rattle.std.specs.Prelude.{◌≡◌, ◌<◌, ◌≤◌, List, [], ◌∷◌, ◌++◌, ℕ, drop, IfOk, IfSome, OnOk, option_map, if◌then◌else◌, length, Some, None, false, is_some};
 ghost use Rattle.pipe_model.specs.declared.items.Item.TheVariants.{Field, Write, Set};
 ghost use Rattle.pipe_model.specs.Fields.{field_stripped, converted};
 ghost use Rattle.pipe_model.specs.Shape.{Records};
 ghost use Rattle.pipe_model.specs.SpecsRows.{counter, origin_of, amount_of, effect, run, at_first, begun, closed, first_of_all, has_unwritten};
-ghost use Rattle.specs_stage.specs.Desks.{desk_of, set_value, with_counter, origin_from, is_read, before_read, with_output_written};
+ghost use Rattle.specs_stage.specs.Desks.{desk_of, set_value, with_counter, origin_from, is_read, before_read, with_output_written, with_written};
 
 use crate::hex_digits::{add_from_hex, add_to_hex};
 use crate::numbers::{
@@ -13,6 +13,7 @@ use crate::output::put;
 use pipe_model::{Align, Amount, Convert, Item, NoMemory, Origin, Rec, SetOp, Spot};
 use stage_steps::part_of;
 use std::alloc::Global;
+use std::mem;
 
 // What the items of a SPECS have made so far.
 #[derive(Drop)]
@@ -130,7 +131,7 @@ impl Desk {
 
     // Begins the next cycle.
     pub(crate) fn begin(&mut self)
-        ensures { self.old.number < 50000000 → (hand : List ℕ) (coming recs : Records) → desk_of self.new (first_of_all recs) (drop 1 recs) ≡ begun (desk_of self.old hand coming) recs }
+        ensures { self.old.number ≤ 50000000 → (hand : List ℕ) (coming recs : Records) → desk_of self.new (first_of_all recs) (drop 1 recs) ≡ begun (desk_of self.old hand coming) recs }
     {
         self.number = self.number.saturating_add(1);
         self.output.clear();
@@ -157,11 +158,21 @@ impl Desk {
         Ok(())
     }
 
-    // What the cycle wrote.
-    pub(crate) fn written(&self) -> &[Rec]
-        ensures { (hand : List ℕ) (coming : Records) → result.now ≡ (desk_of self.now hand coming).written }
+    // Gives away what the cycle wrote, for some records whose place is used again.
+    pub(crate) fn give(&mut self, due: &mut Vec<Rec>)
+        ensures due { due.new.items ≡ self.old.written.items }
+        ensures number { self.new.number ≡ self.old.number }
+        ensures left { (wrote : Records) (hand : List ℕ) (coming : Records) → with_written wrote (desk_of self.new hand coming) ≡ with_written wrote (desk_of self.old hand coming) }
     {
-        &self.written
+        mem::swap(&mut self.written, due);
+    }
+
+    // Gives away what the cycle wrote, behind some records.
+    pub(crate) fn give_behind(&mut self, due: &mut Vec<Rec>) -> Result<(), NoMemory>
+        ensures { OnOk result (due.new.items ≡ due.old.items ++ self.old.written.items) }
+    {
+        due.append(&mut self.written)?;
+        Ok(())
     }
 
     // The value of a counter.
@@ -330,30 +341,5 @@ impl Desk {
             }
         }
         Ok(true)
-    }
-}
-
-// Copies of some records.
-fn add_copies(alloc: Global, copies: &mut Vec<Rec>, recs: &[Rec]) -> Result<(), NoMemory>
-    ensures { OnOk result (copies.new.items ≡ copies.old.items ++ recs.now) }
-{
-    for rec in recs {
-        copies.push(rec.copy(alloc)?)?;
-    }
-    Ok(())
-}
-
-impl Desk {
-    // Makes it a copy of another.
-    pub(crate) fn copy(&mut self, alloc: Global, other: &Desk) -> Result<(), NoMemory>
-        ensures { OnOk result ((hand : List ℕ) (coming : Records) → desk_of self.new hand coming ≡ desk_of other.now hand coming) }
-    {
-        self.counters = other.counters;
-        self.number = other.number;
-        self.pad = other.pad;
-        self.output.clear();
-        self.output.extend_from_slice(&other.output)?;
-        self.written.clear();
-        add_copies(alloc, &mut self.written, &other.written)
     }
 }

@@ -125,7 +125,9 @@ fn a_cycle_writes_its_records(rt: HostRuntime) -> Result<(), Fail> {
     assert!(rt; desk.run(alloc, behind_read(&items), b"c")? == Some(1));
     desk.close(alloc, &items)?;
     let mut text = Vec::new(alloc);
-    for rec in desk.written() {
+    let mut due = Vec::new(alloc);
+    desk.give(&mut due);
+    for rec in &due {
         text.extend_from_slice(rec.bytes())?;
         text.push(b'.')?;
     }
@@ -142,9 +144,11 @@ fn cycles_go_on_record_by_record(rt: HostRuntime) -> Result<(), Fail> {
     items.push(whole())?;
     let mut cycle = Cycle::new(alloc, items);
     let mut text = Vec::new(alloc);
+    let mut due = Vec::new(alloc);
     for rec in Lines::new(b"a\nb\nc\nd\ne") {
         cycle.see(alloc, rec)?;
-        for made in cycle.written() {
+        cycle.give(&mut due);
+        for made in &due {
             text.extend_from_slice(made.bytes())?;
         }
         text.push(b'.')?;

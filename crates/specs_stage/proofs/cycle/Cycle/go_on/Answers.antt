@@ -14,20 +14,20 @@ returns-then-self-eq0-clause-reached c =
     let x = c.args.self.now in
     let items = x.items.items in
     let rec = c.args.rec.now in
-    both_ok c.start.result _ _ _ (λ count ran size good recs few is.
+    both_ok c.start.result _ _ _ (λ count ran size good recs wrote few is.
     let low : x.desk.number < 50000000 = omega (arith, is.number good, few) in
-    started items recs rec x.desk c.start.new.self x.at count c.if-self-eq0.true (subst (λ (b : Bool). IsAt items x.desk x.at b recs) good is)
+    started items recs rec x.desk c.start.new.self wrote x.at count c.if-self-eq0.true (subst (λ (b : Bool). IsAt items x.desk wrote x.at b recs) good is)
     (λ hand coming more. ap (λ xs. run (before_read xs) (begun (desk_of x.desk hand coming) (rec ∷ more))) (sym c.deref.ensures.value) ∙ ran low hand coming more)
     (subst (λ (xs : List Item). IfSome count (λ n. n ≡ length (before_read xs))) c.deref.ensures.value size)) c.start.ensures.ran c.start.ensures.count
 
 pub returns-in-Some-clause-reached : goal.returns-in-Some-clause-reached
-returns-in-Some-clause-reached c = λ good recs few is.
+returns-in-Some-clause-reached c = λ good recs wrote few is.
     let x = c.args.self.now in
     let items = x.items.items in
     let rec = c.args.rec.now in
     let n = c.in-Some.count in
     let from = c.items_from.ensures ∙ ap (drop x.at) c.deref-2.ensures.value in
-    let all = went items recs rec x.desk c.run.new.self x.at (Some n) c.if-self-eq0.false (subst (λ (b : Bool). IsAt items x.desk x.at b recs) good is)
+    let all = went items recs rec x.desk c.run.new.self wrote x.at (Some n) c.if-self-eq0.false (subst (λ (b : Bool). IsAt items x.desk wrote x.at b recs) good is)
     (λ more. ap (λ xs. run (before_read xs) (desk_of x.desk rec more)) (sym from) ∙ c.in_ok-count.ensures.ran more ∙ ap (λ o. if is_some o then Some (desk_of c.run.new.self rec more) else None) c.in-Some.is)
     (subst (λ (xs : List Item). n ≡ length (before_read xs)) from (subst (λ (o : Option ℕ). IfSome o (λ n. n ≡ length (before_read c.items_from.result.now))) c.in-Some.is c.in_ok-count.ensures.count)) in
     let short = reached_short (suc (come items recs)) items in
@@ -35,11 +35,11 @@ returns-in-Some-clause-reached c = λ good recs few is.
     (all.0, place ∙ all.1, all.2)
 
 pub returns-in-None-clause-reached : goal.returns-in-None-clause-reached
-returns-in-None-clause-reached c = λ good recs few is.
+returns-in-None-clause-reached c = λ good recs wrote few is.
     let x = c.args.self.now in
     let items = x.items.items in
     let rec = c.args.rec.now in
     let from = c.items_from.ensures ∙ ap (drop x.at) c.deref-2.ensures.value in
-    went items recs rec x.desk c.run.new.self x.at None c.if-self-eq0.false (subst (λ (b : Bool). IsAt items x.desk x.at b recs) good is)
+    went items recs rec x.desk c.run.new.self wrote x.at None c.if-self-eq0.false (subst (λ (b : Bool). IsAt items x.desk wrote x.at b recs) good is)
     (λ more. ap (λ xs. run (before_read xs) (desk_of x.desk rec more)) (sym from) ∙ c.in_ok-count.ensures.ran more ∙ ap (λ o. if is_some o then Some (desk_of c.run.new.self rec more) else None) c.in-None.is)
     tt

@@ -10,11 +10,11 @@ pub returns-then-at-len-clause-at : goal.returns-then-at-len-clause-at
 returns-then-at-len-clause-at c = λ good recs rec is.
     let x = c.args.self.now in
     let low : c.args.at < length x.items.items = omega (arith, c.if-at-len.true, c.len.ensures) in
-    subst (λ (b : Bool). IsAt x.items.items x.desk (c.args.at + 1) b (recs ++ rec ∷ [])) (sym good) (stops_at x.items.items recs rec x.desk c.args.at is low)
+    subst (λ (b : Bool). IsAt x.items.items x.desk x.desk.written.items (c.args.at + 1) b (recs ++ rec ∷ [])) (sym good) (stops_at x.items.items recs rec x.desk c.args.at is low)
 
 pub returns-clause-at : goal.returns-clause-at
 returns-clause-at c = λ good recs rec is.
     let x = c.args.self.now in
     let high : length x.items.items ≤ c.args.at = omega (arith, c.if-at-len.false, c.len.ensures) in
-    subst (λ (b : Bool). IsAt x.items.items c.close.new.self 0 b (recs ++ rec ∷ [])) (sym good)
+    subst (λ (b : Bool). IsAt x.items.items c.close.new.self c.close.new.self.written.items 0 b (recs ++ rec ∷ [])) (sym good)
     (closes_at x.items.items recs rec x.desk c.close.new.self c.args.at is high (λ hand coming. c.in_ok-close.ensures hand coming ∙ ap (λ xs. closed xs (desk_of x.desk hand coming)) c.deref.ensures.value))
