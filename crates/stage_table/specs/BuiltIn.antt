@@ -8,7 +8,7 @@ use Rattle.select_stages.specs.Select.{is_select, SelectStands}
 use Rattle.edit_stages.specs.Edit.{is_edit, EditStands}
 use Rattle.unique_sort.specs.OrderStage.{is_order, UniqueStands}
 use Rattle.block_stages.specs.Block.{is_block, BlockStands}
-use Rattle.specs_stage.specs.Stage.{is_specs, SpecsStands}
+use Rattle.specs_stage.specs.SpecsStage.{is_specs, SpecsStageStands}
 use Rattle.gate_elastic.specs.Gate.{is_gate, GateStands}
 use Rattle.stage_table.specs.declared.built_in.BuiltIn.{BuiltIn}
 use Rattle.stage_table.specs.declared.built_in.BuiltIn.TheVariants.{Device, Select, Edit, Order, Block, Specs, Gate}
@@ -24,5 +24,5 @@ BuiltInStands (Select x) s h = SelectStands x.value s h
 BuiltInStands (Edit x) s h = EditStands x.value s h
 BuiltInStands (Order x) s h = UniqueStands x.value s h
 BuiltInStands (Block x) s h = BlockStands x.value s h
-BuiltInStands (Specs x) s h = SpecsStands x.value s h
+BuiltInStands (Specs x) s h = SpecsStageStands x.value s h
 BuiltInStands (Gate x) s h = GateStands x.value s h
