@@ -1,11 +1,14 @@
 -- An argument is spelled by one byte at least.
-use Rattle.std.proofs.Common.{◌≢◌, ℕ, ◌<◌, ◌≤◌, List, [], ◌∷◌, ◌++◌, length, get_or, replicate, ap, ◌∙◌, arith, inl, inr, length-append}
+use Rattle.std.proofs.Common.{◌≢◌, ℕ, ◌+◌, ◌<◌, ◌≤◌, List, [], ◌∷◌, ◌++◌, length, get_or, replicate, ap, ◌∙◌, arith, inl, inr, length-append}
 use Rattle.pipe_model.specs.declared.kind.Times.{Times}
 use Rattle.pipe_model.specs.declared.kind.Times.TheVariants.{Only, All}
+use Rattle.pipe_model.specs.declared.items.Spot.{Spot}
+use Rattle.pipe_model.specs.declared.items.Spot.TheVariants.{Column, Next, NextWord}
 use Rattle.pipe_model.specs.declared.range.Range.{Range}
 use Rattle.stage_syntax.specs.Parts.{AreTimes, IsFirstPart, IsNext, IsPart}
 use Rattle.stage_syntax.specs.PairsOfStrings.{AreStrings, IsAnyString}
 use Rattle.stage_syntax.specs.RangeWords.{IsRange}
+use Rattle.stage_syntax.specs.Spots.{IsSpot}
 use Rattle.stage_syntax.specs.Strings.{IsDelimited, IsHexadecimalWord, IsString}
 use Rattle.pipe_model.specs.Words.{IsFirstWord, IsUnblanked}
 use Rattle.stage_syntax.specs.declared.part.Part.{Part}
@@ -54,6 +57,11 @@ module _ (text : List ℕ) (some : 0 < length text) (other : get_or text 0 0 ≢
   times_takes (Only n) rest is = word_takes is.word rest is.first
   times_takes All rest is = word_takes (42 ∷ []) rest is
 
+  spot_takes : (spot : Spot) (rest : List ℕ) → IsSpot text spot rest → length rest < length text
+  spot_takes (Column first len) rest is = word_takes is.word rest is.first_is
+  spot_takes (Next len) rest is = word_takes is.word rest is.first_is
+  spot_takes (NextWord len) rest is = word_takes is.word rest is.first_is
+
 -- a string isn't longer than the text
 any_string_within : (text string rest : List ℕ) → IsAnyString text string rest → length rest ≤ length text
 any_string_within text string rest (inl is) = omega (arith, delimited_takes text string rest is)
@@ -77,6 +85,9 @@ module _ (text : List ℕ) (some : 0 < length text) (other : get_or text 0 0 ≢
   part_takes Asked.Times value rest is = times_takes text some other is.0 rest is.2
   part_takes (Asked.Word key) value rest is = word_takes text some other is.1.word rest is.1.first
   part_takes Asked.Name value rest is = word_takes text some other is.0 rest is.2.first
+  part_takes Asked.Counter value rest is = word_takes text some other (35 ∷ ((48 + is.0) ∷ [])) rest is.2.first
+  part_takes Asked.Whole value rest is = word_takes text some other is.2.word rest is.2.first
+  part_takes Asked.Spot value rest is = spot_takes text some other is.0 rest is.2
 
   pub first_takes : (parts : List Part) (value : Value) (rest : List ℕ) → IsFirstPart parts text value rest → length rest < length text
   first_takes [] value rest is = absurd is

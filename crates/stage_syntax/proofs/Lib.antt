@@ -25,6 +25,7 @@ pub mod RangeFronts
 pub mod ReadValues
 pub mod RowSteps
 pub mod Spellings
+pub mod SpotParts
 pub mod StageNames
 pub mod StringPairs
 pub mod StringParts
@@ -32,4 +33,6 @@ pub mod TakenParts
 pub mod Typed
 pub mod TypedKinds
 pub mod TypedOrder
+pub mod WholeDigits
+pub mod WholeParts
 pub mod WordFronts
