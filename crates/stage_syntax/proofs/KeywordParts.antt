@@ -30,6 +30,21 @@ lower_spelling Keys.Fixed = refl
 lower_spelling Keys.Linend = refl
 lower_spelling Keys.String = refl
 lower_spelling Keys.Sf = refl
+lower_spelling Keys.Number = refl
+lower_spelling Keys.Print = refl
+lower_spelling Keys.Read = refl
+lower_spelling Keys.Write = refl
+lower_spelling Keys.Pad = refl
+lower_spelling Keys.Set = refl
+lower_spelling Keys.Eof = refl
+lower_spelling Keys.Strip = refl
+lower_spelling Keys.C2x = refl
+lower_spelling Keys.X2c = refl
+lower_spelling Keys.Center = refl
+lower_spelling Keys.Put = refl
+lower_spelling Keys.Add = refl
+lower_spelling Keys.Subtract = refl
+lower_spelling Keys.Num = refl
 
 -- a first word that is another one isn't the keyword
 pub other_word : (text word rest more : List ℕ) (key : Word) → IsFirstWord text word rest → ¬ (str_to_ascii_lowercase word ≡ spelling_of key) → ¬ IsKeyword text key more

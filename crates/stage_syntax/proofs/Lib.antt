@@ -1,10 +1,10 @@
+pub mod BadHex
 pub mod ByteParts
 pub mod Choices
 pub mod Consumed
 pub mod DelimitedParts
 pub mod Delimiters
 pub mod Examples
-pub mod BadHex
 pub mod KeywordParts
 pub mod Letters
 pub mod Misfits
@@ -25,6 +25,7 @@ pub mod RangeFronts
 pub mod ReadValues
 pub mod RowSteps
 pub mod Spellings
+pub mod SpotParts
 pub mod StageNames
 pub mod StringPairs
 pub mod StringParts
@@ -33,4 +34,6 @@ pub mod Typed
 pub mod TypedKinds
 pub mod TypedOrder
 pub mod TypedSpecs
+pub mod WholeDigits
+pub mod WholeParts
 pub mod WordFronts

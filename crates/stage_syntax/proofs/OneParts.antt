@@ -6,8 +6,10 @@ use Rattle.pipe_model.proofs.Blanks.{one_front}
 use Rattle.stage_syntax.proofs.OneRanges.{no_range_misfit, one_range, one_range_misfit}
 use Rattle.stage_syntax.proofs.OneStrings.{one_string}
 use Rattle.stage_syntax.proofs.Outcomes.{no_fault}
+use Rattle.stage_syntax.proofs.SpotParts.{one_spot, one_spot_misfit, spot_faultless}
 use Rattle.stage_syntax.proofs.StringPairs.{one_pair, one_pair_misfit, pair_faultless}
 use Rattle.stage_syntax.proofs.StringParts.{any_string_faultless, one_any_misfit, one_any_string, one_string_misfit}
+use Rattle.stage_syntax.proofs.WholeParts.{one_counter, one_whole, whole_faultless}
 use Rattle.stage_syntax.specs.Parts.{BeginsNone, IsAtEnd, IsFirstMisfit, IsFirstPart, IsMisfitOf, IsNext, IsNoNext, IsNone, IsNot, IsPart, IsPartMisfit}
 use Rattle.pipe_model.specs.Words.{IsUnblanked}
 use Rattle.stage_syntax.specs.declared.part.Part.{Part}
@@ -31,6 +33,9 @@ module _ (text : List ℕ) where
   same_part Asked.Times value other rest more is too = let same = one_times text is.0 too.0 rest more is.2 too.2 in (is.1 ∙ ap Read.Times same.0 ∙ sym too.1, same.1)
   same_part (Asked.Word key) value other rest more is too = (is.0 ∙ sym too.0, one_keyword text key rest more is.1 too.1)
   same_part Asked.Name value other rest more is too = let same = one_name text is.0 too.0 rest more is.2 too.2 in (is.1 ∙ ap Read.String same.0 ∙ sym too.1, same.1)
+  same_part Asked.Counter value other rest more is too = let same = one_counter text is.0 too.0 rest more is.2 too.2 in (is.1 ∙ ap Read.Counter same.0 ∙ sym too.1, same.1)
+  same_part Asked.Whole value other rest more is too = let same = one_whole text is.0 too.0 rest more is.2 too.2 in (is.1 ∙ ap Read.Whole same.0 ∙ sym too.1, same.1)
+  same_part Asked.Spot value other rest more is too = let same = one_spot text is.0 too.0 rest more is.2 too.2 in (is.1 ∙ ap Read.Spot same.0 ∙ sym too.1, same.1)
 
   -- and then has no fault of it
   pub not_both : (part : Part) (value : Value) (rest : List ℕ) (fault : TextFault) → IsPart part text value rest → ¬ IsPartMisfit part text fault
@@ -44,6 +49,9 @@ module _ (text : List ℕ) where
   not_both Asked.Times value rest fault is misfit = times_faultless text is.0 rest fault is.2 misfit
   not_both (Asked.Word key) value rest fault is misfit = misfit
   not_both Asked.Name value rest fault is misfit = name_faultless text is.0 rest fault is.2 misfit
+  not_both Asked.Counter value rest fault is misfit = misfit
+  not_both Asked.Whole value rest fault is misfit = whole_faultless text is.0 rest fault is.2 misfit
+  not_both Asked.Spot value rest fault is misfit = spot_faultless text is.0 rest fault is.2 misfit
 
   -- or has one fault of it
   pub same_misfit : (part : Part) (a b : TextFault) → IsPartMisfit part text a → IsPartMisfit part text b → a ≡ b
@@ -57,6 +65,9 @@ module _ (text : List ℕ) where
   same_misfit Asked.Times a b is too = is.fault_is ∙ sym too.fault_is
   same_misfit (Asked.Word key) a b is too = absurd is
   same_misfit Asked.Name a b is too = is.fault_is ∙ sym too.fault_is
+  same_misfit Asked.Counter a b is too = absurd is
+  same_misfit Asked.Whole a b is too = is.fault_is ∙ sym too.fault_is
+  same_misfit Asked.Spot a b is too = one_spot_misfit text a b is too
 
   -- what begins as a part and isn't one isn't one
   pub misfit_is_not : (part : Part) (fault : TextFault) → IsPartMisfit part text fault → IsNot part text

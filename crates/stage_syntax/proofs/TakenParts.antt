@@ -3,6 +3,8 @@ use Rattle.std.proofs.Common.{ℕ, List}
 use Rattle.stage_syntax.specs.Keywords.{IsKeyword}
 use Rattle.stage_syntax.specs.Parts.{IsNoPart}
 use Rattle.stage_syntax.specs.RangeWords.{IsNoRange, IsUnspelled}
+use Rattle.stage_syntax.specs.Spots.{IsNoSpot}
+use Rattle.stage_syntax.specs.WholeNumbers.{IsCounter, IsNoWhole}
 use Rattle.stage_syntax.specs.declared.part.Part.TheVariants as Asked
 use Rattle.stage_syntax.specs.declared.part.Word.{Word}
 
@@ -14,3 +16,12 @@ no_columns_part text none = (λ value rest is. none is.2.word rest is.2.range_is
 
 pub no_word_part : (text : List ℕ) (key : Word) → ((rest : List ℕ) → ¬ IsKeyword text key rest) → IsNoPart (Asked.Word key) text
 no_word_part text key none = (λ value rest is. none rest is.1, λ fault misfit. misfit)
+
+pub no_counter_part : (text : List ℕ) → ((k : ℕ) (rest : List ℕ) → ¬ IsCounter text k rest) → IsNoPart Asked.Counter text
+no_counter_part text none = (λ value rest is. none is.0 rest is.2, λ fault misfit. misfit)
+
+pub no_whole_part : (text : List ℕ) → IsNoWhole text → IsNoPart Asked.Whole text
+no_whole_part text none = (λ value rest is. none is.2.word rest is.0 is.2.first is.2.counts, λ fault misfit. none misfit.word misfit.rest misfit.value misfit.first misfit.counts)
+
+pub no_spot_part : (text : List ℕ) → IsNoSpot text → IsNoPart Asked.Spot text
+no_spot_part text none = (λ value rest is. none.none is.0 rest is.2, none.no_misfit)

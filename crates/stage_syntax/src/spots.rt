@@ -1,15 +1,22 @@
-ghost use Rattle.std.specs.Prelude.{◌≡◌, ◌≤◌, Bool, ℕ, List, length, drop, IfOk, IfErr, IfSome, MatchOption};
+ghost use Rattle.std.specs.Prelude.{◌≡◌, ◌≢◌, ◌≤◌, ◌++◌, Bool, ℕ, List, length, drop, get_or, if◌then◌else◌, IfOk, IfErr, IfSome, MatchOption};
+ghost use Rattle.std.specs.List.{Contains};
 ghost use Rattle.std.specs.declared.option.Option.{Option};
-ghost use Rattle.stage_syntax.specs.Spots.{IsColumn, IsColumnFault, IsNextFault, IsNextName, IsNextPlace, IsNoSpot, IsSpot, IsSpotMisfit};
+ghost use Rattle.pipe_model.specs.declared.items.Spot.TheVariants.{Next, NextWord};
+ghost use Rattle.pipe_model.specs.Words.{IsFirstWord};
+ghost use Rattle.stage_syntax.specs.declared.ranges.Ending.TheVariants.{Open};
+ghost use Rattle.stage_syntax.specs.declared.ranges.Spelling.{Spelling};
+ghost use Rattle.stage_syntax.specs.Bounds.{Fits, IsLast};
+ghost use Rattle.stage_syntax.specs.Ranges.{IsSpelling};
+ghost use Rattle.stage_syntax.specs.Spots.{IsColumnFault, IsColumnLength, IsNextFault, IsNextName, IsNextSpelling, IsNoSpot, IsSpot, IsSpotMisfit};
 
 use crate::bounds::range_of;
 use crate::digits::{first_digits, number};
 use crate::fault::FaultKind;
 use crate::part::TextFault;
-use crate::ranges::{Ending, read_spelling};
+use crate::ranges::{Ending, Spelling, read_spelling};
 use crate::spelled::place_misfit;
 use bstr::ByteSlice;
-use pipe_model::{Range, Span, Spot, first_word};
+use pipe_model::{Span, Spot, first_word};
 
 /// The greatest length.
 const LARGEST: u64 = 1_048_576;
@@ -45,6 +52,9 @@ pub fn spot(text: &[u8]) -> Result<Option<SpelledSpot>, TextFault>
 
 // The column that a word spells, with its length, where so many bytes are left of the text at the word's beginning.
 fn column(word: &[u8], left: usize) -> Result<Option<Spot>, TextFault>
+    requires within { length word.now ≤ left }
+    ensures read { IfOk result (λ found. MatchOption found ((spelling : Spelling) → IsSpelling word.now spelling → spelling.ending ≡ Open) (λ spot. (text rest : List ℕ) → IsFirstWord text word.now rest → IsSpot text spot rest)) }
+    ensures refused { IfErr result (λ fault. (text rest : List ℕ) → IsFirstWord text word.now rest → length text ≡ left → IsColumnFault text fault) }
 {
     let Some(spelling) = read_spelling(word) else {
         return Ok(None);
@@ -55,7 +65,7 @@ fn column(word: &[u8], left: usize) -> Result<Option<Spot>, TextFault>
     match range_of(Span::Columns, spelling) {
         Ok(range) => Ok(Some(Spot::Column {
             first: range.first,
-            len: column_length(spelling.ending, range),
+            len: column_length(spelling),
         })),
         Err(misfit) => {
             let (digits, _after) = first_digits(word);
@@ -68,37 +78,50 @@ fn column(word: &[u8], left: usize) -> Result<Option<Spot>, TextFault>
     }
 }
 
-// The length that is named with a column.
-fn column_length(ending: Ending, range: Range) -> Option<u32> {
-    match (ending, range.last) {
-        (Ending::To(_) | Ending::Long(_), Some(last)) => Some(last - range.first + 1),
-        _ => None,
+// The length that is named with a column, of a range that has an end.
+fn column_length(spelling: Spelling) -> Option<u32>
+    requires fits { Fits spelling.first × ((last : Option ℕ) × IsLast spelling.first spelling.ending last) }
+    requires closed { spelling.ending ≢ Open }
+    ensures { IsColumnLength spelling.first spelling.ending result }
+{
+    match spelling.ending {
+        Ending::To(last) => Some((last - spelling.first + 1) as u32),
+        Ending::Long(len) => Some(len as u32),
+        Ending::Alone | Ending::Open => None,
     }
 }
 
-// NEXT or NEXTWORD, with its length.
+// NEXT or NEXTWORD as a word spells it, with its length, where so many bytes are left of the text at the word's beginning.
 fn next_place(word: &[u8], left: usize) -> Result<Option<Spot>, TextFault>
+    requires within { length word.now ≤ left }
+    ensures read { IfOk result (λ found. MatchOption found ((apart : Bool) (len : Option ℕ) → ¬ IsNextSpelling word.now apart len) (λ spot. (text rest : List ℕ) → IsFirstWord text word.now rest → IsSpot text spot rest)) }
+    ensures refused { IfErr result (λ fault. (text rest : List ℕ) → IsFirstWord text word.now rest → length text ≡ left → IsNextFault text fault) }
 {
     let (name, after) = before_dot(word);
     let Some(apart) = next_named(name) else {
         return Ok(None);
     };
-    match after {
-        [b'.', digits @ ..] => match number(digits) {
-            Some(len) => {
-                if len == 0 || len > LARGEST {
-                    return Err(TextFault { left: left - (name.len() + 1), kind: FaultKind::OutOfRange });
-                }
-                Ok(Some(next_spot(apart, Some(len as u32))))
-            }
-            None => Ok(None),
-        },
-        _ => Ok(Some(next_spot(apart, None))),
+    let [b'.', digits @ ..] = after else {
+        return Ok(Some(next_spot(apart, None)));
+    };
+    let Some(len) = number(digits) else {
+        return Ok(None);
+    };
+    if len == 0 || len > LARGEST {
+        return Err(TextFault {
+            left: left - (name.len() + 1),
+            kind: FaultKind::OutOfRange,
+        });
     }
+    Ok(Some(next_spot(apart, Some(len as u32))))
 }
 
 // What stands before the first dot of a word, and the rest.
-fn before_dot(word: &[u8]) -> (&[u8], &[u8]) {
+fn before_dot(word: &[u8]) -> (&[u8], &[u8])
+    ensures spells { word.now ≡ result.0.now ++ result.1.now }
+    ensures whole { ¬ Contains result.0.now 46 }
+    ensures stops { get_or result.1.now 0 46 ≡ 46 }
+{
     match word.find_byte(b'.') {
         Some(at) => (&word[..at], &word[at..]),
         None => (word, &[]),
@@ -119,7 +142,9 @@ fn next_named(name: &[u8]) -> Option<bool>
 }
 
 // The place, which leaves a gap or none.
-fn next_spot(apart: bool, len: Option<u32>) -> Spot {
+fn next_spot(apart: bool, len: Option<u32>) -> Spot
+    ensures { result ≡ (if apart then NextWord len else Next len) }
+{
     if apart {
         Spot::NextWord { len }
     } else {
