@@ -3,6 +3,7 @@ ghost use Rattle.std.specs.Prelude.{[]};
 ghost use Rattle.std.specs.declared.option.Option.TheVariants.{Some};
 ghost use Rattle.stage_syntax.specs.declared.item_lists.ItemState.TheVariants.{Between, Counting, Giving, Putting};
 ghost use Rattle.pipe_model.specs.declared.items.Item.TheVariants.{Field};
+ghost use Rattle.stage_syntax.specs.declared.part.Value.TheVariants as Read;
 ghost use Rattle.stage_syntax.specs.ItemForms as Forms;
 ghost use Rattle.stage_syntax.specs.ItemForms.{Draft};
 ghost use Rattle.stage_syntax.specs.ItemLists.{IsDraft};
@@ -99,13 +100,24 @@ impl ItemLists {
                 false,
                 None,
             ),
-            Value::Word(Word::Number) => self.state = ItemState::Putting(Origin::Number, false, None),
-            Value::Word(Word::Print) => self.state = ItemState::Printing,
-            Value::Word(Word::Read) => return self.add(Item::Read),
-            Value::Word(Word::Write) => return self.add(Item::Write),
-            Value::Word(Word::Pad) => self.state = ItemState::Padding,
-            Value::Word(Word::Set) => self.state = ItemState::Setting,
-            Value::Word(Word::Eof) => self.begin_eof(alloc),
+            Value::Word(word) => return self.begin_word(alloc, *word),
+            _ => {}
+        }
+        Ok(())
+    }
+
+    // The keyword that an item begins with, or EOF.
+    fn begin_word(&mut self, alloc: Global, word: Word) -> Result<(), NoMemory>
+        ensures { OnOk result ((d : Draft) → IsDraft self.old d → IsDraft self.new (Forms.begun (Read.Word word) d)) }
+    {
+        match word {
+            Word::Number => self.state = ItemState::Putting(Origin::Number, false, None),
+            Word::Print => self.state = ItemState::Printing,
+            Word::Read => return self.add(Item::Read),
+            Word::Write => return self.add(Item::Write),
+            Word::Pad => self.state = ItemState::Padding,
+            Word::Set => self.state = ItemState::Setting,
+            Word::Eof => self.begin_eof(alloc),
             _ => {}
         }
         Ok(())
@@ -200,7 +212,7 @@ impl ItemLists {
 
     // What the arguments make, where none is missing.
     fn finish(mut self) -> Result<Option<Kind>, NoMemory>
-        ensures { IfOk result (λ kind. (d : Draft) → IsDraft self.entry d → kind ≡ Forms.made_by d.state d) }
+        ensures { IfOk result (λ kind. (d : Draft) → IsDraft self d → kind ≡ Forms.made_by d.state d) }
     {
         match mem::replace(&mut self.state, ItemState::Between) {
             ItemState::Between => {}
