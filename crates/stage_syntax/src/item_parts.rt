@@ -52,7 +52,7 @@ impl Progress {
         }
     }
 
-    /// With one more argument. It takes a step however many came before.
+    /// With one more argument. The time doesn't grow with those before it.
     pub fn after(self, value: &Value) -> Progress
         ensures { (d : Draft) → progress_of d ≡ self → progress_of (draft_after d value.now) ≡ result }
     {

@@ -1,4 +1,4 @@
-use Rattle.std.proofs.Common.{◌≡◌, Option, Some, None, rules}
+use Rattle.std.proofs.Common.{◌≡◌, Some, None, rules}
 use Rattle.std.proofs.lemmas.Result.{on_ok_weaker}
 use Rattle.pipe_model.specs.declared.items.Align.TheVariants as Aligns
 use Rattle.pipe_model.specs.declared.items.Item.TheVariants.{Field}

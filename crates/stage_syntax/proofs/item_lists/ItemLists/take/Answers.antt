@@ -1,8 +1,6 @@
 use Rattle.std.proofs.Common.{◌≡◌, refl, sym, ◌∙◌, subst}
 use Rattle.std.proofs.lemmas.Result.{on_ok_weaker}
-use Rattle.stage_syntax.specs.declared.item_lists.ItemState.{ItemState}
 use Rattle.stage_syntax.specs.declared.item_lists.ItemState.TheVariants.{Between, Numbering, Padding, Placing}
-use Rattle.stage_syntax.specs.declared.part.Value.TheVariants as Read
 use Rattle.stage_syntax.specs.ItemForms.{with_state}
 use Rattle.stage_syntax.specs.ItemLists.{IsDraft}
 use Rattle.stage_syntax.proofs.Drafts.{after_by}
