@@ -4,6 +4,7 @@ pub mod Choices
 pub mod Consumed
 pub mod DelimitedParts
 pub mod Delimiters
+pub mod Drafts
 pub mod Examples
 pub mod KeywordParts
 pub mod Letters

@@ -13,7 +13,6 @@ use Rattle.pipe_model.specs.declared.items.Origin.{Origin}
 use Rattle.pipe_model.specs.declared.items.Origin.TheVariants as Origins
 use Rattle.pipe_model.specs.declared.items.SetOp.{SetOp}
 use Rattle.pipe_model.specs.declared.items.SetOp.TheVariants as Ops
-use Rattle.pipe_model.specs.declared.items.Spot.{Spot}
 use Rattle.pipe_model.specs.declared.kind.Kind.{Kind}
 use Rattle.pipe_model.specs.declared.kind.Kind.TheVariants.{Specs}
 use Rattle.stage_syntax.specs.declared.item_lists.ItemState.{ItemState}

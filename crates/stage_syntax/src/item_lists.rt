@@ -1,8 +1,8 @@
-ghost use Rattle.std.specs.Prelude.{◌≡◌, IfOk, OnOk};
-ghost use Rattle.std.specs.Prelude.{[]};
-ghost use Rattle.std.specs.declared.option.Option.TheVariants.{Some};
-ghost use Rattle.stage_syntax.specs.declared.item_lists.ItemState.TheVariants.{Between, Counting, Giving, Putting};
+ghost use Rattle.std.specs.Prelude.{◌≡◌, false, [], IfOk, OnOk};
+ghost use Rattle.std.specs.declared.option.Option.TheVariants.{None, Some};
 ghost use Rattle.pipe_model.specs.declared.items.Item.TheVariants.{Field};
+ghost use Rattle.stage_syntax.specs.declared.item_lists.ItemState.TheVariants.{Between, Counting, Giving, Putting};
+ghost use Rattle.stage_syntax.specs.declared.part.Value.TheVariants as Read;
 ghost use Rattle.stage_syntax.specs.ItemForms as Forms;
 ghost use Rattle.stage_syntax.specs.ItemForms.{Draft};
 ghost use Rattle.stage_syntax.specs.ItemLists.{IsDraft};
@@ -37,7 +37,7 @@ pub enum ItemState {
     Numbering(u8, SetOp),
 }
 
-// What was read of the arguments of SPECS.
+/// What was read of the arguments of SPECS.
 #[derive(Drop)]
 pub struct ItemLists {
     // The whole items of the list that is read.
@@ -93,19 +93,26 @@ impl ItemLists {
         ensures { OnOk result ((d : Draft) → IsDraft self.old d → IsDraft self.new (Forms.begun value.now d)) }
     {
         match value {
-            Value::Range(range) => self.state = ItemState::Putting(Origin::Cut(*range), false, None),
-            Value::String(string) => self.state = ItemState::Putting(
-                Origin::Text(copy(alloc, string)?),
-                false,
-                None,
-            ),
-            Value::Word(Word::Number) => self.state = ItemState::Putting(Origin::Number, false, None),
-            Value::Word(Word::Print) => self.state = ItemState::Printing,
-            Value::Word(Word::Read) => return self.add(Item::Read),
-            Value::Word(Word::Write) => return self.add(Item::Write),
-            Value::Word(Word::Pad) => self.state = ItemState::Padding,
-            Value::Word(Word::Set) => self.state = ItemState::Setting,
-            Value::Word(Word::Eof) => self.begin_eof(alloc),
+            Value::Range(range) => self.state = unplaced(Origin::Cut(*range)),
+            Value::String(string) => self.state = unplaced(Origin::Text(copy(alloc, string)?)),
+            Value::Word(word) => return self.begin_word(alloc, *word),
+            _ => {}
+        }
+        Ok(())
+    }
+
+    // The keyword that an item begins with, or EOF.
+    fn begin_word(&mut self, alloc: Global, word: Word) -> Result<(), NoMemory>
+        ensures { OnOk result ((d : Draft) → IsDraft self.old d → IsDraft self.new (Forms.begun (Read.Word word) d)) }
+    {
+        match word {
+            Word::Number => self.state = unplaced(Origin::Number),
+            Word::Print => self.state = ItemState::Printing,
+            Word::Read => return self.add(Item::Read),
+            Word::Write => return self.add(Item::Write),
+            Word::Pad => self.state = ItemState::Padding,
+            Word::Set => self.state = ItemState::Setting,
+            Word::Eof => self.begin_eof(alloc),
             _ => {}
         }
         Ok(())
@@ -116,19 +123,17 @@ impl ItemLists {
         ensures { OnOk result ((d : Draft) → IsDraft self.old d → IsDraft self.new (Forms.draft_after d value.now)) }
     {
         match (mem::replace(&mut self.state, ItemState::Between), value) {
-            (ItemState::Printing, Value::Counter(k)) => self.state = ItemState::Putting(
-                Origin::Print(*k),
-                false,
-                None,
-            ),
+            (ItemState::Printing, Value::Counter(k)) => self.state = unplaced(Origin::Print(*k)),
             (ItemState::Padding, Value::Byte(byte)) => return self.add(Item::Pad(*byte)),
             (ItemState::Setting, Value::Counter(k)) => self.state = ItemState::Counting(*k),
             (ItemState::Counting(k), value) => self.state = counting(k, value),
-            (ItemState::Numbering(counter, op), Value::Range(range)) => return self.add(Item::Set {
-                counter,
-                op,
-                amount: Amount::Number(*range),
-            }),
+            (ItemState::Numbering(counter, op), Value::Range(range)) => return self.add(
+                Item::Set {
+                    counter,
+                    op,
+                    amount: Amount::Number(*range),
+                },
+            ),
             (ItemState::Giving(counter, op), value) => return self.give(counter, op, value),
             (ItemState::Putting(origin, strip, convert), value) => self.state = putting(
                 origin, strip, convert, value,
@@ -200,7 +205,7 @@ impl ItemLists {
 
     // What the arguments make, where none is missing.
     fn finish(mut self) -> Result<Option<Kind>, NoMemory>
-        ensures { IfOk result (λ kind. (d : Draft) → IsDraft self.entry d → kind ≡ Forms.made_by d.state d) }
+        ensures { IfOk result (λ kind. (d : Draft) → IsDraft self d → kind ≡ Forms.made_by d.state d) }
     {
         match mem::replace(&mut self.state, ItemState::Between) {
             ItemState::Between => {}
@@ -240,6 +245,13 @@ fn align_of(value: &Value) -> Option<Align>
         Value::Word(Word::Right) => Some(Align::Right),
         _ => None,
     }
+}
+
+// A field that lacks its place, of which nothing is made yet.
+fn unplaced(origin: Origin) -> ItemState
+    ensures { result ≡ Putting origin false None }
+{
+    ItemState::Putting(origin, false, None)
 }
 
 // SET with an operator, or without it still.

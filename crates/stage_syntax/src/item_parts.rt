@@ -1,6 +1,6 @@
-ghost use Rattle.std.specs.Prelude.{◌≡◌};
+ghost use Rattle.std.specs.Prelude.{◌≡◌, ◌||◌, is_some};
 ghost use Rattle.stage_syntax.specs.declared.part.Value.{Value};
-ghost use Rattle.stage_syntax.specs.ItemForms.{Draft, draft_after, nothing_read, parts_at, progress_of};
+ghost use Rattle.stage_syntax.specs.ItemForms.{Draft, begun, draft_after, due_of, nothing_read, parts_at, progress_of};
 
 use crate::part::{Part, Value, Word};
 
@@ -52,19 +52,13 @@ impl Progress {
         }
     }
 
-    /// With one more argument. It takes a step however many came before.
+    /// With one more argument. The time doesn't grow with those before it.
     pub fn after(self, value: &Value) -> Progress
         ensures { (d : Draft) → progress_of d ≡ self → progress_of (draft_after d value.now) ≡ result }
     {
-        match (self.due, value) {
-            (Due::First | Due::Item | Due::Align, Value::Word(Word::Eof)) => Progress {
-                due: Due::Item,
-                in_eof: true,
-            },
-            (due, value) => Progress {
-                due: due_after(due, value),
-                in_eof: self.in_eof,
-            },
+        Progress {
+            due: due_after(self.due, value),
+            in_eof: self.in_eof || is_eof(self.due, value),
         }
     }
 
@@ -151,20 +145,34 @@ impl Progress {
     }
 }
 
-// What comes next behind the first argument of an item.
-fn due_behind(due: Due, value: &Value) -> Due {
+// Whether an argument is EOF and may be it.
+fn is_eof(due: Due, value: &Value) -> bool
+    ensures { (d : Draft) → due_of d.state ≡ due → is_some (draft_after d value.now).before ≡ (is_some d.before || result) }
+{
+    matches!(
+        (due, value),
+        (Due::First | Due::Item | Due::Align, Value::Word(Word::Eof)),
+    )
+}
+
+// What comes next behind the first argument of an item, or EOF.
+fn due_behind(due: Due, value: &Value) -> Due
+    ensures { (d : Draft) → due_of d.state ≡ due → due_of (begun value.now d).state ≡ result }
+{
     match value {
         Value::Range(_) | Value::String(_) | Value::Word(Word::Number) => Due::Strip,
         Value::Word(Word::Print) => Due::Printed,
-        Value::Word(Word::Read | Word::Write) => Due::Item,
+        Value::Word(Word::Read | Word::Write | Word::Eof) => Due::Item,
         Value::Word(Word::Pad) => Due::Byte,
         Value::Word(Word::Set) => Due::Counter,
         _ => due,
     }
 }
 
-// What comes next behind an argument other than EOF.
-fn due_after(due: Due, value: &Value) -> Due {
+// What comes next behind an argument.
+fn due_after(due: Due, value: &Value) -> Due
+    ensures { (d : Draft) → due_of d.state ≡ due → due_of (draft_after d value.now).state ≡ result }
+{
     match (due, value) {
         (Due::First | Due::Item, _) => due_behind(due, value),
         (Due::Align, Value::Word(Word::Left | Word::Center | Word::Right)) => Due::Item,

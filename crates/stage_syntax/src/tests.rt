@@ -232,7 +232,23 @@ block| 80 SF|read\n\
 block| 80|1 before 0\n\
 block| 0 sf|4 before 4\n\
 deblock| fixed 10|read\n\
-deblock| String // |6 before 3";
+deblock| String // |6 before 3\n\
+specs| 1-* 1|read\n\
+specs| word 2 1 number strip nw x41 n|read\n\
+specs| Set #0 += num 1-* print #0 1 EOF print #0 strip c2x 5.3 right|read\n\
+specs| 1 1 eof|read\n\
+specs||1 before 0\n\
+specs| 1-*|1 before 0\n\
+specs| eof|7 before 3\n\
+specs| 1-* 1-*|7 before 3\n\
+specs| 1 1 left left|7 before 4\n\
+specs| number nw strip|7 before 5\n\
+specs| read eof read|7 before 4\n\
+specs| write eof write eof|7 before 3\n\
+specs| set #10|7 before 3\n\
+specs| set #1 = x|7 before 1\n\
+specs| xyz|8 before 3\n\
+specs| 1 xyz|7 before 3";
 
 #[test]
 fn arguments_of_each_form_are_read(rt: HostRuntime) -> Result<(), Fail> {
