@@ -1,6 +1,6 @@
 -- How a cycle goes on with one more record.
 use Rattle.std.proofs.Common.{◌≡◌, ◌≢◌, ◌≤◌, ◌<◌, ◌+◌, ◌∙◌, ℕ, zero, suc, List, [], ◌∷◌, ◌++◌, length, drop, refl, ap, sym, length-append, append_assoc, arith, cond, ◌⊎◌, inl, inr, ⊎_elim}
-use Rattle.std.specs.Prelude.{◌-◌, ◌==◌, not, is_none, Bool, true, false, IfOk, if◌then◌else◌, fold, is_some, IfSome, option_map, option_and_then}
+use Rattle.std.specs.Prelude.{◌-◌, ◌==◌, ◌&&◌, not, is_none, Bool, true, false, IfOk, if◌then◌else◌, fold, is_some, IfSome, option_map, option_and_then}
 use Rattle.std.specs.declared.option.Option.{Option}
 use Rattle.std.specs.declared.option.Option.TheVariants.{Some, None}
 use Rattle.std.specs.declared.result.Result.{Result}
@@ -8,7 +8,7 @@ use Rattle.std.specs.declared.result.Result.TheVariants.{Ok, Err}
 use Rattle.std.proofs.lemmas.List.{append-nil}
 use Rattle.pipe_model.specs.declared.items.Item.{Item}
 use Rattle.pipe_model.specs.declared.items.Item.TheVariants.{Field, Read, Write, Pad, Set}
-use Rattle.std.proofs.lemmas.Bool.{ne_eqb}
+use Rattle.std.proofs.lemmas.Bool.{ne_eqb, eqb-true, eqb-false}
 use Rattle.pipe_model.specs.Counts.{all_on}
 use Rattle.pipe_model.specs.Parts.{without_last}
 use Rattle.pipe_model.specs.Shape.{Records}
@@ -275,6 +275,16 @@ module _ (items : List Item) (recs : Records) where
   cycle_wrote x wrote at front is = ⊎_elim
       (λ none. sym (pairs_between none ∙ ap (λ d. all_on 0 (rows.written_by d)) (is.between none).desk_is))
       (λ some. absurd (omega (arith, front, (is.within some).at_is refl))) (zero_or_more (come items recs))
+
+  -- no cycle ended, or one with a fault
+  pub none_ended : (x : Desk) (wrote : Records) (at : ℕ) (faulty : Bool) → IsAt items x wrote at faulty recs → (not faulty && at == 0) ≡ false → all_on 0 [] ≡ rows.cycle_pairs items recs
+  none_ended x wrote at true is not_ended = faulty_pairs x wrote at is
+  none_ended x wrote at false is not_ended = no_pairs x wrote at (let other = eqb-false at 0 not_ended in omega (arith, other)) is
+
+-- a cycle ended, and without a fault
+pub has_ended : (at : ℕ) (faulty : Bool) → (not faulty && at == 0) ≡ true → (faulty ≡ false) × (at ≡ 0)
+has_ended at true is = absurd (cc)
+has_ended at false is = (refl, eqb-true at 0 is)
 
 -- The end of input
 

@@ -1,4 +1,4 @@
-ghost use Rattle.std.specs.Prelude.{◌≡◌, ◌<◌, ◌≤◌, ◌++◌, ◌∷◌, [], drop, length, List, ℕ, IfOk, OnOk, Some, false, is_none};
+ghost use Rattle.std.specs.Prelude.{◌≡◌, ◌<◌, ◌≤◌, ◌++◌, ◌∷◌, [], drop, length, List, ℕ, IfOk, OnOk, Some, false, is_none, not, ◌&&◌, ◌==◌};
 ghost use Rattle.pipe_model.specs.Shape.{Records};
 ghost use Rattle.pipe_model.specs.Counts.{all_on};
 ghost use Rattle.pipe_model.specs.SpecsRows.{cycle, cycle_pairs, waiting_pairs, so_far, after_input, written_by};
@@ -95,6 +95,13 @@ impl Cycle {
         self.is_faulty
     }
 
+    // Whether a cycle ended with the record that came last, and without a fault.
+    fn has_ended(&self) -> bool
+        ensures { result ≡ (not self.now.is_faulty && self.now.at == 0) }
+    {
+        !self.is_faulty && self.at == 0
+    }
+
     // Gives away what is written with the record that came last, where a cycle ends with it.
     pub(crate) fn give(&mut self, due: &mut Vec<Rec>)
         ensures items { self.new.items.items ≡ self.old.items.items }
@@ -102,13 +109,9 @@ impl Cycle {
         ensures at { (recs : Records) → IsCycle self.old recs → IsCycleAfter self.new self.old.desk.written.items recs }
     {
         due.clear();
-        if self.is_faulty {
-            return;
+        if self.has_ended() {
+            self.desk.give(due);
         }
-        if self.at > 0 {
-            return;
-        }
-        self.desk.give(due);
     }
 
     // Ends the input: a cycle that waits is run on, with empty records for those that lack, and gives away what it wrote.

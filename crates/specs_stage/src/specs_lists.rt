@@ -109,7 +109,6 @@ impl Lists for SpecsLists {
         }
     }
 
-    #[inline(never)]
     fn hand_over(&mut self, alloc: Global) -> Result<Rec, NoMemory> {
         let none = Rec::from_vec(Vec::new(alloc));
         let place = self.given.saturating_sub(1);

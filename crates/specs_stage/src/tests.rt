@@ -1,9 +1,14 @@
+use crate::SpecsStage;
 use crate::cycle::Cycle;
 use crate::desk::Desk;
 use crate::hex_digits::{add_from_hex, add_to_hex};
 use crate::numbers::{add_in_ten_places, counter_after, number_in};
 use crate::output::put;
-use pipe_model::{Align, Item, Lines, Origin, Range, SetOp, Span, Spot};
+use crate::specs_lists::SpecsLists;
+use pipe_model::{Align, Amount, Item, Items, Lines, Origin, Range, SetOp, Span, Spot};
+use stage_steps::{Group, Lists};
+use std::alloc::Global;
+use std::process::Abort;
 use std::test::Fail;
 
 #[test]
@@ -92,18 +97,36 @@ fn fields_are_put_in_their_places(rt: HostRuntime) -> Result<(), Fail> {
     Ok(())
 }
 
-// The record at hand, put behind the output's end.
-fn whole() -> Item {
+// All of a record.
+fn all() -> Range {
+    Range {
+        span: Span::Columns,
+        first: 1,
+        last: None,
+    }
+}
+
+fn field(origin: Origin, spot: Spot) -> Item {
     Item::Field {
-        origin: Origin::Cut(Range {
-            span: Span::Columns,
-            first: 1,
-            last: None,
-        }),
+        origin,
         strip: false,
         convert: None,
-        spot: Spot::Next { len: None },
+        spot,
         align: Align::Left,
+    }
+}
+
+// The record at hand, put behind the output's end.
+fn whole() -> Item {
+    field(Origin::Cut(all()), Spot::Next { len: None })
+}
+
+// The number that a record spells is added to counter 0.
+fn sum() -> Item {
+    Item::Set {
+        counter: 0,
+        op: SetOp::Add,
+        amount: Amount::Number(all()),
     }
 }
 
@@ -156,4 +179,84 @@ fn cycles_go_on_record_by_record(rt: HostRuntime) -> Result<(), Fail> {
     assert_eq!(rt; text.as_slice(), b".ab..cd..".as_slice());
     assert!(rt; !cycle.is_faulty());
     Ok(())
+}
+
+// The lists give this record, or none.
+fn gives(
+    rt: &impl Abort,
+    alloc: Global,
+    lists: &mut SpecsLists,
+    wanted: Option<&[u8]>,
+) -> Result<(), Fail> {
+    if let Some(bytes) = wanted {
+        assert!(rt; matches!(lists.next(alloc)?, Some(Group::New(0))));
+        assert_eq!(rt; lists.hand_over(alloc)?.bytes(), bytes);
+    }
+    assert!(rt; lists.next(alloc)?.is_none());
+    Ok(())
+}
+
+// The lists see one record after another, and give these with each; and this one at the end of input.
+fn runs(
+    rt: &impl Abort,
+    alloc: Global,
+    mut lists: SpecsLists,
+    rows: &[(&[u8], Option<&[u8]>)],
+    last: &[u8],
+) -> Result<(), Fail> {
+    for (rec, wanted) in rows {
+        lists.see(alloc, rec)?;
+        gives(rt, alloc, &mut lists, *wanted)?;
+        assert!(rt; !lists.stops() && !lists.halts());
+    }
+    lists.end(alloc)?;
+    gives(rt, alloc, &mut lists, Some(last))?;
+    assert_eq!(rt; lists.code(), 0);
+    Ok(())
+}
+
+#[test]
+fn two_records_are_put_into_one(rt: HostRuntime) -> Result<(), Fail> {
+    let alloc = rt.alloc();
+    let next_word = field(Origin::Cut(all()), Spot::NextWord { len: None });
+    let items = Vec::from_array(alloc, [whole(), Item::Read, next_word])?;
+    let lists = SpecsLists::new(alloc, items, None);
+    let rows: [(&[u8], Option<&[u8]>); 3] = [(b"a", None), (b"b", Some(b"a b")), (b"c", None)];
+    runs(&rt, alloc, lists, &rows, b"c")
+}
+
+#[test]
+fn the_eof_list_writes_a_sum(rt: HostRuntime) -> Result<(), Fail> {
+    let alloc = rt.alloc();
+    let items = Vec::from_array(alloc, [whole(), sum()])?;
+    let total = field(Origin::Print(0), Spot::Next { len: None });
+    let eof = Items::from_vec(Vec::from_array(alloc, [total])?);
+    let lists = SpecsLists::new(alloc, items, Some(eof));
+    let rows: [(&[u8], Option<&[u8]>); 2] = [(b"12", Some(b"12")), (b"-5", Some(b"-5"))];
+    runs(&rt, alloc, lists, &rows, b"7")
+}
+
+#[test]
+fn a_fault_ends_it(rt: HostRuntime) -> Result<(), Fail> {
+    let alloc = rt.alloc();
+    for has_read in [false, true] {
+        let mut items = Vec::from_array(alloc, [whole(), Item::Write, sum()])?;
+        if has_read {
+            items.push(Item::Read)?;
+        }
+        let mut lists = SpecsLists::new(alloc, items, None);
+        lists.see(alloc, b"x")?;
+        gives(&rt, alloc, &mut lists, None)?;
+        assert_eq!(rt; (lists.stops(), lists.halts()), (has_read, !has_read));
+        assert_eq!(rt; lists.code(), 8);
+    }
+    Ok(())
+}
+
+// Calls for this type show that its values can be moved to another thread.
+fn is_send<T: Send>() {}
+
+#[test]
+fn a_value_can_go_to_another_thread() {
+    is_send::<SpecsStage>();
 }
