@@ -1,14 +1,17 @@
 -- What is read of an argument is as the table wants it: a range is proper, a string isn't empty, a number is within its limits.
-use Rattle.std.proofs.Common.{◌≡◌, ◌⊎◌, inl, inr, ℕ, ◌+◌, ◌≤◌, ◌<◌, Bool, true, List, [], ◌∷◌, ◌++◌, length, refl, sym, ◌∙◌, ap, subst, arith, append-nil, append_assoc, Option, Some, None, le-leb, false, ne_eqb, length-append}
+use Rattle.std.proofs.Common.{◌≡◌, ◌⊎◌, inl, inr, ℕ, ℤ, ◌+◌, ◌≤◌, ◌<◌, Bool, true, List, [], ◌∷◌, ◌++◌, length, refl, sym, ◌∙◌, ap, subst, arith, append-nil, append_assoc, Option, Some, None, le-leb, false, ne_eqb, length-append}
 use Rattle.std.specs.Prelude.{⊤}
 use Rattle.std.specs.List.{Contains, list_all}
 use Rattle.std.proofs.lemmas.List.Elements.{Contains-append_right}
+use Rattle.std.proofs.lemmas.Bool.Decides.{nat_tests}
 use Rattle.hex.proofs.HexLemmas.{decode_of-ok}
 use Rattle.std.specs.Int.{is_in_range}
+use Rattle.pipe_model.specs.declared.items.Spot.{Spot}
+use Rattle.pipe_model.specs.declared.items.Spot.TheVariants.{Column, Next, NextWord}
 use Rattle.pipe_model.specs.declared.kind.Kind.{Kind}
 use Rattle.pipe_model.specs.declared.range.Range.{Range}
 use Rattle.pipe_model.specs.declared.range.Span.{Span}
-use Rattle.pipe_model.specs.Proper.{are_columns, greatest, is_count, is_length, is_filled, is_last, is_name, is_range, is_size}
+use Rattle.pipe_model.specs.Proper.{are_columns, greatest, is_count, is_counter, is_field_length, is_length, is_filled, is_last, is_name, is_range, is_size, is_spot}
 use Rattle.pipe_model.specs.Members.{has}
 use Rattle.pipe_model.specs.declared.kind.Times.{Times}
 use Rattle.pipe_model.specs.declared.kind.Times.TheVariants.{Only, All}
@@ -29,6 +32,7 @@ use Rattle.stage_syntax.specs.Parts.{AreTimes, IsFirstPart, IsNext, IsPart}
 use Rattle.stage_syntax.specs.RangeWords.{IsRange}
 use Rattle.stage_syntax.specs.Rows.{Makes, Row}
 use Rattle.stage_syntax.specs.Rows.Makes.{Ended, GoesOn}
+use Rattle.stage_syntax.specs.Spots.{FitsLength, IsColumnLength, IsSpot}
 use Rattle.stage_syntax.specs.Strings.{IsString}
 
 -- Ranges
@@ -84,6 +88,29 @@ string_is_filled text string rest (inr word) =
     let digits = word.worth.digits in
     filled string (omega (arith, word.worth.filled, (decode_of-ok digits string word.worth.worth).2))
 
+-- Counters and places
+
+counter_is_proper : (k : ℕ) → k < 10 → is_counter k ≡ true
+counter_is_proper k few = grind (arith, nat_tests)
+
+column_length_fits : (first : ℕ) (ending : Ending) (len : Option ℕ) → Fits first → IsColumnLength first ending len → is_field_length len ≡ true
+column_length_fits first Alone len fits is = ap is_field_length is
+column_length_fits first (To last) len fits is = ap is_field_length is.2 ∙ in_range 1 greatest _ (omega (arith, is.1)) (omega (arith, fits.0, is.0.1))
+column_length_fits first Open len fits is = absurd is
+column_length_fits first (Long n) len fits is = ap is_field_length is.1 ∙ size_of n is.0
+
+next_length_fits : (len : Option ℕ) → FitsLength len → is_field_length len ≡ true
+next_length_fits None fits = refl
+next_length_fits (Some len) fits = size_of len fits
+
+spot_is_proper : (text : List ℕ) (spot : Spot) (rest : List ℕ) → IsSpot text spot rest → is_spot spot ≡ true
+spot_is_proper text (Column first len) rest is =
+    let size = ap is_size is.begins ∙ size_of is.spelling.first is.fits in
+    let length = column_length_fits is.spelling.first is.spelling.ending len is.fits is.ends in
+    rw (size, length) refl
+spot_is_proper text (Next len) rest is = next_length_fits len is.fits
+spot_is_proper text (NextWord len) rest is = next_length_fits len is.fits
+
 -- Arguments
 
 -- a value that the part may have
@@ -98,6 +125,9 @@ IsValueOf (Asked.Number least most) value = (number : ℕ) × (value ≡ Read.Nu
 IsValueOf Asked.Times value = (times : Times) × (value ≡ Read.Times times) × (is_count times ≡ true)
 IsValueOf (Asked.Word key) value = value ≡ Read.Word key
 IsValueOf Asked.Name value = (name : List ℕ) × (value ≡ Read.String name) × (is_name name ≡ true)
+IsValueOf Asked.Counter value = (k : ℕ) × (value ≡ Read.Counter k) × (is_counter k ≡ true)
+IsValueOf Asked.Whole value = (number : ℤ) × (value ≡ Read.Whole number)
+IsValueOf Asked.Spot value = (spot : Spot) × (value ≡ Read.Spot spot) × (is_spot spot ≡ true)
 
 count_is_proper : (text : List ℕ) (times : Times) (rest : List ℕ) → AreTimes text times rest → is_count times ≡ true
 count_is_proper text (Only n) rest is = le-leb n 2147483647 is.few
@@ -114,6 +144,9 @@ value_of (Asked.Number least most) text value rest less is = (is.0, is.1, is.2.e
 value_of Asked.Times text value rest less is = (is.0, is.1, count_is_proper text is.0 rest is.2)
 value_of (Asked.Word key) text value rest less is = is.0
 value_of Asked.Name text value rest less is = (is.0, is.1, name_is_proper text is.0 rest less is.2)
+value_of Asked.Counter text value rest less is = (is.0, is.1, counter_is_proper is.0 is.2.few)
+value_of Asked.Whole text value rest less is = (is.0, is.1)
+value_of Asked.Spot text value rest less is = (is.0, is.1, spot_is_proper text is.0 rest is.2)
 
 -- a value that one of the parts may have
 abbrev pub IsOfOne : List Part → Value → Type 0
@@ -131,6 +164,9 @@ range_of_part (Asked.Number least most) range is = let value = is.1 in cc
 range_of_part Asked.Times range is = let value = is.1 in cc
 range_of_part (Asked.Word key) range is = cc
 range_of_part Asked.Name range is = let value = is.1 in cc
+range_of_part Asked.Counter range is = let value = is.1 in cc
+range_of_part Asked.Whole range is = let value = is.1 in cc
+range_of_part Asked.Spot range is = let value = is.1 in cc
 
 -- a range is proper whatever else may stand there
 pub range_of_one : (parts : List Part) (range : Range) → IsOfOne parts (Read.Range range) → is_range range ≡ true
@@ -155,6 +191,9 @@ string_of_part (Asked.Number least most) string fill is = let value = is.1 in cc
 string_of_part Asked.Times string fill is = let value = is.1 in cc
 string_of_part (Asked.Word key) string fill is = cc
 string_of_part Asked.Name string fill is = cc
+string_of_part Asked.Counter string fill is = let value = is.1 in cc
+string_of_part Asked.Whole string fill is = let value = is.1 in cc
+string_of_part Asked.Spot string fill is = let value = is.1 in cc
 
 -- nor is one of several such parts
 pub string_of_one : (parts : List Part) (string : List ℕ) → list_all fills parts ≡ true → IsOfOne parts (Read.String string) → is_filled string ≡ true
@@ -178,6 +217,9 @@ times_of_part (Asked.Number least most) times is = let value = is.1 in cc
 times_of_part Asked.Times times is = let value = is.1 in let same : is.0 ≡ times = cc in subst (λ (times : Times). is_count times ≡ true) same is.2
 times_of_part (Asked.Word key) times is = cc
 times_of_part Asked.Name times is = let value = is.1 in cc
+times_of_part Asked.Counter times is = let value = is.1 in cc
+times_of_part Asked.Whole times is = let value = is.1 in cc
+times_of_part Asked.Spot times is = let value = is.1 in cc
 
 -- nor can another one of several parts be read
 pub times_of_one : (parts : List Part) (times : Times) → IsOfOne parts (Read.Times times) → is_count times ≡ true
