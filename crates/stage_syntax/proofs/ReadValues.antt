@@ -1,5 +1,5 @@
 -- What is read of an argument is as the table wants it: a range is proper, a string isn't empty, a number is within its limits.
-use Rattle.std.proofs.Common.{◌≡◌, ◌⊎◌, inl, inr, ℕ, ℤ, ◌+◌, ◌≤◌, ◌<◌, Bool, true, List, [], ◌∷◌, ◌++◌, length, refl, sym, ◌∙◌, ap, subst, arith, append-nil, append_assoc, Option, Some, None, le-leb, false, ne_eqb, length-append}
+use Rattle.std.proofs.Common.{◌≡◌, ◌⊎◌, inl, inr, ℕ, suc, ℤ, ◌+◌, ◌-◌, ◌≤◌, ◌<◌, Bool, true, List, [], ◌∷◌, ◌++◌, length, refl, sym, ◌∙◌, ap, subst, arith, append-nil, append_assoc, Option, Some, None, le-leb, false, ne_eqb, length-append}
 use Rattle.std.specs.Prelude.{⊤}
 use Rattle.std.specs.List.{Contains, list_all}
 use Rattle.std.proofs.lemmas.List.Elements.{Contains-append_right}
@@ -95,7 +95,7 @@ counter_is_proper k few = grind (arith, nat_tests)
 
 column_length_fits : (first : ℕ) (ending : Ending) (len : Option ℕ) → Fits first → IsColumnLength first ending len → is_field_length len ≡ true
 column_length_fits first Alone len fits is = ap is_field_length is
-column_length_fits first (To last) len fits is = ap is_field_length is.2 ∙ in_range 1 greatest _ (omega (arith, is.1)) (omega (arith, fits.0, is.0.1))
+column_length_fits first (To last) len fits is = ap is_field_length is.2 ∙ in_range 1 greatest (suc last - first) (omega (arith, is.1)) (omega (arith, fits.0, is.0.1))
 column_length_fits first Open len fits is = absurd is
 column_length_fits first (Long n) len fits is = ap is_field_length is.1 ∙ size_of n is.0
 
