@@ -72,7 +72,8 @@ fn other_fault(part: Part) -> FaultKind
     ensures { result ≡ fault_of part }
 {
     match part {
-        Part::Range | Part::Columns | Part::Number { .. } | Part::Times | Part::Whole => FaultKind::NotANumber,
+        Part::Range | Part::Columns | Part::Number { .. } | Part::Times | Part::Whole =>
+            FaultKind::NotANumber,
         _ => FaultKind::UnknownWord,
     }
 }
