@@ -26,6 +26,7 @@ pub mod RangeFronts
 pub mod ReadValues
 pub mod RowSteps
 pub mod Spellings
+pub mod SpotFronts
 pub mod SpotParts
 pub mod StageNames
 pub mod StringPairs

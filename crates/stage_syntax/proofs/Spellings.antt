@@ -31,7 +31,7 @@ pub front_digits_more : (word : List ℕ) (at : ℕ) → at < length word → al
 front_digits_more word at below are is = rw (take_more word at 0 below) (digits_and_one (take at word) (get_or word at 0) are is)
 
 -- digits before something else are determined
-one_front : (digits other rest after : List ℕ) → all_ascii_digits digits ≡ true → all_ascii_digits other ≡ true → is_ascii_digit (get_or rest 0 0) ≡ false → is_ascii_digit (get_or after 0 0) ≡ false
+pub one_front : (digits other rest after : List ℕ) → all_ascii_digits digits ≡ true → all_ascii_digits other ≡ true → is_ascii_digit (get_or rest 0 0) ≡ false → is_ascii_digit (get_or after 0 0) ≡ false
     → digits ++ rest ≡ other ++ after → (digits ≡ other) × (rest ≡ after)
 one_front [] [] rest after are others stops stops_other same = (refl, same)
 one_front [] (b ∷ other) rest after are others stops stops_other same =
@@ -69,7 +69,7 @@ module _ (word digits rest : List ℕ) (first : AreFirstDigits word digits rest)
   no_ending none spelling spelled = none spelling.ending (subst (λ after. Ends after spelling.ending) (sym (same_parts spelling spelled).1) spelled.ends)
 
   -- the first digits are as many as the number has
-  as_many : (spelling : Spelling) (spelled : IsSpelling word spelling) → length digits ≡ length spelled.number
+  pub as_many : (spelling : Spelling) (spelled : IsSpelling word spelling) → length digits ≡ length spelled.number
   as_many spelling spelled = ap length (same_parts spelling spelled).0
 
   -- a misfit of the spelling is a fault of the word, the second number standing one byte after the first digits

@@ -1,7 +1,8 @@
 -- A whole number and the name of a counter are read in one way, or have one fault.
-use Rattle.std.proofs.Common.{◌≡◌, ◌≢◌, ℕ, ℤ, ◌+◌, ◌<◌, Bool, true, false, List, [], ◌∷◌, ◌++◌, length, get_or, refl, sym, ap, ◌∙◌, subst, arith, Some, None, append-nil}
+use Rattle.std.proofs.Common.{◌≡◌, ◌≢◌, ℕ, ℤ, ◌+◌, ◌<◌, Bool, true, false, List, [], ◌∷◌, ◌++◌, length, get_or, refl, sym, ap, ◌∙◌, subst, arith, Some, None, append-nil, drop, if◌then◌else◌}
 use Rattle.std.specs.Char.{is_ascii_digit}
 use Rattle.std.specs.Str.{all_ascii_digits}
+use Rattle.std.proofs.lemmas.List.{drop_at}
 use Rattle.pipe_model.specs.Numbers.{within_i64}
 use Rattle.pipe_model.proofs.FirstWords.{same_rest, same_word}
 use Rattle.stage_syntax.proofs.RangeFronts.{emptied}
@@ -51,6 +52,11 @@ module _ (text : List ℕ) where
 
 -- What was read of a word
 
+-- a number of 64 bits is itself
+chosen : (test : Bool) (z value : ℤ) → (if test then Some z else None) ≡ Some value → z ≡ value
+chosen true z value is = cc
+chosen false z value is = cc
+
 module _ (text word rest unsigned digits others : List ℕ) (minus : Bool) (first : IsFirstWord text word rest) (spells : word ≡ sign_of minus ++ unsigned) (minus_is : get_or word 0 0 ≡ 45 → minus ≡ true) (split : AreFirstDigits unsigned digits others) where
   -- a whole number has the sign that was read, and its digits come after it
   same_sign : (value : ℤ) (is : IsWhole word value) → is.digits ≡ unsigned
@@ -88,3 +94,15 @@ module _ (text word rest unsigned digits others : List ℕ) (minus : Bool) (firs
     digits_all = split.digits_all;
     worth = refl;
   }
+
+  pub whole_in : (value : ℤ) → 0 < length digits → length others ≡ 0 → within_i64 (signed minus (decimal digits)) ≡ Some value → IsWholeIn text value (drop (length word) text)
+  whole_in value some none within =
+      let z = signed minus (decimal digits) in
+      let same : z ≡ value = chosen _ z value within in
+      let left : drop (length word) text ≡ rest = ap (drop (length word)) first.spells ∙ drop_at word rest (length word) refl in
+      rw left (record {
+        word = word;
+        first = first;
+        counts = subst (IsWhole word) same (whole_read some none);
+        within = subst (λ n. within_i64 n ≡ Some value) same within;
+      })

@@ -43,8 +43,8 @@ pub fn range_of(span: Span, spelling: Spelling) -> Result<Range, Misfit>
     Ok(Range { span, first, last })
 }
 
-// The number, if a range may have it.
-fn within(number: u64) -> Option<u32>
+/// The number, if a range may have it.
+pub fn within(number: u64) -> Option<u32>
     ensures { MatchOption result (¬ Fits number) (λ same. Fits number × (same ≡ number)) }
 {
     if number == 0 || number > LARGEST {

@@ -9,7 +9,7 @@ ghost use Rattle.stage_syntax.specs.Bounds.{Fits, IsLast};
 ghost use Rattle.stage_syntax.specs.Ranges.{IsSpelling};
 ghost use Rattle.stage_syntax.specs.Spots.{IsColumnFault, IsColumnLength, IsNextFault, IsNextName, IsNextSpelling, IsNoSpot, IsSpot, IsSpotMisfit};
 
-use crate::bounds::range_of;
+use crate::bounds::{range_of, within};
 use crate::digits::{first_digits, number};
 use crate::fault::FaultKind;
 use crate::part::TextFault;
@@ -17,9 +17,6 @@ use crate::ranges::{Ending, Spelling, read_spelling};
 use crate::spelled::place_misfit;
 use bstr::ByteSlice;
 use pipe_model::{Span, Spot, first_word};
-
-/// The greatest length.
-const LARGEST: u64 = 1_048_576;
 
 /// Where SPECS puts a field, and how many bytes spell it.
 #[derive(Clone, Copy)]
@@ -101,19 +98,19 @@ fn next_place(word: &[u8], left: usize) -> Result<Option<Spot>, TextFault>
     let Some(apart) = next_named(name) else {
         return Ok(None);
     };
-    let [b'.', digits @ ..] = after else {
+    if after.is_empty() {
         return Ok(Some(next_spot(apart, None)));
-    };
-    let Some(len) = number(digits) else {
+    }
+    let Some(len) = number(&after[1..]) else {
         return Ok(None);
     };
-    if len == 0 || len > LARGEST {
-        return Err(TextFault {
+    match within(len) {
+        Some(len) => Ok(Some(next_spot(apart, Some(len)))),
+        None => Err(TextFault {
             left: left - (name.len() + 1),
             kind: FaultKind::OutOfRange,
-        });
+        }),
     }
-    Ok(Some(next_spot(apart, Some(len as u32))))
 }
 
 // What stands before the first dot of a word, and the rest.

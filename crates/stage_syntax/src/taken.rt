@@ -222,11 +222,13 @@ fn counter_at(text: &[u8]) -> Option<Taken>
     ensures within { IfSome result (λ taken. taken.len ≤ length text.now) }
     ensures read { MatchOption result (IsNoPart Asked.Counter text.now) (λ taken. IsPart Asked.Counter text.now taken.value (drop taken.len text.now)) }
 {
-    let k = counter(text)?;
-    Some(Taken {
-        value: Value::Counter(k),
-        len: 2,
-    })
+    match counter(text) {
+        Some(k) => Some(Taken {
+            value: Value::Counter(k),
+            len: 2,
+        }),
+        None => None,
+    }
 }
 
 // The whole number at the front of a text.

@@ -1,6 +1,6 @@
 use crate::stages::STAGES;
 use crate::*;
-use pipe_model::{Kind, Range, Rec, Span, Times};
+use pipe_model::{Kind, Range, Rec, Span, Spot, Times};
 use std::alloc::Global;
 use std::test::Fail;
 
@@ -137,6 +137,70 @@ fn numbers_and_bytes_are_read(rt: HostRuntime) -> Result<(), Fail> {
     Ok(())
 }
 
+// The same of the parts that only SPECS has.
+const ITEM_CASES: &str = "\
+spot|5|column 5 of 1\n\
+spot|5-9|column 5 long 5 of 3\n\
+spot|5.3|column 5 long 3 of 3\n\
+spot|next|next of 4\n\
+spot|N.4|next long 4 of 3\n\
+spot|NW|nextword of 2\n\
+spot|nextword.2|nextword long 2 of 10\n\
+spot|1-*|7 before 3\n\
+spot|next.|7 before 5\n\
+spot|next.x|7 before 6\n\
+spot|nextx|7 before 5\n\
+spot|0|4 before 1\n\
+spot|9-5|9 before 1\n\
+spot|next.0|4 before 1\n\
+whole|-0|whole 0 of 2\n\
+whole|00000000000000000000012|whole 12 of 23\n\
+whole|9223372036854775807|whole 9223372036854775807 of 19\n\
+whole|-9223372036854775808|whole -9223372036854775808 of 20\n\
+whole|9223372036854775808|4 before 19\n\
+whole|123456789012345678901234567890 1|4 before 32\n\
+whole|-|3 before 1\n\
+whole|1x|3 before 2\n\
+whole|+1|3 before 2\n\
+counter|#0|counter 0 of 2\n\
+counter|#9|counter 9 of 2\n\
+counter|#10|7 before 3\n\
+counter|#a|7 before 2\n\
+counter|#|7 before 1";
+
+#[test]
+fn places_whole_numbers_and_counters_are_read(rt: HostRuntime) -> Result<(), Fail> {
+    let alloc = rt.alloc();
+    for case in ITEM_CASES.split('\n') {
+        let mut cells = case.split('|');
+        let asked = cells.next().unwrap_or("");
+        let text = cells.next().unwrap_or("").as_bytes();
+        let expected = cells.next().unwrap_or("");
+        let part = match asked {
+            "spot" => Part::Spot,
+            "whole" => Part::Whole,
+            _ => Part::Counter,
+        };
+        let next = next_part(alloc, &[part], text);
+        assert_eq!(rt; next_shown(alloc, &next)?.as_str(), expected, "{case}");
+    }
+    Ok(())
+}
+
+fn spot_shown(alloc: Global, spot: Spot) -> Result<String, Fail> {
+    Ok(match spot {
+        Spot::Column { first, len: None } => format!(in alloc; "column {first}")?,
+        Spot::Column {
+            first,
+            len: Some(len),
+        } => format!(in alloc; "column {first} long {len}")?,
+        Spot::Next { len: None } => format!(in alloc; "next")?,
+        Spot::Next { len: Some(len) } => format!(in alloc; "next long {len}")?,
+        Spot::NextWord { len: None } => format!(in alloc; "nextword")?,
+        Spot::NextWord { len: Some(len) } => format!(in alloc; "nextword long {len}")?,
+    })
+}
+
 // What comes next, as a case shows it.
 fn next_shown(alloc: Global, next: &Result<Option<Argument>, Refusal>) -> Result<String, Fail> {
     Ok(match next {
@@ -146,6 +210,12 @@ fn next_shown(alloc: Global, next: &Result<Option<Argument>, Refusal>) -> Result
             match &taken.value {
                 Value::Number(value) => format!(in alloc; "number {value} of {len}")?,
                 Value::Byte(byte) => format!(in alloc; "byte {byte} of {len}")?,
+                Value::Counter(k) => format!(in alloc; "counter {k} of {len}")?,
+                Value::Whole(value) => format!(in alloc; "whole {value} of {len}")?,
+                Value::Spot(spot) => {
+                    let spot = spot_shown(alloc, *spot)?;
+                    format!(in alloc; "{spot} of {len}")?
+                }
                 _ => format!(in alloc; "another value")?,
             }
         }

@@ -49,9 +49,13 @@ pub fn counter(text: &[u8]) -> Option<u8>
     ensures read { MatchOption result ((k : ℕ) (rest : List ℕ) → ¬ IsCounter text.now k rest) (λ k. IsCounter text.now k (drop 2 text.now)) }
 {
     let (word, _rest) = first_word(text);
-    match word {
-        [b'#', digit @ b'0'..=b'9'] => Some(*digit - b'0'),
-        _ => None,
+    let [mark, digit] = word else {
+        return None;
+    };
+    if *mark == b'#' && digit.is_ascii_digit() {
+        Some(*digit - b'0')
+    } else {
+        None
     }
 }
 

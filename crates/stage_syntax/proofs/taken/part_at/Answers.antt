@@ -26,3 +26,12 @@ returns-in-Times-clause-read c = rw c.in-Times.is c.times_at.ensures.read
 
 pub returns-in-Word-clause-read : goal.returns-in-Word-clause-read
 returns-in-Word-clause-read c = rw c.in-Word.is c.word_at.ensures.read
+
+pub returns-in-Counter-clause-read : goal.returns-in-Counter-clause-read
+returns-in-Counter-clause-read c = rw c.in-Counter.is c.counter_at.ensures.read
+
+pub returns-in-Whole-clause-read : goal.returns-in-Whole-clause-read
+returns-in-Whole-clause-read c = rw c.in-Whole.is c.whole_at.ensures.read
+
+pub returns-in-Spot-clause-read : goal.returns-in-Spot-clause-read
+returns-in-Spot-clause-read c = rw c.in-Spot.is c.spot_at.ensures.read
