@@ -11,6 +11,7 @@ pub mod Outputs
 pub mod Parts
 pub mod Places
 pub mod Planned
+pub mod Planning
 pub mod Plans
 pub mod SharedLists
 pub mod Strings

@@ -4,22 +4,28 @@ use Rattle.std.specs.List.{list_any}
 use Rattle.pipe_model.specs.declared.net.Strand.{Strand}
 use Rattle.pipe_model.specs.Event.{Event, Want, has_ended, last_seen_on}
 use Rattle.pipe_model.specs.Inputs.{records_from}
-use Rattle.pipe_model.specs.Next.{Phase, Past, past_by, nothing_known}
+use Rattle.pipe_model.specs.Next.{Past, past_by, nothing_known}
 use Rattle.pipe_model.specs.Next.Phase.{Doing}
 use Rattle.pipe_model.specs.Next.Phase.{Starting as Reaching}
 use Rattle.pipe_model.specs.Row.{Act, Goal, Plan, Known}
 use Rattle.pipe_model.specs.Row.Goal.{Asks, Ends}
-use Rattle.pipe_model.specs.Shape.{Keeping, asks, row}
+use Rattle.pipe_model.specs.Shape.{asks, row}
 use Rattle.pipe_model.specs.Shape.Keeping.{Nothing}
 use Rattle.pipe_model.specs.Table.{form}
 use Rattle.stage_steps.specs.declared.outputs.Outputs.{Outputs}
 use Rattle.stage_steps.specs.declared.plans.Act.{Act as Acting}
 use Rattle.stage_steps.specs.declared.planned.At.{At}
-use Rattle.stage_steps.specs.declared.planned.At.TheVariants as At
 use Rattle.stage_steps.specs.declared.planned.Planned.{Planned}
 use Rattle.stage_steps.specs.Coroutine.{record_seen_on}
 use Rattle.stage_steps.specs.Outputs.{open_from, live}
 use Rattle.stage_steps.specs.Plans.{act_of, known_done, last_from}
+
+-- it looks at a record
+abbrev pub IsLook : Want → Type 0
+IsLook (Want.Read i) = Unit {0}
+IsLook Want.Any = Unit {0}
+IsLook Want.Gate = Unit {0}
+IsLook _ = ⊥
 
 -- where it stands: what it asked for there, and what is left
 abbrev pub AtIs : {P : Type 0} → (P → (Known → Plan) → Known → Plan → Type 0) → (Known → Plan) → P → At → List Bool → Past → Type 0
@@ -27,7 +33,7 @@ AtIs stands plan x At.Starting flags p = stands x plan nothing_known (plan nothi
 AtIs stands plan x At.Committing flags p = stands x plan nothing_known (plan nothing_known) × (p.known ≡ nothing_known) × (p.phase ≡ Reaching (pos 0))
 AtIs stands plan x At.Doing flags p = (act : Acting) × (rest : List Act) × (goal : Goal) × (p.phase ≡ Doing (act_of act p.known.seen ∷ live flags rest) goal)
     × stands x plan (known_done (act_of act p.known.seen) p.known) (record { acts = rest; goal = goal })
-AtIs stands plan x At.Asking flags p = (want : Want) × (p.phase ≡ Doing [] (Asks want)) × stands x plan p.known (asks want)
+AtIs stands plan x At.Asking flags p = (want : Want) × IsLook want × (p.phase ≡ Doing [] (Asks want)) × stands x plan p.known (asks want)
 AtIs stands plan x (At.Ending code) flags p = p.phase ≡ Doing [] (Ends code)
 
 -- the driver's parts stand for a strand's history

@@ -1,3 +1,7 @@
+ghost use Rattle.std.specs.Prelude.{◌≡◌, IfOk};
+ghost use Rattle.stage_steps.specs.Outputs.{none_left};
+ghost use Rattle.stage_steps.specs.Planning.{place_behind, asked_behind, HearsPlan, FetchesAct, AsksPlan};
+
 use crate::outputs::Outputs;
 use crate::plans::{Act, Goal, Plans};
 use crate::stage::Stage;
@@ -53,7 +57,10 @@ fn hear<P: Plans>(
     alloc: Global,
     seen: Seen,
     bytes: &[u8],
-) -> Result<At, NoMemory> {
+) -> Result<At, NoMemory>
+    ensures looks_same { P.is_looking plans.new ≡ P.is_looking plans.old }
+    ensures hears { IfOk result (λ behind. HearsPlan P.stands (P.is_looking plans.old) (none_left outputs.now.connected outputs.now.flags.items) plans.old place seen bytes.now plans.new behind) }
+{
     match (place, seen) {
         (At::Doing, Seen::Put(_) | Seen::Took(_)) => Ok(At::Doing),
         (At::Asking, Seen::Saw(input)) => {
@@ -94,7 +101,10 @@ fn next_act<P: Plans>(
     plans: &mut P,
     outputs: &Outputs,
     alloc: Global,
-) -> Result<Option<Act>, NoMemory> {
+) -> Result<Option<Act>, NoMemory>
+    ensures looks_same { P.is_looking plans.new ≡ P.is_looking plans.old }
+    ensures fetches { IfOk result (λ given. FetchesAct P.stands outputs.now.flags.items plans.old plans.new given) }
+{
     while let Some(act) = plans.next(alloc)? {
         if outputs.lets(&act) {
             return Ok(Some(act));
@@ -105,7 +115,10 @@ fn next_act<P: Plans>(
 
 // What it asks for behind a plan, and the place there.
 #[inline(always)]
-fn follow(goal: Goal) -> (At, Want) {
+fn follow(goal: Goal) -> (At, Want)
+    ensures place { result.0 ≡ place_behind goal }
+    ensures asked { result.1 ≡ asked_behind goal }
+{
     match goal {
         Goal::Read(input) => (At::Asking, Want::Read(input)),
         Goal::Any => (At::Asking, Want::Any),
@@ -121,7 +134,10 @@ fn ask<P: Plans>(
     place: At,
     outputs: &Outputs,
     alloc: Global,
-) -> Result<(At, Want), NoMemory> {
+) -> Result<(At, Want), NoMemory>
+    ensures looks_same { P.is_looking plans.new ≡ P.is_looking plans.old }
+    ensures asks { IfOk result (λ told. AsksPlan P.stands outputs.now.flags.items plans.old place plans.new told.0 told.1) }
+{
     match place {
         At::Doing => match next_act(plans, outputs, alloc)? {
             Some(Act::Write(output, out)) => Ok((At::Doing, Want::Write(output, out))),
