@@ -31,7 +31,7 @@ use Rattle.stage_steps.proofs.Acts.{want_first}
 use Rattle.stage_steps.proofs.Walks.{After, by_place, by_want}
 
 -- who is answered has not ended
-going : (s : Strand) (h : List Event) (e : Event) → answers (next s h) e ≡ true → (has_ended h ≡ false) × (answers (wanted_by (form s).row s.ports.has_output h) e ≡ true)
+pub going : (s : Strand) (h : List Event) (e : Event) → answers (next s h) e ≡ true → (has_ended h ≡ false) × (answers (wanted_by (form s).row s.ports.has_output h) e ≡ true)
 going s h e it =
     (elim (has_ended h) as (λ b. answers (cond b None (wanted_by (form s).row s.ports.has_output h)) e ≡ true → (b ≡ false) × (answers (wanted_by (form s).row s.ports.has_output h) e ≡ true)) [ true ↦ λ x. cc | false ↦ λ x. (refl, x) ]) it
 

@@ -6,8 +6,11 @@ pub mod Fitting
 pub mod Flags
 pub mod Groups
 pub mod Lasts
+pub mod Passing
+pub mod Planning
 pub mod Searching
 pub mod Sources
 pub mod Starts
+pub mod Steps
 pub mod Walks
 pub mod Words

@@ -17,7 +17,8 @@ use Rattle.stage_steps.specs.Listed.{KeptIs, ListedIs}
 use Rattle.stage_steps.specs.Drivers.{Fits}
 use Rattle.stage_steps.proofs.Sources.{Keeps, past_of_lists, kept_of_lists}
 
-all_open : (k : ℕ) (flags : List Bool) → flags ≡ open_from k flags []
+-- all outputs are open at first
+pub all_open : (k : ℕ) (flags : List Bool) → flags ≡ open_from k flags []
 all_open k [] = refl
 all_open k (flag ∷ flags) = ap (λ b. b ∷ flags) (sym (and-true flag)) ∙ ap (λ l. (flag && true) ∷ l) (all_open (suc k) flags)
 

@@ -46,7 +46,7 @@ at_hand [] rec = refl
 at_hand (q ∷ []) rec = refl
 at_hand (q ∷ r ∷ recs) rec = at_hand (r ∷ recs) rec
 
-one_more : (n m : ℕ) → n ≤ m → n ≤ suc m
+pub one_more : (n m : ℕ) → n ≤ m → n ≤ suc m
 one_more n m le = omega arith
 
 text-append : (recs : Records) (rec : List ℕ) → text (recs ++ rec ∷ []) ≡ (text recs ++ rec) ++ 10 ∷ []

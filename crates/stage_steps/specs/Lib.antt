@@ -10,6 +10,9 @@ pub mod Lists
 pub mod Outputs
 pub mod Parts
 pub mod Places
+pub mod Planned
+pub mod Planning
+pub mod Plans
 pub mod SharedLists
 pub mod Strings
 pub mod Waiting

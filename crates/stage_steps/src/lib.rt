@@ -1,5 +1,5 @@
-//! The sequential parts of stages: what a stage promises, the driver of the stages that are made of lists of pairs, the
-//! lists that several of them share, and what others need of records.
+//! The sequential parts of stages: what a stage promises, the driver of the stages that are made of lists of pairs and that
+//! of those that plan, the lists that several of them share, and what others need of records.
 #![tactic(auto)]
 
 mod boxed;
@@ -13,6 +13,8 @@ mod lists;
 mod order;
 mod outputs;
 mod place;
+mod planned;
+mod plans;
 mod ranges;
 mod slices;
 mod stage;
@@ -28,6 +30,8 @@ pub use keys::{is_less, is_same};
 pub use listed::Listed;
 pub use lists::Lists;
 pub use order::Order;
+pub use planned::Planned;
+pub use plans::{Act, Goal, Plans};
 pub use ranges::part_of;
 pub use slices::{behind, front};
 pub use stage::Stage;

@@ -3,6 +3,7 @@ ghost use Rattle.std.specs.List.{list_any};
 ghost use Rattle.stage_steps.specs.Group.{has_more};
 
 use crate::group::Group;
+use crate::plans::Act;
 use pipe_model::{NoMemory, Seen, Times};
 use std::alloc::Global;
 
@@ -14,11 +15,13 @@ pub(crate) struct Outputs {
 }
 
 impl Outputs {
-    ghost use Rattle.std.specs.Prelude.{◌≡◌, IfOk};
+    ghost use Rattle.std.specs.Prelude.{◌≡◌, List, IfOk};
     ghost use Rattle.std.specs.List.{list_any};
+    ghost use Rattle.pipe_model.specs.Row.{Pair};
     ghost use Rattle.pipe_model.specs.Members.{flag_at};
     ghost use Rattle.stage_steps.specs.Group.{is_due};
-    ghost use Rattle.stage_steps.specs.Outputs.{open_after, none_left};
+    ghost use Rattle.stage_steps.specs.Outputs.{can_do, open_after, none_left};
+    ghost use Rattle.stage_steps.specs.Plans.{act_of};
 
     // The connected outputs, all open.
     pub(crate) fn new(alloc: Global, flags: &[bool]) -> Result<Outputs, NoMemory>
@@ -50,6 +53,17 @@ impl Outputs {
         match group {
             Group::AtHand(repeat) => self.is_open(repeat.output) && has_more(repeat.times),
             Group::New(output) => self.is_open(output),
+        }
+    }
+
+    // Whether the act can be done: it takes a record, or its output is open.
+    #[inline(always)]
+    pub(crate) fn lets(&self, act: &Act) -> bool
+        ensures { (seen : List Pair) → result ≡ can_do self.now.flags.items (act_of act.now seen) }
+    {
+        match act {
+            Act::Write(output, _) => self.is_open(*output),
+            Act::Take(_) => true,
         }
     }
 

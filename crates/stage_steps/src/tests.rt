@@ -4,8 +4,10 @@ use std::alloc::Global;
 use std::process::Abort;
 use std::test::Fail;
 
+mod in_turn;
 mod scripted;
 
+use in_turn::in_turn;
 use scripted::{Script, a_script};
 
 // What a range names of a record.
@@ -177,6 +179,57 @@ fn a_bad_commit_ends_it(rt: HostRuntime) -> Result<(), Fail> {
         Order::TakesFirst,
         &steps,
     )
+}
+
+// Goes through these events with plans, with both outputs connected, and looks at what is asked for after each.
+fn planned(rt: &impl Abort, alloc: Global, steps: &[(Seen, &str)]) -> Result<(), Fail> {
+    let mut stage = Planned::new(alloc, in_turn(), &[true, true])?;
+    let first = format!(in alloc; "{:?}", stage.first())?;
+    assert_eq!(rt; first.as_str(), "Commit(-1)");
+    for (seen, want) in steps {
+        let asked = format!(in alloc; "{:?}", stage.resume(alloc, *seen, b"")?)?;
+        assert_eq!(rt; asked.as_str(), *want, "after {seen:?}");
+    }
+    Ok(())
+}
+
+#[test]
+fn plans_are_done_on_open_outputs(rt: HostRuntime) -> Result<(), Fail> {
+    let steps = [
+        (Seen::Up(-1, 0), "Commit(0)"),
+        (Seen::Up(0, 0), "Read(0)"),
+        (Seen::Saw(0), "Write(0, Same(0))"),
+        (Seen::Put(0), "Write(1, Same(0))"),
+        (Seen::Put(1), "Take(0)"),
+        (Seen::Took(0), "Read(0)"),
+        (Seen::Saw(0), "Write(0, Same(0))"),
+        (Seen::Refused(0), "Write(1, Same(0))"),
+        (Seen::Put(1), "Take(0)"),
+        (Seen::Took(0), "Read(0)"),
+        (Seen::SawEnd(0), "Read(1)"),
+        (Seen::Saw(1), "Write(1, Same(1))"),
+        (Seen::Put(1), "Take(1)"),
+        (Seen::Took(1), "Read(1)"),
+        (Seen::SawEnd(1), "Done(8)"),
+        (Seen::Ended(8), "Done(8)"),
+    ];
+    let alloc = rt.alloc();
+    planned(&rt, alloc, &steps)
+}
+
+#[test]
+fn a_plan_ends_when_all_outputs_refuse(rt: HostRuntime) -> Result<(), Fail> {
+    let alloc = rt.alloc();
+    let steps = [
+        (Seen::Up(-1, 0), "Commit(0)"),
+        (Seen::Up(0, 0), "Read(0)"),
+        (Seen::Saw(0), "Write(0, Same(0))"),
+        (Seen::Refused(0), "Write(1, Same(0))"),
+        (Seen::Refused(1), "Done(0)"),
+    ];
+    planned(&rt, alloc, &steps)?;
+    let steps = [(Seen::Up(-1, 0), "Commit(0)"), (Seen::Up(0, 28), "Done(0)")];
+    planned(&rt, alloc, &steps)
 }
 
 #[test]
