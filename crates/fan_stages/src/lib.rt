@@ -1,0 +1,2 @@
+//! The fans and weaves: FANOUT, FANIN, FANINANY, DEAL, GATHER, OVERLAY, SYNCHRONISE and JUXTAPOSE.
+#![tactic(auto)]
