@@ -1,0 +1,3 @@
+mod AnyPlans
+mod Dealing
+pub mod Sights

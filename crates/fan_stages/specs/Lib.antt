@@ -1,0 +1,2 @@
+pub mod FanAny
+pub mod FanOut
