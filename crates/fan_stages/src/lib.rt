@@ -1,2 +1,5 @@
 //! The fans and weaves: FANOUT, FANIN, FANINANY, DEAL, GATHER, OVERLAY, SYNCHRONISE and JUXTAPOSE.
 #![tactic(auto)]
+
+mod fan_in;
+mod passing;

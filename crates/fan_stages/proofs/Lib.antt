@@ -1,0 +1,3 @@
+pub mod Ascending
+pub mod FanIns
+pub mod Passes

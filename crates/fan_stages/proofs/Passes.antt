@@ -1,0 +1,126 @@
+-- What a stage that passes on each record of its inputs has left behind each call.
+use Rattle.std.proofs.Common.{◌≡◌, ◌<◌, ℕ, Bool, true, false, cond, ◌==◌, List, [], ◌∷◌, ◌++◌, length, refl, sym, ◌∙◌, ap, subst, arith, Some, None, Option, pos}
+use Rattle.std.specs.Prelude.{find, filter}
+use Rattle.std.proofs.lemmas.Bool.{eqb-true}
+use Rattle.std.proofs.lemmas.List.{append-nil, map-append}
+use Rattle.std.proofs.lemmas.List.Elements.{filter-append}
+use Rattle.pipe_model.specs.Event.{Event, Want, answers}
+use Rattle.pipe_model.specs.Event.Event.{Saw, SawEnd, SawAllEnd}
+use Rattle.pipe_model.specs.FanRows.{passed}
+use Rattle.pipe_model.specs.Inputs.{records_from}
+use Rattle.pipe_model.specs.Next.{hears, nothing_known}
+use Rattle.pipe_model.specs.Row.{Pair, Act, Goal, Plan, Known}
+use Rattle.pipe_model.specs.Row.Act.{Writes, Takes}
+use Rattle.pipe_model.specs.Row.Goal.{Asks, Ends}
+use Rattle.pipe_model.specs.Shape.{asks, at_hand_of, can_read, look, read_next, records_of, writes}
+use Rattle.pipe_model.proofs.Numbers.{test_same}
+use Rattle.stage_steps.specs.declared.plans.Act.{Act as Doing}
+use Rattle.stage_steps.specs.declared.plans.Act.TheVariants.{Write, Take}
+use Rattle.stage_steps.specs.Plans.{act_of, known_done, last_from, with_acts, IsOfSeen}
+use Rattle.stage_steps.proofs.Walks.{at_hand}
+use Rattle.fan_stages.specs.declared.passing.Passing.{Passing}
+use Rattle.fan_stages.specs.declared.passing.Passing.TheVariants.{Writing, Taking, Passed}
+use Rattle.fan_stages.specs.Passing.{passing_acts, passes_on, IsOfCame, PassesOn, GivesPassing}
+
+-- The record that came last
+
+-- of an input, where one more came from it
+from_more : (seen : List Pair) (i : ℕ) (rec : List ℕ) → records_from i (seen ++ (i, rec) ∷ []) ≡ records_from i seen ++ rec ∷ []
+from_more seen i rec =
+    ap records_of (filter-append (λ (p : Pair). p.0 == i) seen ((i, rec) ∷ []) ∙ ap (λ b. filter (λ (p : Pair). p.0 == i) seen ++ cond b ((i, rec) ∷ []) []) (test_same i))
+    ∙ map-append (λ (p : Pair). p.1) (filter (λ (p : Pair). p.0 == i) seen) ((i, rec) ∷ [])
+
+pub came_last : (seen : List Pair) (i : ℕ) (rec : List ℕ) → last_from (seen ++ (i, rec) ∷ []) i ≡ rec
+came_last seen i rec = ap at_hand_of (from_more seen i rec) ∙ at_hand (records_from i seen) rec
+
+some_more : {A : Type 0} (xs : List A) (x : A) → 0 < length (xs ++ x ∷ [])
+some_more [] x = omega arith
+some_more (y ∷ xs) x = omega arith
+
+pub some_came : (seen : List Pair) (i : ℕ) (rec : List ℕ) → 0 < length (records_from i (seen ++ (i, rec) ∷ []))
+some_came seen i rec = subst (λ (l : List (List ℕ)). 0 < length l) (sym (from_more seen i rec)) (some_more (records_from i seen) rec)
+
+-- what the record at hand causes
+passed_last : (seen : List Pair) (i : ℕ) (rec : List ℕ) → passed (seen ++ (i, rec) ∷ []) ≡ (0, rec) ∷ []
+passed_last [] i rec = refl
+passed_last (p ∷ []) i rec = refl
+passed_last (p ∷ q ∷ ps) i rec = passed_last (q ∷ ps) i rec
+
+-- What it asked for
+
+-- an answer tells of the input that was to be read
+pub asked_saw : (next : Option ℕ) (want : Want) (i : ℕ) (rec : List ℕ) → Asks want ≡ look next → answers (Some want) (Saw i rec) ≡ true → next ≡ Some i
+asked_saw None want i rec is fits = cc
+asked_saw (Some j) want i rec is fits =
+    let it : want ≡ Want.Read j = cc in
+    ap Some (sym (eqb-true i j (subst (λ w. answers (Some w) (Saw i rec) ≡ true) it fits)))
+
+pub asked_end : (next : Option ℕ) (want : Want) (i : ℕ) → Asks want ≡ look next → answers (Some want) (SawEnd i) ≡ true → next ≡ Some i
+asked_end None want i is fits = cc
+asked_end (Some j) want i is fits =
+    let it : want ≡ Want.Read j = cc in
+    ap Some (sym (eqb-true i j (subst (λ w. answers (Some w) (SawEnd i) ≡ true) it fits)))
+
+not_all : (next : Option ℕ) (want : Want) → Asks want ≡ look next → answers (Some want) SawAllEnd ≡ true → ⊥
+not_all None want is fits = cc
+not_all (Some j) want is fits =
+    let it : want ≡ Want.Read j = cc in
+    let no : false ≡ true = subst (λ w. answers (Some w) SawAllEnd ≡ true) it fits in cc
+
+-- The plans
+
+acts_then : (acts : List Act) (next : Option ℕ) → (read_next acts [] next).acts ≡ acts
+acts_then acts (Some i) = refl
+acts_then acts None = append-nil acts
+
+goal_then : (acts : List Act) (next : Option ℕ) → (read_next acts [] next).goal ≡ look next
+goal_then acts (Some i) = refl
+goal_then acts None = refl
+
+module _ (inputs : ℕ) (order : ℕ → List Pair → List ℕ) where
+  abbrev reading : Known → Option ℕ
+  reading k = find (can_read inputs k.ends) (order inputs k.seen)
+
+  -- a plan that is just made: by its acts, and what is read next
+  made : (k : Known) (passing : Passing) (next : Option ℕ) (acts : List Act) → passes_on inputs order k ≡ read_next acts [] (reading k) → IsOfCame passing k.seen → acts ≡ passing_acts passing k.seen → reading k ≡ next →
+      PassesOn inputs order passing next (passes_on inputs order) k (passes_on inputs order k)
+  made k passing next acts is came acts_are next_is = record {
+    plan_is = refl;
+    next_is = next_is;
+    came = came;
+    acts_are = ap (λ (p : Plan). p.acts) is ∙ acts_then acts (reading k) ∙ acts_are;
+    goal_is = ap (λ (p : Plan). p.goal) is ∙ goal_then acts (reading k) ∙ ap look next_is;
+  }
+
+  pub passes_first : (next : Option ℕ) → reading nothing_known ≡ next → PassesOn inputs order Passed next (passes_on inputs order) nothing_known (passes_on inputs order nothing_known)
+  passes_first next is = made nothing_known Passed next [] refl tt refl is
+
+  module _ (passing : Passing) (next : Option ℕ) (plan : Known → Plan) (k : Known) where
+    pub passes_saw : (want : Want) (i : ℕ) (rec : List ℕ) (next' : Option ℕ) → PassesOn inputs order passing next plan k (asks want) → answers (Some want) (Saw i rec) ≡ true →
+        (next ≡ Some i → reading (hears k (Saw i rec)) ≡ next') → PassesOn inputs order (Writing i) next' plan (hears k (Saw i rec)) (plan (hears k (Saw i rec)))
+    passes_saw want i rec next' is fits then =
+        let k' = hears k (Saw i rec) in
+        subst (λ (f : Known → Plan). PassesOn inputs order (Writing i) next' f k' (f k')) (sym is.plan_is)
+        (made k' (Writing i) next' (writes (passed k'.seen) ++ Takes i ∷ []) refl (some_came k.seen i rec)
+        (ap (λ ps. writes ps ++ Takes i ∷ []) (passed_last k.seen i rec) ∙ ap (λ r. Writes 0 r ∷ Takes i ∷ []) (sym (came_last k.seen i rec)))
+        (then (asked_saw next want i rec is.goal_is fits)))
+
+    pub passes_end : (want : Want) (i : ℕ) (next' : Option ℕ) → PassesOn inputs order passing next plan k (asks want) → answers (Some want) (SawEnd i) ≡ true →
+        (next ≡ Some i → reading (hears k (SawEnd i)) ≡ next') → PassesOn inputs order Passed next' plan (hears k (SawEnd i)) (plan (hears k (SawEnd i)))
+    passes_end want i next' is fits then =
+        let k' = hears k (SawEnd i) in
+        subst (λ (f : Known → Plan). PassesOn inputs order Passed next' f k' (f k')) (sym is.plan_is)
+        (made k' Passed next' [] refl tt refl (then (asked_end next want i is.goal_is fits)))
+
+    pub not_all_end : (want : Want) → PassesOn inputs order passing next plan k (asks want) → answers (Some want) SawAllEnd ≡ true → ⊥
+    not_all_end want is fits = not_all next want is.goal_is fits
+
+    -- an act is done
+    pub passes_act : (passing' : Passing) (left : Plan) (act : Doing) → PassesOn inputs order passing next plan k left → GivesPassing passing passing' (Some act) →
+        (rest : List Act) × (left.acts ≡ act_of act k.seen ∷ rest) × PassesOn inputs order passing' next plan (known_done (act_of act k.seen) k) (with_acts rest left) × IsOfSeen act k.seen
+    passes_act passing' left (Write o out) is gives =
+        let g = gives k.seen is.came in
+        (passing_acts passing' k.seen, is.acts_are ∙ g.0, record { plan_is = is.plan_is; next_is = is.next_is; came = g.1; acts_are = refl; goal_is = is.goal_is }, g.2)
+    passes_act passing' left (Take i) is gives =
+        let g = gives k.seen is.came in
+        (passing_acts passing' k.seen, is.acts_are ∙ g.0, record { plan_is = is.plan_is; next_is = is.next_is; came = g.1; acts_are = refl; goal_is = is.goal_is }, g.2)

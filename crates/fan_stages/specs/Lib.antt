@@ -1,0 +1,2 @@
+pub mod FanIn
+pub mod Passing
