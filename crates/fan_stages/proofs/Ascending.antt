@@ -1,11 +1,10 @@
 -- FANIN reads the first input that hasn't ended, where those before it have.
-use Rattle.std.proofs.Common.{◌≡◌, ◌<◌, ◌≤◌, ◌+◌, ℕ, zero, suc, Bool, true, false, cond, ltb, not, ◌==◌, ◌&&◌, ◌||◌, List, [], ◌∷◌, refl, sym, ◌∙◌, ap, arith, Some, None, Option}
+use Rattle.std.proofs.Common.{◌≡◌, ◌<◌, ◌≤◌, ◌+◌, ℕ, zero, suc, Bool, true, false, cond, ltb, not, ◌==◌, ◌&&◌, ◌||◌, List, ◌∷◌, refl, sym, ◌∙◌, ap, arith, Some, None}
 use Rattle.std.specs.Prelude.{find}
 use Rattle.std.specs.List.{range_with_len}
 use Rattle.std.proofs.lemmas.Bool.Decides.{nat_tests}
 use Rattle.pipe_model.specs.Members.{has}
 use Rattle.pipe_model.specs.Shape.{can_read, all_inputs}
-use Rattle.pipe_model.proofs.Truths.{both}
 use Rattle.fan_stages.specs.FanIn.{input_within}
 
 module _ (n input : ℕ) (ends : List ℕ) (ended : (i : ℕ) → has ends i ≡ ltb i input) where

@@ -1,14 +1,14 @@
 -- What FANIN's value stands for behind each call.
-use Rattle.std.proofs.Common.{◌≡◌, ◌<◌, ◌+◌, ◌-◌, ℕ, Bool, true, List, ◌∷◌, ◌++◌, refl, sym, ◌∙◌, ap, subst, arith, Some, Option, ltb}
-use Rattle.std.specs.Prelude.{find, min}
-use Rattle.pipe_model.specs.Event.{Event, Want, answers}
+use Rattle.std.proofs.Common.{◌≡◌, ◌+◌, ℕ, true, List, ◌∷◌, subst, arith, Some, ltb}
+use Rattle.std.specs.Prelude.{min}
+use Rattle.pipe_model.specs.Event.{Want, answers}
 use Rattle.pipe_model.specs.Event.Event.{Saw, SawEnd}
 use Rattle.pipe_model.specs.Members.{has}
 use Rattle.pipe_model.specs.Next.{hears}
 use Rattle.pipe_model.specs.Row.{Plan, Known}
-use Rattle.pipe_model.specs.Shape.{asks, can_read, all_inputs}
+use Rattle.pipe_model.specs.Shape.{asks, all_inputs}
 use Rattle.fan_stages.specs.declared.fan_in.FanIn.{FanIn}
-use Rattle.fan_stages.specs.declared.passing.Passing.TheVariants.{Writing, Taking, Passed}
+use Rattle.fan_stages.specs.declared.passing.Passing.TheVariants.{Writing, Passed}
 use Rattle.fan_stages.specs.FanIn.{input_within, FanInIs}
 use Rattle.fan_stages.proofs.Ascending.{first_open, is_within, one_more_ended}
 use Rattle.fan_stages.proofs.Passes.{asked_end, passes_saw, passes_end}

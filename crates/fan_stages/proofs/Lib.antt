@@ -1,3 +1,5 @@
 pub mod Ascending
 pub mod FanIns
+pub mod Gathers
 pub mod Passes
+pub mod Turns

@@ -1,17 +1,17 @@
 -- What a stage that passes on each record of its inputs has left behind each call.
-use Rattle.std.proofs.Common.{◌≡◌, ◌<◌, ℕ, Bool, true, false, cond, ◌==◌, List, [], ◌∷◌, ◌++◌, length, refl, sym, ◌∙◌, ap, subst, arith, Some, None, Option, pos}
+use Rattle.std.proofs.Common.{◌≡◌, ◌<◌, ℕ, true, false, cond, ◌==◌, List, [], ◌∷◌, ◌++◌, length, refl, sym, ◌∙◌, ap, subst, arith, Some, None, Option}
 use Rattle.std.specs.Prelude.{find, filter}
 use Rattle.std.proofs.lemmas.Bool.{eqb-true}
 use Rattle.std.proofs.lemmas.List.{append-nil, map-append}
 use Rattle.std.proofs.lemmas.List.Elements.{filter-append}
-use Rattle.pipe_model.specs.Event.{Event, Want, answers}
+use Rattle.pipe_model.specs.Event.{Want, answers}
 use Rattle.pipe_model.specs.Event.Event.{Saw, SawEnd, SawAllEnd}
 use Rattle.pipe_model.specs.FanRows.{passed}
 use Rattle.pipe_model.specs.Inputs.{records_from}
 use Rattle.pipe_model.specs.Next.{hears, nothing_known}
-use Rattle.pipe_model.specs.Row.{Pair, Act, Goal, Plan, Known}
+use Rattle.pipe_model.specs.Row.{Pair, Act, Plan, Known}
 use Rattle.pipe_model.specs.Row.Act.{Writes, Takes}
-use Rattle.pipe_model.specs.Row.Goal.{Asks, Ends}
+use Rattle.pipe_model.specs.Row.Goal.{Asks}
 use Rattle.pipe_model.specs.Shape.{asks, at_hand_of, can_read, look, read_next, records_of, writes}
 use Rattle.pipe_model.proofs.Numbers.{test_same}
 use Rattle.stage_steps.specs.declared.plans.Act.{Act as Doing}
@@ -19,7 +19,7 @@ use Rattle.stage_steps.specs.declared.plans.Act.TheVariants.{Write, Take}
 use Rattle.stage_steps.specs.Plans.{act_of, known_done, last_from, with_acts, IsOfSeen}
 use Rattle.stage_steps.proofs.Walks.{at_hand}
 use Rattle.fan_stages.specs.declared.passing.Passing.{Passing}
-use Rattle.fan_stages.specs.declared.passing.Passing.TheVariants.{Writing, Taking, Passed}
+use Rattle.fan_stages.specs.declared.passing.Passing.TheVariants.{Writing, Passed}
 use Rattle.fan_stages.specs.Passing.{passing_acts, passes_on, IsOfCame, PassesOn, GivesPassing}
 
 -- The record that came last

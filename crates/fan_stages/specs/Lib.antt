@@ -1,2 +1,3 @@
 pub mod FanIn
+pub mod Gather
 pub mod Passing

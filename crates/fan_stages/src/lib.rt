@@ -2,4 +2,6 @@
 #![tactic(auto)]
 
 mod fan_in;
+mod gather;
+mod inputs;
 mod passing;
