@@ -40,6 +40,17 @@ some_more (y ∷ xs) x = omega arith
 pub some_came : (seen : List Pair) (i : ℕ) (rec : List ℕ) → 0 < length (records_from i (seen ++ (i, rec) ∷ []))
 some_came seen i rec = subst (λ (l : List (List ℕ)). 0 < length l) (sym (from_more seen i rec)) (some_more (records_from i seen) rec)
 
+-- of the other inputs
+from_others : (seen : List Pair) (i j : ℕ) (rec : List ℕ) → (i == j) ≡ false → records_from j (seen ++ (i, rec) ∷ []) ≡ records_from j seen
+from_others seen i j rec other =
+    ap records_of (filter-append (λ (p : Pair). p.0 == j) seen ((i, rec) ∷ []) ∙ ap (λ b. filter (λ (p : Pair). p.0 == j) seen ++ cond b ((i, rec) ∷ []) []) other ∙ append-nil (filter (λ (p : Pair). p.0 == j) seen))
+
+pub other_last : (seen : List Pair) (i j : ℕ) (rec : List ℕ) → (i == j) ≡ false → last_from (seen ++ (i, rec) ∷ []) j ≡ last_from seen j
+other_last seen i j rec other = ap at_hand_of (from_others seen i j rec other)
+
+pub other_came : (seen : List Pair) (i j : ℕ) (rec : List ℕ) → (i == j) ≡ false → 0 < length (records_from j seen) → 0 < length (records_from j (seen ++ (i, rec) ∷ []))
+other_came seen i j rec other some = subst (λ (l : List (List ℕ)). 0 < length l) (sym (from_others seen i j rec other)) some
+
 -- what the record at hand causes
 passed_last : (seen : List Pair) (i : ℕ) (rec : List ℕ) → passed (seen ++ (i, rec) ∷ []) ≡ (0, rec) ∷ []
 passed_last [] i rec = refl

@@ -5,3 +5,5 @@ mod fan_in;
 mod gather;
 mod inputs;
 mod passing;
+mod round;
+mod synchronise;
