@@ -1,6 +1,8 @@
 pub mod Ascending
 pub mod FanIns
 pub mod Gathers
+pub mod Laying
+pub mod Overlaid
 pub mod Passes
 pub mod Rounds
 pub mod Synchronised

@@ -441,3 +441,24 @@ pub drop_at : (xs : List ℕ) (p i : ℕ) → slice_get xs p ≡ Some i → drop
 drop_at [] p i is = cc
 drop_at (x ∷ xs) zero i is = let it : x ≡ i = cc in ap (λ j. j ∷ xs) it
 drop_at (x ∷ xs) (suc p) i is = drop_at xs p i is
+
+-- a record of the input that is read isn't in sight
+pub not_in_sight : (n : ℕ) (opened : List ℕ) (place i : ℕ) (k : Known) → slice_get opened place ≡ Some i → RoundIs n opened place false k → without i k.sight ≡ k.sight
+not_in_sight n opened place i k here is =
+    let cut = ahead_of opened is.behind is.ahead place i is.all_are is.place_is here in
+    let all_are : opened ≡ is.behind ++ i ∷ cut.0 = is.all_are ∙ ap (λ l. is.behind ++ l) cut.1 in
+    let up : Ascends 0 (is.behind ++ i ∷ cut.0) = subst (Ascends 0) (sym is.open_are ∙ all_are) (ascends_range (still_open k.ends) n 0) in
+    without_none i k.sight (ap (sees i) is.sight_is ∙ sees_lasts k.seen is.behind i ∙ (once is.behind cut.0 0 i up).0)
+
+-- before a round nothing is in sight
+pub nothing_in_sight : (n : ℕ) (opened : List ℕ) (place : ℕ) (k : Known) → RoundIs n opened place false k → place ≡ 0 → k.sight ≡ []
+nothing_in_sight n opened place k is start = by is.behind is.sight_is (sym is.place_is ∙ start)
+  where
+    by : (behind : List ℕ) → k.sight ≡ lasts k.seen behind → length behind ≡ 0 → k.sight ≡ []
+    by [] same none = same
+    by (b ∷ behind) same none = absurd (omega (arith, none))
+
+-- it begins to read
+pub reads_first : (opened : List ℕ) (x : Round) → IsSettled opened 0 x → x.taking ≡ false
+reads_first [] x settled = settled.takes
+reads_first (o ∷ opened) x settled = settled.takes ∙ (let b : ltb 0 (length (o ∷ opened)) ≡ true = grind (arith, nat_tests) in ap (λ b. not b && true) b)

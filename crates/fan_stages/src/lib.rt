@@ -4,6 +4,7 @@
 mod fan_in;
 mod gather;
 mod inputs;
+mod overlay;
 mod passing;
 mod round;
 mod synchronise;
