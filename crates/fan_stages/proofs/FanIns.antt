@@ -9,12 +9,12 @@ use Rattle.pipe_model.specs.Row.{Plan, Known}
 use Rattle.pipe_model.specs.Shape.{asks, all_inputs}
 use Rattle.fan_stages.specs.declared.fan_in.FanIn.{FanIn}
 use Rattle.fan_stages.specs.declared.passing.Passing.TheVariants.{Writing, Passed}
-use Rattle.fan_stages.specs.FanIn.{input_within, FanInIs}
+use Rattle.fan_stages.specs.FanIn.{input_within, FanInStands}
 use Rattle.fan_stages.proofs.Ascending.{first_open, is_within, one_more_ended}
 use Rattle.fan_stages.proofs.Passes.{asked_end, passes_saw, passes_end}
 
-module _ (x : FanIn) (plan : Known → Plan) (k : Known) (want : Want) (i : ℕ) (is : FanInIs x plan k (asks want)) where
-  pub fan_in_saw : (rec : List ℕ) → answers (Some want) (Saw i rec) ≡ true → FanInIs (record x { passing = Writing i }) plan (hears k (Saw i rec)) (plan (hears k (Saw i rec)))
+module _ (x : FanIn) (plan : Known → Plan) (k : Known) (want : Want) (i : ℕ) (is : FanInStands x plan k (asks want)) where
+  pub fan_in_saw : (rec : List ℕ) → answers (Some want) (Saw i rec) ≡ true → FanInStands (record x { passing = Writing i }) plan (hears k (Saw i rec)) (plan (hears k (Saw i rec)))
   fan_in_saw rec fits = record {
     few = is.few;
     ended = is.ended;
@@ -22,7 +22,7 @@ module _ (x : FanIn) (plan : Known → Plan) (k : Known) (want : Want) (i : ℕ)
   }
 
   pub fan_in_end : (input' : ℕ) → input' ≡ min (x.input + 1) 65535 → answers (Some want) (SawEnd i) ≡ true →
-      FanInIs (record x { input = input'; passing = Passed }) plan (hears k (SawEnd i)) (plan (hears k (SawEnd i)))
+      FanInStands (record x { input = input'; passing = Passed }) plan (hears k (SawEnd i)) (plan (hears k (SawEnd i)))
   fan_in_end input' next fits =
       let here : input_within x.inputs x.input ≡ Some i = asked_end (input_within x.inputs x.input) want i is.reads.goal_is fits in
       let within = is_within x.inputs x.input i here in

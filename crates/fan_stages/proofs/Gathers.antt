@@ -13,7 +13,7 @@ use Rattle.pipe_model.specs.Shape.{asks, can_read, all_inputs, turn_plan}
 use Rattle.pipe_model.proofs.Numbers.{test_same}
 use Rattle.fan_stages.specs.declared.gather.Gather.{Gather}
 use Rattle.fan_stages.specs.declared.passing.Passing.TheVariants.{Writing, Passed}
-use Rattle.fan_stages.specs.Gather.{turn_of, IsTurn, GatherIs}
+use Rattle.fan_stages.specs.Gather.{turn_of, IsTurn, GatherStands}
 use Rattle.fan_stages.specs.Passing.{passes_on, PassesOn}
 use Rattle.fan_stages.proofs.Passes.{asked_saw, asked_end, passes_first, passes_saw, passes_end}
 use Rattle.fan_stages.proofs.Turns.{all_open, turn_found, moved, removes}
@@ -30,12 +30,12 @@ ended_now n i ends = ap (λ b. ltb i n && not (b || has ends i)) (test_same i) �
 ended_other : (n i : ℕ) (ends : List ℕ) (j : ℕ) → (i == j) ≡ false → can_read n (i ∷ ends) j ≡ can_read n ends j
 ended_other n i ends j apart = ap (λ b. ltb j n && not (b || has ends j)) apart
 
-module _ (x : Gather) (plan : Known → Plan) (k : Known) (want : Want) (i : ℕ) (is : GatherIs x plan k (asks want)) where
+module _ (x : Gather) (plan : Known → Plan) (k : Known) (want : Want) (i : ℕ) (is : GatherStands x plan k (asks want)) where
   abbrev order : ℕ → List Pair → List ℕ
   order inputs seen = around (behind_last seen) (all_inputs inputs)
 
   pub gather_saw : (rec : List ℕ) (place' : ℕ) → place' ≡ cond (ltb x.place (length x.open.items)) (x.place + 1) 1 → answers (Some want) (Saw i rec) ≡ true →
-      GatherIs (record x { place = place'; passing = Writing i }) plan (hears k (Saw i rec)) (plan (hears k (Saw i rec)))
+      GatherStands (record x { place = place'; passing = Writing i }) plan (hears k (Saw i rec)) (plan (hears k (Saw i rec)))
   gather_saw rec place' place_is fits =
       let can = can_read is.inputs k.ends in
       let here : turn_of x.open.items x.place ≡ Some i = asked_saw (turn_of x.open.items x.place) want i rec is.reads.goal_is fits in
@@ -53,7 +53,7 @@ module _ (x : Gather) (plan : Known → Plan) (k : Known) (want : Want) (i : ℕ
       }
 
   pub gather_end : (turn : ℕ) (y : Gather) → turn ≡ cond (ltb x.place (length x.open.items)) x.place 0 → y.open.items ≡ remove x.open.items turn → y.place ≡ min x.place (length y.open.items) → y.passing ≡ Passed →
-      answers (Some want) (SawEnd i) ≡ true → GatherIs y plan (hears k (SawEnd i)) (plan (hears k (SawEnd i)))
+      answers (Some want) (SawEnd i) ≡ true → GatherStands y plan (hears k (SawEnd i)) (plan (hears k (SawEnd i)))
   gather_end turn y turn_is open_is place_is passing_is fits =
       let can = can_read is.inputs k.ends in
       let can' = can_read is.inputs (i ∷ k.ends) in
@@ -75,7 +75,7 @@ module _ (x : Gather) (plan : Known → Plan) (k : Known) (want : Want) (i : ℕ
       }
 
 pub gather_first : (n : ℕ) (x : Gather) → x.open.items ≡ all_inputs n → x.place ≡ 0 → x.passing ≡ Passed →
-    GatherIs x (λ k. turn_plan n gathering k k.told) nothing_known (turn_plan n gathering nothing_known nothing_known.told)
+    GatherStands x (λ k. turn_plan n gathering k k.told) nothing_known (turn_plan n gathering nothing_known nothing_known.told)
 gather_first n x open_is place_is passing_is =
     let can = can_read n [] in
     let turned : IsTurn can (all_inputs n) [] (all_inputs n) x.open.items x.place = record { all_are = refl; open_are = open_is ∙ sym (all_open n); place_is = place_is } in

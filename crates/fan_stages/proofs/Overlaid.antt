@@ -1,8 +1,8 @@
 -- What OVERLAY's value stands for behind each call.
-use Rattle.std.proofs.Common.{◌≡◌, ◌<◌, ◌+◌, ◌-◌, ℕ, Bool, true, false, cond, not, ◌==◌, List, [], ◌∷◌, ◌++◌, length, map, slice_get, refl, sym, ◌∙◌, ap, subst, arith, Some, None, Option}
+use Rattle.std.proofs.Common.{◌≡◌, ◌<◌, ◌+◌, ℕ, Bool, true, false, cond, not, ◌==◌, List, [], ◌∷◌, ◌++◌, length, slice_get, refl, sym, ◌∙◌, ap, subst, Some}
 use Rattle.std.specs.List.{remove}
 use Rattle.std.proofs.lemmas.List.{map-append}
-use Rattle.pipe_model.specs.Event.{Event, Want, answers}
+use Rattle.pipe_model.specs.Event.{Want, answers}
 use Rattle.pipe_model.specs.Event.Event.{Saw, SawEnd}
 use Rattle.pipe_model.specs.FanRows.{laid_over, overlaid, overlaying}
 use Rattle.pipe_model.specs.Next.{hears, nothing_known}
@@ -12,8 +12,8 @@ use Rattle.pipe_model.specs.Shape.{asks, all_inputs, look, records_of, round_pla
 use Rattle.stage_steps.specs.Plans.{known_done, with_acts}
 use Rattle.fan_stages.specs.declared.overlay.Overlays.{Overlays}
 use Rattle.fan_stages.specs.declared.round.Round.{Round}
-use Rattle.fan_stages.specs.Round.{next_place, takes_by, takes_left, takes_count, BeginsRound, IsSettled, GivesTake, RoundIs}
-use Rattle.fan_stages.specs.Overlay.{due_write, overlay_count, OverlaysIs}
+use Rattle.fan_stages.specs.Round.{next_place, takes_by, takes_left, BeginsRound, IsSettled, GivesTake, RoundIs}
+use Rattle.fan_stages.specs.Overlay.{due_write, OverlaysStand}
 use Rattle.fan_stages.proofs.Laying.{overlaid_more}
 use Rattle.fan_stages.proofs.Passes.{asked_saw, asked_end}
 use Rattle.fan_stages.proofs.Rounds.{acts_by, Begun, begins, round_first, round_saw, round_end, round_took, takes_more, not_taking, not_in_sight, nothing_in_sight, reads_first, within_it}
@@ -24,7 +24,7 @@ written pad k = (0, overlaid pad (records_of k.sight)) ∷ []
 
 -- a plan that is just made, where what is in sight was made
 started : (n : ℕ) (x : Overlays) (k : Known) → x.due ≡ x.round.taking → x.made.items ≡ overlaid x.pad (records_of k.sight) →
-    Begun n (round_plan n (overlaying x.pad) k) (writes (written x.pad k)) x.round.open.items x.round.place x.round.taking k → OverlaysIs x (round_plan n (overlaying x.pad)) k (round_plan n (overlaying x.pad) k)
+    Begun n (round_plan n (overlaying x.pad) k) (writes (written x.pad k)) x.round.open.items x.round.place x.round.taking k → OverlaysStand x (round_plan n (overlaying x.pad)) k (round_plan n (overlaying x.pad) k)
 started n x k due made begun = record {
   inputs = n;
   plan_is = refl;
@@ -40,7 +40,7 @@ started n x k due made begun = record {
     by false = refl
 
 pub overlay_first : (n : ℕ) (r : Round) (x : Overlays) → BeginsRound n r → IsSettled r.open.items r.place x.round → x.made.items ≡ [] → x.due ≡ false →
-    OverlaysIs x (round_plan n (overlaying x.pad)) nothing_known (round_plan n (overlaying x.pad) nothing_known)
+    OverlaysStand x (round_plan n (overlaying x.pad)) nothing_known (round_plan n (overlaying x.pad) nothing_known)
 overlay_first n r x begins_it settled made due =
     let settled' : IsSettled (all_inputs n) 0 x.round = subst (λ o. IsSettled o 0 x.round) begins_it.open_are (subst (λ p. IsSettled r.open.items p x.round) begins_it.place_is settled) in
     started n x nothing_known (due ∙ sym (reads_first (all_inputs n) x.round settled')) made
@@ -56,7 +56,7 @@ module _ (x : Overlays) (plan : Known → Plan) (k : Known) where
     round : RoundIs inputs opened x.round.place false k
     made : x.made.items ≡ overlaid x.pad (records_of k.sight)
 
-  waits : (want : Want) (i : ℕ) (is : OverlaysIs x plan k (asks want)) → slice_get opened (next_place x.round) ≡ Some i → Waits is.inputs i
+  waits : (want : Want) (i : ℕ) (is : OverlaysStand x plan k (asks want)) → slice_get opened (next_place x.round) ≡ Some i → Waits is.inputs i
   waits want i is at =
       let reads : x.round.taking ≡ false = not_taking is.inputs opened x.round.place x.round.taking k (due_write x.due x.made.items) is.round (sym is.acts_are) in
       record {
@@ -69,9 +69,9 @@ module _ (x : Overlays) (plan : Known → Plan) (k : Known) where
       not_due true e reads = let wrong : true ≡ false = sym (is.due_takes e) ∙ reads in cc
       not_due false e reads = e
 
-  pub overlay_saw : (want : Want) (i : ℕ) (rec : List ℕ) (y : Overlays) → OverlaysIs x plan k (asks want) → answers (Some want) (Saw i rec) ≡ true →
+  pub overlay_saw : (want : Want) (i : ℕ) (rec : List ℕ) (y : Overlays) → OverlaysStand x plan k (asks want) → answers (Some want) (Saw i rec) ≡ true →
       (x.round.place < length opened → IsSettled opened (x.round.place + 1) y.round) → y.pad ≡ x.pad → y.made.items ≡ laid_over x.pad rec x.made.items → y.due ≡ y.round.taking →
-      OverlaysIs y plan (hears k (Saw i rec)) (plan (hears k (Saw i rec)))
+      OverlaysStand y plan (hears k (Saw i rec)) (plan (hears k (Saw i rec)))
   overlay_saw want i rec y is fits settles same made due =
       let k' = hears k (Saw i rec) in
       let w = waits want i is (asked_saw (slice_get opened (next_place x.round)) want i rec is.goal_is fits) in
@@ -80,22 +80,22 @@ module _ (x : Overlays) (plan : Known → Plan) (k : Known) where
       ap (λ s. records_of (s ++ (i, rec) ∷ [])) (not_in_sight is.inputs opened x.round.place i k w.here w.round) ∙ map-append (λ (p : Pair). p.1) k.sight ((i, rec) ∷ []) in
       let made' : y.made.items ≡ overlaid y.pad (records_of k'.sight) =
       made ∙ ap (laid_over x.pad rec) w.made ∙ sym (overlaid_more x.pad (records_of k.sight) rec) ∙ ap (overlaid x.pad) (sym sight) ∙ ap (λ p. overlaid p (records_of k'.sight)) (sym same) in
-      subst (λ (f : Known → Plan). OverlaysIs y f k' (f k')) (ap (λ p. round_plan is.inputs (overlaying p)) same ∙ sym is.plan_is)
+      subst (λ (f : Known → Plan). OverlaysStand y f k' (f k')) (ap (λ p. round_plan is.inputs (overlaying p)) same ∙ sym is.plan_is)
       (started is.inputs y k' due made' (begins is.inputs false (written y.pad) k' refl opened (x.round.place + 1) y.round (round_saw is.inputs opened x.round.place i k w.here rec w.round) settled))
 
-  pub overlay_end : (want : Want) (i : ℕ) (y : Overlays) → OverlaysIs x plan k (asks want) → answers (Some want) (SawEnd i) ≡ true →
+  pub overlay_end : (want : Want) (i : ℕ) (y : Overlays) → OverlaysStand x plan k (asks want) → answers (Some want) (SawEnd i) ≡ true →
       IsSettled (remove opened x.round.place) x.round.place y.round → y.pad ≡ x.pad → y.made.items ≡ x.made.items → y.due ≡ y.round.taking →
-      OverlaysIs y plan (hears k (SawEnd i)) (plan (hears k (SawEnd i)))
+      OverlaysStand y plan (hears k (SawEnd i)) (plan (hears k (SawEnd i)))
   overlay_end want i y is fits settled same made due =
       let k' = hears k (SawEnd i) in
       let w = waits want i is (asked_end (slice_get opened (next_place x.round)) want i is.goal_is fits) in
       let made' : y.made.items ≡ overlaid y.pad (records_of k'.sight) = made ∙ w.made ∙ ap (λ p. overlaid p (records_of k.sight)) (sym same) in
-      subst (λ (f : Known → Plan). OverlaysIs y f k' (f k')) (ap (λ p. round_plan is.inputs (overlaying p)) same ∙ sym is.plan_is)
+      subst (λ (f : Known → Plan). OverlaysStand y f k' (f k')) (ap (λ p. round_plan is.inputs (overlaying p)) same ∙ sym is.plan_is)
       (started is.inputs y k' due made' (begins is.inputs false (written y.pad) k' refl (remove opened x.round.place) x.round.place y.round (round_end is.inputs opened x.round.place i k w.here w.round) settled))
 
   -- the write
-  pub overlay_write : (left : Plan) (rec : List ℕ) (y : Overlays) → OverlaysIs x plan k left → x.due ≡ true → rec ≡ x.made.items → y.round ≡ x.round → y.pad ≡ x.pad → y.made.items ≡ [] → y.due ≡ false →
-      (rest : List Act) × (left.acts ≡ Writes 0 rec ∷ rest) × OverlaysIs y plan k (with_acts rest left) × Unit {0}
+  pub overlay_write : (left : Plan) (rec : List ℕ) (y : Overlays) → OverlaysStand x plan k left → x.due ≡ true → rec ≡ x.made.items → y.round ≡ x.round → y.pad ≡ x.pad → y.made.items ≡ [] → y.due ≡ false →
+      (rest : List Act) × (left.acts ≡ Writes 0 rec ∷ rest) × OverlaysStand y plan k (with_acts rest left) × Unit {0}
   overlay_write left rec y is due rec_is round pad made due' =
       let takes : y.round.taking ≡ true = ap (λ (r : Round). r.taking) round ∙ is.due_takes due in (
         takes_left x.round,
@@ -113,8 +113,8 @@ module _ (x : Overlays) (plan : Known → Plan) (k : Known) where
       )
 
   -- a take
-  pub overlay_take : (left : Plan) (i : ℕ) (r : Round) → OverlaysIs x plan k left → x.due ≡ false → GivesTake x.round r (Some i) →
-      (rest : List Act) × (left.acts ≡ Takes i ∷ rest) × OverlaysIs (record x { round = r }) plan (known_done (Takes i) k) (with_acts rest left) × Unit {0}
+  pub overlay_take : (left : Plan) (i : ℕ) (r : Round) → OverlaysStand x plan k left → x.due ≡ false → GivesTake x.round r (Some i) →
+      (rest : List Act) × (left.acts ≡ Takes i ∷ rest) × OverlaysStand (record x { round = r }) plan (known_done (Takes i) k) (with_acts rest left) × Unit {0}
   overlay_take left i r is due gives =
       let last = x.round.place + 1 == length opened in
       let k' = known_done (Takes i) k in
@@ -145,17 +145,3 @@ module _ (x : Overlays) (plan : Known → Plan) (k : Known) where
       none : (b : Bool) → RoundIs is.inputs opened (cond b 0 (x.round.place + 1)) (not b) (known_done (Takes i) k) → overlaid x.pad (cond (not b) [] (records_of (without i k.sight))) ≡ []
       none true took = ap (λ s. overlaid x.pad (records_of s)) (nothing_in_sight is.inputs opened 0 (known_done (Takes i) k) took refl)
       none false took = refl
-
--- fewer acts are left
-pub takes_fall : (x r : Round) (i : ℕ) → GivesTake x r (Some i) → takes_count r < takes_count x
-takes_fall x r i gives =
-    let low = within_it x.open.items x.place i gives.1 in
-    let last = x.place + 1 == length x.open.items in
-    subst (λ b. takes_count r < cond b (length x.open.items - x.place) 0) (sym gives.0)
-    (subst (λ (o : List ℕ). cond r.taking (length o - r.place) 0 < length x.open.items - x.place) (sym gives.2)
-    (subst (λ p. cond r.taking (length x.open.items - p) 0 < length x.open.items - x.place) (sym gives.3)
-    (subst (λ t. cond t (length x.open.items - cond last 0 (x.place + 1)) 0 < length x.open.items - x.place) (sym gives.4) (by last low))))
-  where
-    by : (b : Bool) → x.place < length x.open.items → cond (not b) (length x.open.items - cond b 0 (x.place + 1)) 0 < length x.open.items - x.place
-    by true low = omega (arith, low)
-    by false low = omega (arith, low)

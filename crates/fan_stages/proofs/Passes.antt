@@ -5,7 +5,7 @@ use Rattle.std.proofs.lemmas.Bool.{eqb-true}
 use Rattle.std.proofs.lemmas.List.{append-nil, map-append}
 use Rattle.std.proofs.lemmas.List.Elements.{filter-append}
 use Rattle.pipe_model.specs.Event.{Want, answers}
-use Rattle.pipe_model.specs.Event.Event.{Saw, SawEnd, SawAllEnd}
+use Rattle.pipe_model.specs.Event.Event.{Saw, SawEnd}
 use Rattle.pipe_model.specs.FanRows.{passed}
 use Rattle.pipe_model.specs.Inputs.{records_from}
 use Rattle.pipe_model.specs.Next.{hears, nothing_known}
@@ -14,13 +14,11 @@ use Rattle.pipe_model.specs.Row.Act.{Writes, Takes}
 use Rattle.pipe_model.specs.Row.Goal.{Asks}
 use Rattle.pipe_model.specs.Shape.{asks, at_hand_of, can_read, look, read_next, records_of, writes}
 use Rattle.pipe_model.proofs.Numbers.{test_same}
-use Rattle.stage_steps.specs.declared.plans.Act.{Act as Doing}
-use Rattle.stage_steps.specs.declared.plans.Act.TheVariants.{Write, Take}
-use Rattle.stage_steps.specs.Plans.{act_of, known_done, last_from, with_acts, IsOfSeen}
+use Rattle.stage_steps.specs.Plans.{last_from}
 use Rattle.stage_steps.proofs.Walks.{at_hand}
 use Rattle.fan_stages.specs.declared.passing.Passing.{Passing}
 use Rattle.fan_stages.specs.declared.passing.Passing.TheVariants.{Writing, Passed}
-use Rattle.fan_stages.specs.Passing.{passing_acts, passes_on, IsOfCame, PassesOn, GivesPassing}
+use Rattle.fan_stages.specs.Passing.{passing_acts, passes_on, IsOfCame, PassesOn}
 
 -- The record that came last
 
@@ -72,12 +70,6 @@ asked_end (Some j) want i is fits =
     let it : want ≡ Want.Read j = cc in
     ap Some (sym (eqb-true i j (subst (λ w. answers (Some w) (SawEnd i) ≡ true) it fits)))
 
-not_all : (next : Option ℕ) (want : Want) → Asks want ≡ look next → answers (Some want) SawAllEnd ≡ true → ⊥
-not_all None want is fits = cc
-not_all (Some j) want is fits =
-    let it : want ≡ Want.Read j = cc in
-    let no : false ≡ true = subst (λ w. answers (Some w) SawAllEnd ≡ true) it fits in cc
-
 -- The plans
 
 acts_then : (acts : List Act) (next : Option ℕ) → (read_next acts [] next).acts ≡ acts
@@ -122,16 +114,3 @@ module _ (inputs : ℕ) (order : ℕ → List Pair → List ℕ) where
         let k' = hears k (SawEnd i) in
         subst (λ (f : Known → Plan). PassesOn inputs order Passed next' f k' (f k')) (sym is.plan_is)
         (made k' Passed next' [] refl tt refl (then (asked_end next want i is.goal_is fits)))
-
-    pub not_all_end : (want : Want) → PassesOn inputs order passing next plan k (asks want) → answers (Some want) SawAllEnd ≡ true → ⊥
-    not_all_end want is fits = not_all next want is.goal_is fits
-
-    -- an act is done
-    pub passes_act : (passing' : Passing) (left : Plan) (act : Doing) → PassesOn inputs order passing next plan k left → GivesPassing passing passing' (Some act) →
-        (rest : List Act) × (left.acts ≡ act_of act k.seen ∷ rest) × PassesOn inputs order passing' next plan (known_done (act_of act k.seen) k) (with_acts rest left) × IsOfSeen act k.seen
-    passes_act passing' left (Write o out) is gives =
-        let g = gives k.seen is.came in
-        (passing_acts passing' k.seen, is.acts_are ∙ g.0, record { plan_is = is.plan_is; next_is = is.next_is; came = g.1; acts_are = refl; goal_is = is.goal_is }, g.2)
-    passes_act passing' left (Take i) is gives =
-        let g = gives k.seen is.came in
-        (passing_acts passing' k.seen, is.acts_are ∙ g.0, record { plan_is = is.plan_is; next_is = is.next_is; came = g.1; acts_are = refl; goal_is = is.goal_is }, g.2)

@@ -1,28 +1,25 @@
 -- A round of the open inputs: which is read next, and when all records are in sight and are taken.
 use Rattle.std.proofs.Common.{◌≡◌, ◌<◌, ◌≤◌, ◌+◌, ◌-◌, ℕ, zero, suc, Bool, true, false, cond, ltb, not, ◌==◌, ◌&&◌, ◌||◌, List, [], ◌∷◌, ◌++◌, length, map, slice_get, refl, sym, ◌∙◌, ap, subst, arith, Some, None, Option, pos}
-use Rattle.std.specs.Prelude.{find, filter, take, drop, min}
-use Rattle.std.specs.List.{range_with_len, remove, list_any}
+use Rattle.std.specs.Prelude.{find, filter, drop}
+use Rattle.std.specs.List.{range_with_len, remove}
 use Rattle.std.proofs.Math.Seq.{drop-append_seam}
 use Rattle.std.proofs.lemmas.Bool.{eqb-true}
 use Rattle.std.proofs.lemmas.Bool.Decides.{nat_tests}
 use Rattle.std.proofs.lemmas.List.{append-nil, append_assoc, length-append, map-append}
 use Rattle.std.proofs.lemmas.List.Elements.{filter-append}
 use Rattle.std.proofs.lemmas.List.Folds.{list_any-append}
-use Rattle.pipe_model.specs.Event.{Event}
 use Rattle.pipe_model.specs.Event.Event.{Saw, SawEnd}
 use Rattle.pipe_model.specs.Inputs.{records_from}
 use Rattle.pipe_model.specs.Members.{has}
 use Rattle.pipe_model.specs.Next.{hears, nothing_known}
 use Rattle.pipe_model.specs.Row.{Pair, Act, Plan, Known, sees, without, without_all}
 use Rattle.pipe_model.specs.Row.Act.{Takes}
-use Rattle.pipe_model.specs.Row.Goal.{Ends}
-use Rattle.pipe_model.specs.Shape.{Rounding, all_inputs, act_on, lacks, look, read_or_act, round_of, round_plan, writes, has_any, asks, ends, at_hand_of}
-use Rattle.pipe_model.proofs.Lists.{get_seam}
+use Rattle.pipe_model.specs.Shape.{Rounding, all_inputs, act_on, lacks, look, read_or_act, round_of, round_plan, writes, has_any, ends}
 use Rattle.pipe_model.proofs.Numbers.{test_same}
 use Rattle.pipe_model.proofs.Truths.{neither}
 use Rattle.stage_steps.specs.Plans.{known_done, last_from}
 use Rattle.fan_stages.specs.declared.round.Round.{Round}
-use Rattle.fan_stages.specs.Round.{lasts, in_sight, takes_by, rounds, IsSettled, RoundIs}
+use Rattle.fan_stages.specs.Round.{lasts, takes_by, takes_count, rounds, GivesTake, IsSettled, RoundIs}
 use Rattle.fan_stages.proofs.Passes.{came_last, some_came, other_last, other_came}
 use Rattle.fan_stages.proofs.Turns.{first_of_all, without_it, removes_seam}
 
@@ -462,3 +459,17 @@ nothing_in_sight n opened place k is start = by is.behind is.sight_is (sym is.pl
 pub reads_first : (opened : List ℕ) (x : Round) → IsSettled opened 0 x → x.taking ≡ false
 reads_first [] x settled = settled.takes
 reads_first (o ∷ opened) x settled = settled.takes ∙ (let b : ltb 0 (length (o ∷ opened)) ≡ true = grind (arith, nat_tests) in ap (λ b. not b && true) b)
+
+-- fewer takes are left
+pub takes_fall : (x r : Round) (i : ℕ) → GivesTake x r (Some i) → takes_count r < takes_count x
+takes_fall x r i gives =
+    let low = within_it x.open.items x.place i gives.1 in
+    let last = x.place + 1 == length x.open.items in
+    subst (λ b. takes_count r < cond b (length x.open.items - x.place) 0) (sym gives.0)
+    (subst (λ (o : List ℕ). cond r.taking (length o - r.place) 0 < length x.open.items - x.place) (sym gives.2)
+    (subst (λ p. cond r.taking (length x.open.items - p) 0 < length x.open.items - x.place) (sym gives.3)
+    (subst (λ t. cond t (length x.open.items - cond last 0 (x.place + 1)) 0 < length x.open.items - x.place) (sym gives.4) (by last low))))
+  where
+    by : (b : Bool) → x.place < length x.open.items → cond (not b) (length x.open.items - cond b 0 (x.place + 1)) 0 < length x.open.items - x.place
+    by true low = omega (arith, low)
+    by false low = omega (arith, low)

@@ -1,9 +1,8 @@
 -- What SYNCHRONISE's value stands for behind each call.
-use Rattle.std.proofs.Common.{◌≡◌, ◌<◌, ◌≤◌, ◌+◌, ◌-◌, ℕ, zero, suc, Bool, true, false, cond, ltb, not, ◌==◌, ◌&&◌, List, [], ◌∷◌, ◌++◌, length, map, slice_get, refl, sym, ◌∙◌, ap, subst, arith, Some, None, Option}
+use Rattle.std.proofs.Common.{◌≡◌, ◌<◌, ◌≤◌, ◌+◌, ◌-◌, ℕ, zero, suc, Bool, true, false, cond, not, ◌==◌, List, [], ◌∷◌, ◌++◌, length, slice_get, refl, sym, ◌∙◌, ap, subst, arith, Some}
 use Rattle.std.specs.Prelude.{drop}
-use Rattle.std.proofs.lemmas.Bool.Decides.{nat_tests}
-use Rattle.pipe_model.specs.Event.{Event, Want, answers}
-use Rattle.pipe_model.specs.Event.Event.{Saw, SawEnd}
+use Rattle.pipe_model.specs.Event.{Want, answers}
+use Rattle.pipe_model.specs.Event.Event.{Saw}
 use Rattle.pipe_model.specs.FanRows.{synchronising}
 use Rattle.pipe_model.specs.Inputs.{records_from}
 use Rattle.pipe_model.specs.Next.{hears, nothing_known}
@@ -13,14 +12,14 @@ use Rattle.pipe_model.specs.Shape.{asks, all_inputs, has_any, look, round_plan, 
 use Rattle.stage_steps.specs.Plans.{known_done, last_from, with_acts}
 use Rattle.fan_stages.specs.declared.round.Round.{Round}
 use Rattle.fan_stages.specs.declared.synchronise.Synchronises.{Synchronises}
-use Rattle.fan_stages.specs.Round.{lasts, next_place, takes_by, BeginsRound, IsSettled, GivesTake, RoundIs}
-use Rattle.fan_stages.specs.Synchronise.{writes_by, synchronise_acts, count_by, acts_count, GivesWrite, SynchronisesIs}
+use Rattle.fan_stages.specs.Round.{lasts, next_place, takes_by, takes_count, BeginsRound, IsSettled, GivesTake, RoundIs}
+use Rattle.fan_stages.specs.Synchronise.{writes_by, acts_count, GivesWrite, SynchronisesStand}
 use Rattle.fan_stages.proofs.Passes.{asked_saw}
-use Rattle.fan_stages.proofs.Rounds.{acts_by, Begun, begins, round_first, round_saw, round_took, takes_more, not_taking, all_ahead, takes_first, within_it, has_at, drop_at}
+use Rattle.fan_stages.proofs.Rounds.{acts_by, Begun, begins, round_first, round_saw, round_took, takes_more, not_taking, all_ahead, takes_first, takes_fall, within_it, has_at, drop_at}
 
 -- a plan that is just made, where none ended
 started : (n : ℕ) (x : Synchronises) (k : Known) → k.ends ≡ [] → x.written ≡ 0 → (x.round.taking ≡ true → x.round.place ≡ 0) →
-    Begun n (round_plan n synchronising k) (writes k.sight) x.round.open.items x.round.place x.round.taking k → SynchronisesIs x (round_plan n synchronising) k (round_plan n synchronising k)
+    Begun n (round_plan n synchronising k) (writes k.sight) x.round.open.items x.round.place x.round.taking k → SynchronisesStand x (round_plan n synchronising) k (round_plan n synchronising k)
 started n x k none first at_first begun = record {
   inputs = n;
   plan_is = refl;
@@ -37,7 +36,7 @@ started n x k none first at_first begun = record {
         ∙ ap (λ w. writes (lasts k.seen (drop w x.round.open.items))) (sym first)
     by false takes = refl
 
-pub synchronise_first : (n : ℕ) (r : Round) (x : Synchronises) → BeginsRound n r → IsSettled r.open.items r.place x.round → x.written ≡ 0 → SynchronisesIs x (round_plan n synchronising) nothing_known (round_plan n synchronising nothing_known)
+pub synchronise_first : (n : ℕ) (r : Round) (x : Synchronises) → BeginsRound n r → IsSettled r.open.items r.place x.round → x.written ≡ 0 → SynchronisesStand x (round_plan n synchronising) nothing_known (round_plan n synchronising nothing_known)
 synchronise_first n r x begins_it settled first =
     let settled' : IsSettled (all_inputs n) 0 x.round = subst (λ o. IsSettled o 0 x.round) begins_it.open_are (subst (λ p. IsSettled r.open.items p x.round) begins_it.place_is settled) in
     started n x nothing_known refl first (takes_first (all_inputs n) 0 x.round settled')
@@ -47,8 +46,8 @@ module _ (x : Synchronises) (plan : Known → Plan) (k : Known) where
   abbrev opened : List ℕ
   opened = x.round.open.items
 
-  pub synchronise_saw : (want : Want) (i : ℕ) (rec : List ℕ) (y : Synchronises) → SynchronisesIs x plan k (asks want) → answers (Some want) (Saw i rec) ≡ true →
-      (x.round.place < length opened → IsSettled opened (x.round.place + 1) y.round) → y.written ≡ 0 → SynchronisesIs y plan (hears k (Saw i rec)) (plan (hears k (Saw i rec)))
+  pub synchronise_saw : (want : Want) (i : ℕ) (rec : List ℕ) (y : Synchronises) → SynchronisesStand x plan k (asks want) → answers (Some want) (Saw i rec) ≡ true →
+      (x.round.place < length opened → IsSettled opened (x.round.place + 1) y.round) → y.written ≡ 0 → SynchronisesStand y plan (hears k (Saw i rec)) (plan (hears k (Saw i rec)))
   synchronise_saw want i rec y is fits settles first =
       let k' = hears k (Saw i rec) in
       let at : slice_get opened (next_place x.round) ≡ Some i = asked_saw (slice_get opened (next_place x.round)) want i rec is.goal_is fits in
@@ -58,13 +57,13 @@ module _ (x : Synchronises) (plan : Known → Plan) (k : Known) where
       let here : slice_get opened x.round.place ≡ Some i = ap (λ b. slice_get opened (cond b 0 x.round.place)) (sym reads) ∙ at in
       let settled = settles (within_it opened x.round.place i here) in
       let round : RoundIs is.inputs opened x.round.place false k = subst (λ b. RoundIs is.inputs opened x.round.place b k) reads (is.round some) in
-      subst (λ (f : Known → Plan). SynchronisesIs y f k' (f k')) (sym is.plan_is)
+      subst (λ (f : Known → Plan). SynchronisesStand y f k' (f k')) (sym is.plan_is)
       (started is.inputs y k' (is.none_ended some) first (takes_first opened (x.round.place + 1) y.round settled)
       (begins is.inputs true (λ k. k.sight) k' (ap has_any (is.none_ended some)) opened (x.round.place + 1) y.round (round_saw is.inputs opened x.round.place i k here rec round) settled))
 
   -- a write
-  pub synchronise_write : (left : Plan) (i : ℕ) (y : Synchronises) → SynchronisesIs x plan k left → GivesWrite x y (Some i) →
-      (rest : List Act) × (left.acts ≡ Writes i (last_from k.seen i) ∷ rest) × SynchronisesIs y plan k (with_acts rest left) × (0 < length (records_from i k.seen))
+  pub synchronise_write : (left : Plan) (i : ℕ) (y : Synchronises) → SynchronisesStand x plan k left → GivesWrite x y (Some i) →
+      (rest : List Act) × (left.acts ≡ Writes i (last_from k.seen i) ∷ rest) × SynchronisesStand y plan k (with_acts rest left) × (0 < length (records_from i k.seen))
   synchronise_write left i y is gives =
       let low = within_it opened x.written i gives.1 in
       let some : 0 < length opened = omega (arith, low) in
@@ -76,8 +75,8 @@ module _ (x : Synchronises) (plan : Known → Plan) (k : Known) where
       ap (λ l. writes (lasts k.seen l)) (drop_at opened x.written i gives.1 ∙ ap (λ w. i ∷ drop w opened) next) in (
         rest,
         is.acts_are ∙ ap (λ b. writes_by b x.written opened k.seen ++ takes_by b x.round.place opened) gives.0 ∙ ap (λ l. l ++ takes_by true x.round.place opened) more,
-        subst (λ r. SynchronisesIs (record y { round = r }) plan k (with_acts rest left)) (sym gives.2)
-            (subst (λ w. SynchronisesIs (record { round = x.round; written = w }) plan k (with_acts rest left)) (sym gives.3) (record {
+        subst (λ r. SynchronisesStand (record y { round = r }) plan k (with_acts rest left)) (sym gives.2)
+            (subst (λ w. SynchronisesStand (record { round = x.round; written = w }) plan k (with_acts rest left)) (sym gives.3) (record {
               inputs = is.inputs;
               plan_is = is.plan_is;
               none_ended = is.none_ended;
@@ -90,8 +89,8 @@ module _ (x : Synchronises) (plan : Known → Plan) (k : Known) where
       )
 
   -- a take, where each was written
-  pub synchronise_take : (left : Plan) (i : ℕ) (r : Round) → SynchronisesIs x plan k left → ((seen : List Pair) → writes_by x.round.taking x.written opened seen ≡ []) → GivesTake x.round r (Some i) →
-      (rest : List Act) × (left.acts ≡ Takes i ∷ rest) × SynchronisesIs (record { round = r; written = x.written }) plan (known_done (Takes i) k) (with_acts rest left) × Unit {0}
+  pub synchronise_take : (left : Plan) (i : ℕ) (r : Round) → SynchronisesStand x plan k left → ((seen : List Pair) → writes_by x.round.taking x.written opened seen ≡ []) → GivesTake x.round r (Some i) →
+      (rest : List Act) × (left.acts ≡ Takes i ∷ rest) × SynchronisesStand (record { round = r; written = x.written }) plan (known_done (Takes i) k) (with_acts rest left) × Unit {0}
   synchronise_take left i r is none gives =
       let low = within_it opened x.round.place i gives.1 in
       let some : 0 < length opened = omega (arith, low) in
@@ -134,13 +133,11 @@ module _ (x : Synchronises) (plan : Known → Plan) (k : Known) where
 -- fewer acts are left
 pub synchronise_falls : (x : Synchronises) (i : ℕ) (r : Round) → GivesTake x.round r (Some i) → acts_count (record { round = r; written = x.written }) < acts_count x
 synchronise_falls x i r gives =
-    let low = within_it x.round.open.items x.round.place i gives.1 in
-    let last = x.round.place + 1 == length x.round.open.items in
-    subst (λ b. count_by r.taking x.written r.place (length r.open.items) < count_by b x.written x.round.place (length x.round.open.items)) (sym gives.0)
-    (subst (λ (o : List ℕ). count_by r.taking x.written r.place (length o) < count_by true x.written x.round.place (length x.round.open.items)) (sym gives.2)
-    (subst (λ p. count_by r.taking x.written p (length x.round.open.items) < count_by true x.written x.round.place (length x.round.open.items)) (sym gives.3)
-    (subst (λ t. count_by t x.written (cond last 0 (x.round.place + 1)) (length x.round.open.items) < count_by true x.written x.round.place (length x.round.open.items)) (sym gives.4) (by last low))))
+    let fewer = takes_fall x.round r i gives in
+    let some : cond r.taking (length x.round.open.items - x.written) 0 ≤ length x.round.open.items - x.written = by r.taking in
+    subst (λ b. acts_count (record { round = r; written = x.written }) < cond b (length x.round.open.items - x.written) 0 + takes_count x.round) (sym gives.0)
+    (subst (λ (o : List ℕ). cond r.taking (length o - x.written) 0 + takes_count r < length x.round.open.items - x.written + takes_count x.round) (sym gives.2) (omega (arith, fewer, some)))
   where
-    by : (b : Bool) → x.round.place < length x.round.open.items → count_by (not b) x.written (cond b 0 (x.round.place + 1)) (length x.round.open.items) < count_by true x.written x.round.place (length x.round.open.items)
-    by true low = omega (arith, low)
-    by false low = omega (arith, low)
+    by : (b : Bool) → cond b (length x.round.open.items - x.written) 0 ≤ length x.round.open.items - x.written
+    by true = omega arith
+    by false = omega arith

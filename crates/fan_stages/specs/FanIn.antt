@@ -13,10 +13,7 @@ abbrev pub input_within : ℕ → ℕ → Option ℕ
 input_within inputs i = if nat_lt i inputs then Some i else None
 
 -- it reads one input, and those before it have ended
-pub record FanInIs (x : FanIn) (plan : Known → Plan) (k : Known) (left : Plan) : Type 0 where
+pub record FanInStands (x : FanIn) (plan : Known → Plan) (k : Known) (left : Plan) : Type 0 where
   pub few : x.inputs < 65536
   pub ended : (i : ℕ) → has k.ends i ≡ nat_lt i x.input
   pub reads : PassesOn x.inputs (λ inputs seen. all_inputs inputs) x.passing (input_within x.inputs x.input) plan k left
-
-abbrev pub FanInStands : FanIn → (Known → Plan) → Known → Plan → Type 0
-FanInStands x plan k left = FanInIs x plan k left

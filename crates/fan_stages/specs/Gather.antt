@@ -18,13 +18,10 @@ pub record IsTurn (can : ℕ → Bool) (all before behind opened : List ℕ) (pl
   pub place_is : place ≡ length (filter can before)
 
 -- it reads the open inputs in turn
-pub record GatherIs (x : Gather) (plan : Known → Plan) (k : Known) (left : Plan) : Type 0 where
+pub record GatherStands (x : Gather) (plan : Known → Plan) (k : Known) (left : Plan) : Type 0 where
   pub inputs : ℕ
   pub before : List ℕ
   pub behind : List ℕ
   pub turn : IsTurn (can_read inputs k.ends) (all_inputs inputs) before behind x.open.items x.place
   pub last_is : behind_last k.seen ≡ length before
   pub reads : PassesOn inputs (λ inputs seen. around (behind_last seen) (all_inputs inputs)) x.passing (turn_of x.open.items x.place) plan k left
-
-abbrev pub GatherStands : Gather → (Known → Plan) → Known → Plan → Type 0
-GatherStands x plan k left = GatherIs x plan k left

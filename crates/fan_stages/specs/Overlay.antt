@@ -16,7 +16,7 @@ abbrev pub overlay_count : Overlays → ℕ
 overlay_count x = (if x.due then 1 else 0) + takes_count x.round
 
 -- it is in a round, and made what is in sight; while it takes, nothing is made any more
-pub record OverlaysIs (x : Overlays) (plan : Known → Plan) (k : Known) (left : Plan) : Type 0 where
+pub record OverlaysStand (x : Overlays) (plan : Known → Plan) (k : Known) (left : Plan) : Type 0 where
   pub inputs : ℕ
   pub plan_is : plan ≡ round_plan inputs (overlaying x.pad)
   pub round : RoundIs inputs x.round.open.items x.round.place x.round.taking k
@@ -24,6 +24,3 @@ pub record OverlaysIs (x : Overlays) (plan : Known → Plan) (k : Known) (left :
   pub made_is : x.due ≡ false → x.made.items ≡ overlaid x.pad (if x.round.taking then [] else records_of k.sight)
   pub acts_are : left.acts ≡ due_write x.due x.made.items ++ takes_left x.round
   pub goal_is : left.goal ≡ look (slice_get x.round.open.items (next_place x.round))
-
-abbrev pub OverlaysStand : Overlays → (Known → Plan) → Known → Plan → Type 0
-OverlaysStand x plan k left = OverlaysIs x plan k left

@@ -16,12 +16,13 @@ pub struct FanIn {
 impl FanIn {
     ghost use Rattle.pipe_model.specs.FanRows.{fanning_in};
     ghost use Rattle.pipe_model.specs.Next.{nothing_known};
+    ghost use Rattle.pipe_model.specs.Row.{Known};
     ghost use Rattle.pipe_model.specs.Shape.{turn_plan};
     ghost use Rattle.fan_stages.specs.FanIn.{FanInStands};
 
     // FANIN of so many inputs, before the first record.
     pub(crate) fn new(inputs: u16) -> FanIn
-        ensures { FanInStands result (λ k. turn_plan inputs fanning_in k k.told) nothing_known (turn_plan inputs fanning_in nothing_known nothing_known.told) }
+        ensures { let plan = λ (k : Known). turn_plan inputs fanning_in k k.told in FanInStands result plan nothing_known (plan nothing_known) }
     {
         FanIn {
             inputs,

@@ -18,12 +18,13 @@ impl Gather {
     ghost use Rattle.std.specs.Prelude.{◌≡◌, IfOk, length, nat_lt, if◌then◌else◌};
     ghost use Rattle.pipe_model.specs.FanRows.{gathering};
     ghost use Rattle.pipe_model.specs.Next.{nothing_known};
+    ghost use Rattle.pipe_model.specs.Row.{Known};
     ghost use Rattle.pipe_model.specs.Shape.{turn_plan};
     ghost use Rattle.fan_stages.specs.Gather.{GatherStands};
 
     // GATHER of so many inputs, before the first record.
     pub(crate) fn new(alloc: Global, inputs: u16) -> Result<Gather, NoMemory>
-        ensures { IfOk result (λ it. GatherStands it (λ k. turn_plan inputs gathering k k.told) nothing_known (turn_plan inputs gathering nothing_known nothing_known.told)) }
+        ensures { let plan = λ (k : Known). turn_plan inputs gathering k k.told in IfOk result (λ it. GatherStands it plan nothing_known (plan nothing_known)) }
     {
         Ok(Gather {
             open: all_inputs(alloc, inputs)?,

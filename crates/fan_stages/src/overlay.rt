@@ -28,7 +28,7 @@ impl Overlays {
 
     // OVERLAY of so many inputs with this pad, before the first record.
     pub(crate) fn new(alloc: Global, inputs: u16, pad: u8) -> Result<Overlays, NoMemory>
-        ensures { IfOk result (λ it. OverlaysStand it (round_plan inputs (overlaying pad)) nothing_known (round_plan inputs (overlaying pad) nothing_known)) }
+        ensures { let plan = round_plan inputs (overlaying pad) in IfOk result (λ it. OverlaysStand it plan nothing_known (plan nothing_known)) }
     {
         let mut round = Round::new(alloc, inputs)?;
         round.settle();
@@ -66,6 +66,7 @@ impl Plans for Overlays {
 
     ghost left = { overlay_count };
 
+    #[inline(always)]
     fn see(&mut self, _alloc: Global, _input: u16, bytes: &[u8]) -> Result<(), NoMemory> {
         lay(&mut self.made, bytes, self.pad)?;
         self.round.see();
@@ -81,6 +82,7 @@ impl Plans for Overlays {
 
     fn end_all(&mut self) {}
 
+    #[inline(always)]
     fn next(&mut self, alloc: Global) -> Result<Option<Act>, NoMemory> {
         if self.due {
             self.due = false;
@@ -93,10 +95,12 @@ impl Plans for Overlays {
         }
     }
 
+    #[inline(always)]
     fn goal(&self) -> Goal {
         self.round.goal()
     }
 
+    #[inline(always)]
     fn looks(&self) -> bool {
         true
     }

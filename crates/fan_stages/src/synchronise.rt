@@ -20,7 +20,7 @@ impl Synchronises {
 
     // SYNCHRONISE of so many inputs, before the first record.
     pub(crate) fn new(alloc: Global, inputs: u16) -> Result<Synchronises, NoMemory>
-        ensures { IfOk result (λ it. SynchronisesStand it (round_plan inputs synchronising) nothing_known (round_plan inputs synchronising nothing_known)) }
+        ensures { let plan = round_plan inputs synchronising in IfOk result (λ it. SynchronisesStand it plan nothing_known (plan nothing_known)) }
     {
         let mut round = Round::new(alloc, inputs)?;
         round.settle();

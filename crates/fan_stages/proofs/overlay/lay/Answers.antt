@@ -1,4 +1,4 @@
-use Rattle.std.proofs.Common.{◌≡◌, ◌<◌, ℕ, ◌+◌, suc, true, false, cond, ◌==◌, get_or, set, length, List, ◌++◌, sym, ◌∙◌, ap, arith, Vec}
+use Rattle.std.proofs.Common.{◌≡◌, ◌<◌, ◌+◌, suc, true, false, cond, ◌==◌, get_or, set, length, ◌++◌, sym, ◌∙◌, ap, arith}
 use Rattle.std.specs.Prelude.{take, drop, min}
 use Rattle.std.proofs.lemmas.Bool.Decides.{nat_tests}
 use Rattle.pipe_model.specs.FanRows.{laid_over}

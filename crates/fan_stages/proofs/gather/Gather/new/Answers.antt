@@ -1,5 +1,4 @@
 use Rattle.std.proofs.Common.{refl}
-use Rattle.fan_stages.proofs.Rounds.{once}
 use Rattle.fan_stages.proofs.Gathers.{gather_first}
 use Rattle.fan_stages.proofs.gather.Gather.new.Goals as goal
 

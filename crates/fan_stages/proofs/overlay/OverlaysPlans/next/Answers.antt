@@ -1,5 +1,6 @@
-use Rattle.std.proofs.Common.{◌≡◌, ◌<◌, ◌+◌, cond, refl, ◌∙◌, ap, arith}
-use Rattle.fan_stages.proofs.Overlaid.{overlay_write, overlay_take, takes_fall}
+use Rattle.std.proofs.Common.{refl, ◌∙◌, ap, arith}
+use Rattle.fan_stages.proofs.Overlaid.{overlay_write, overlay_take}
+use Rattle.fan_stages.proofs.Rounds.{takes_fall}
 use Rattle.fan_stages.proofs.overlay.OverlaysPlans.next.Goals as goal
 
 pub returns-then-self-clause-gives : goal.returns-then-self-clause-gives

@@ -1,7 +1,7 @@
 use Rattle.std.proofs.Common.{◌≡◌, ◌<◌, List, [], sym, subst}
 use Rattle.pipe_model.specs.Row.{Pair}
 use Rattle.fan_stages.specs.declared.synchronise.Synchronises.{Synchronises}
-use Rattle.fan_stages.specs.Synchronise.{writes_by, acts_count, SynchronisesIs}
+use Rattle.fan_stages.specs.Synchronise.{writes_by, acts_count, SynchronisesStand}
 use Rattle.fan_stages.proofs.Synchronised.{synchronise_write, synchronise_take, synchronise_falls}
 use Rattle.fan_stages.proofs.synchronise.SynchronisesPlans.next.Goals as goal
 
@@ -18,5 +18,5 @@ pub returns-in-Some-take-clause-gives : goal.returns-in-Some-take-clause-gives
 returns-in-Some-take-clause-gives c = λ plan k left is.
     let y = c.write.new.self in
     let same = sym c.in_default.ensures.0 in
-    synchronise_take y plan k left c.in-Some-take.input c.take.new.self (subst (λ x. SynchronisesIs x plan k left) same is)
+    synchronise_take y plan k left c.in-Some-take.input c.take.new.self (subst (λ x. SynchronisesStand x plan k left) same is)
     (subst (λ (x : Synchronises). (seen : List Pair) → writes_by x.round.taking x.written x.round.open.items seen ≡ []) same c.in_default.ensures.1) c.in-Some-take.ensures
