@@ -1,3 +1,12 @@
 mod AnyPlans
+pub mod Ascending
 mod Dealing
+pub mod FanIns
+pub mod Gathers
+pub mod Laying
+pub mod Overlaid
+pub mod Passes
+pub mod Rounds
 pub mod Sights
+pub mod Synchronised
+pub mod Turns

@@ -1,21 +1,19 @@
-ghost use Rattle.std.specs.Prelude.{◌≡◌, ◌<◌, ◌+◌, ◌%◌, slice_get, IfOk};
+ghost use Rattle.std.specs.Prelude.{◌≡◌, ◌≤◌, ◌<◌, ◌+◌, ◌%◌, length, slice_get, IfOk};
 ghost use Rattle.pipe_model.specs.FanRows.{connected_from};
 
 use pipe_model::{NoMemory, Rec};
 use stage_steps::{EachRecord, Group, take_waiting};
 use std::alloc::Global;
 
-// The numbers of the connected outputs, ascending. It is `NoMemory` too where one has a number that no stream can have.
+// The numbers of the connected outputs, ascending.
 fn connected(alloc: Global, outputs: &[bool]) -> Result<Vec<u16>, NoMemory>
+    requires { length outputs.now ≤ 64 }
     ensures { IfOk result (λ numbers. numbers.items ≡ connected_from 0 outputs.now) }
 {
     let mut numbers = Vec::new(alloc);
     for (output, is_connected) in outputs.iter().enumerate() {
         if *is_connected {
-            let Ok(number) = u16::try_from(output) else {
-                return Err(NoMemory);
-            };
-            numbers.push(number)?;
+            numbers.push(output as u16)?;
         }
     }
     Ok(numbers)
@@ -31,12 +29,13 @@ pub struct FansOut {
 }
 
 impl FansOut {
-    ghost use Rattle.std.specs.Prelude.{[], IfOk};
+    ghost use Rattle.std.specs.Prelude.{◌≤◌, [], length, IfOk};
     ghost use Rattle.pipe_model.specs.FanRows.{fanning};
     ghost use Rattle.fan_stages.specs.FanOut.{FansOutStand};
 
     // FANOUT with these outputs, before the first record.
     pub(crate) fn new(alloc: Global, outputs: &[bool]) -> Result<FansOut, NoMemory>
+        requires { length outputs.now ≤ 64 }
         ensures { IfOk result (λ it. FansOutStand it (fanning outputs.now).outs [] []) }
     {
         let outputs = connected(alloc, outputs)?;
@@ -106,12 +105,13 @@ fn next_turn(place: usize, places: usize) -> usize
 }
 
 impl Deals {
-    ghost use Rattle.std.specs.Prelude.{[], IfOk};
+    ghost use Rattle.std.specs.Prelude.{◌≤◌, [], length, IfOk};
     ghost use Rattle.pipe_model.specs.FanRows.{dealing};
     ghost use Rattle.fan_stages.specs.FanOut.{DealsStand};
 
     // DEAL with these outputs, before the first record.
     pub(crate) fn new(alloc: Global, outputs: &[bool]) -> Result<Deals, NoMemory>
+        requires { length outputs.now ≤ 64 }
         ensures { IfOk result (λ it. DealsStand it (dealing outputs.now).outs [] []) }
     {
         Ok(Deals {
