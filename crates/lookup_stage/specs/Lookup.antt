@@ -1,6 +1,8 @@
 -- What LOOKUP's plans stand for.
 use Rattle.std.specs.Prelude.{◌≡◌, ◌<◌, ◌+◌, ℕ, Bool, true, List, [], ◌∷◌, ◌++◌, length, map, pos}
 use Rattle.std.specs.List.{list_any}
+use Rattle.std.specs.declared.option.Option.{Option}
+use Rattle.std.specs.declared.option.Option.TheVariants.{Some, None}
 use Rattle.pipe_model.specs.declared.range.Range.{Range}
 use Rattle.pipe_model.specs.Event.Want.{Read}
 use Rattle.pipe_model.specs.Row.{Pair, Act, Goal, Plan, Known}
@@ -45,6 +47,11 @@ IsOfDetail Alone seen = 0 < length (records_from 0 seen)
 IsOfDetail (Both master) seen = 0 < length (records_from 0 seen)
 IsOfDetail _ seen = Unit {0}
 
+-- what is to be done of a detail, by the master with its key
+abbrev pub due_for : Option (List ℕ) → Due
+due_for None = Alone
+due_for (Some master) = Both master
+
 -- all that is left: behind the last detail the masters that no detail matched
 abbrev pub acts_left : Lookup → List Pair → List Act
 acts_left x seen = acts_due x.due (last_from seen 0) ++ writes (all_on 2 x.unmatched)
@@ -67,7 +74,7 @@ IsReading At.Details x k = IsKeeping (1 ∷ []) x k
 IsReading At.Over x k = Unit {0}
 
 -- the value stands for LOOKUP's plans, for what its strand knows, and for what is left of the plan that was made last
-pub record LookupStands (x : Lookup) (plan : Known → Plan) (k : Known) (left : Plan) : Type 0 where
+pub record LookupIs (x : Lookup) (plan : Known → Plan) (k : Known) (left : Plan) : Type 0 where
   pub plan_is : plan ≡ lookup_plan x.of_detail x.of_master
   pub goal_is : left.goal ≡ goal_at x.reading
   pub acts_are : left.acts ≡ acts_left x k.seen

@@ -1,6 +1,11 @@
-//! LOOKUP: it keeps the masters by their keys, and writes each detail with the master of its key.
+//! LOOKUP: it reads the masters and keeps the first of each key, and then writes each detail with the master of its key, and
+//! behind the last detail the masters that none matched.
 #![tactic(auto)]
 
+mod laws;
 mod lookup;
 mod masters;
+mod stage;
 
+pub use laws::lists;
+pub use stage::{LookupStage, is_lookup};

@@ -1,6 +1,6 @@
 ghost use Rattle.std.specs.Prelude.{◌≡◌};
 ghost use Rattle.pipe_model.specs.Next.{nothing_known};
-ghost use Rattle.lookup_stage.specs.Lookup.{lookup_plan, LookupStands};
+ghost use Rattle.lookup_stage.specs.Lookup.{due_for, lookup_plan, LookupIs};
 
 use crate::masters::{Masters, Unmatched};
 use pipe_model::{NoMemory, Out, Range, Rec};
@@ -31,6 +31,16 @@ pub(crate) enum Due {
     Master(Rec),
 }
 
+// What is to be done of a detail, by the master with its key.
+fn due_for(master: Option<Rec>) -> Due
+    ensures { result ≡ due_for master }
+{
+    match master {
+        Some(master) => Due::Both(master),
+        None => Due::Alone,
+    }
+}
+
 /// LOOKUP: details come on input 0 and masters, which it reads first, on input 1.
 #[derive(Drop)]
 pub struct Lookup {
@@ -46,7 +56,7 @@ pub struct Lookup {
 impl Lookup {
     // Before the first record, for keys in these parts of details and masters.
     pub(crate) fn new(alloc: Global, of_detail: Range, of_master: Range) -> Lookup
-        ensures { LookupStands result (lookup_plan of_detail of_master) nothing_known (lookup_plan of_detail of_master nothing_known) }
+        ensures { LookupIs result (lookup_plan of_detail of_master) nothing_known (lookup_plan of_detail of_master nothing_known) }
     {
         Lookup {
             of_detail,
@@ -60,9 +70,9 @@ impl Lookup {
 }
 
 impl Plans for Lookup {
-    ghost use Rattle.lookup_stage.specs.Lookup.{LookupStands, lookup_looks, lookup_left};
+    ghost use Rattle.lookup_stage.specs.Lookup.{LookupIs, lookup_looks, lookup_left};
 
-    ghost stands = { LookupStands };
+    ghost stands = { LookupIs };
 
     ghost is_looking = { lookup_looks };
 
@@ -77,10 +87,7 @@ impl Plans for Lookup {
             }
             Reading::Details | Reading::Over => {
                 let key = part_of(self.of_detail, bytes);
-                self.due = match self.masters.match_key(alloc, key)? {
-                    Some(master) => Due::Both(master),
-                    None => Due::Alone,
-                };
+                self.due = due_for(self.masters.match_key(alloc, key)?);
             }
         }
         Ok(())
