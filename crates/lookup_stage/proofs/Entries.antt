@@ -1,6 +1,6 @@
 -- The entries of a map from keys to masters, as the masters that are kept.
-use Rattle.std.proofs.Common.{◌≡◌, ℕ, zero, suc, ◌<◌, Bool, true, false, cond, ◌||◌, not, nat_eq, if◌then◌else◌, List, [], ◌∷◌, ◌++◌, length, map, refl, ap, ◌∙◌, sym, subst, arith, Some, None, Option, is_some, slice_get, get_or, filter, position, ◌==◌, ◌&&◌}
-use Rattle.std.specs.Prelude.{find, option_map, IfSome}
+use Rattle.std.proofs.Common.{◌≡◌, ℕ, zero, suc, ◌<◌, Bool, true, false, cond, ◌||◌, not, nat_eq, List, [], ◌∷◌, ◌++◌, length, map, refl, ap, ◌∙◌, sym, arith, Some, None, Option, is_some, slice_get, get_or, filter, position, ◌&&◌}
+use Rattle.std.specs.Prelude.{find, option_map}
 use Rattle.std.specs.List.{list_any}
 use Rattle.std.specs.Map.{keys_of, values_of, lookup}
 use Rattle.std.specs.Str.{bytes_eq}
@@ -39,7 +39,7 @@ module _ {K : Type 0} (name : K → List ℕ) where
   left_among [] = refl
   left_among (e ∷ es) =
       (elim e.1.is_matched as (λ b. map (λ (m : Master). m.rec) (cond (not b) (e.1 ∷ filter (λ m. not m.is_matched) (values_of es)) (filter (λ m. not m.is_matched) (values_of es)))
-        ≡ map (λ (entry : Entry). entry.rec) (cond (not b) (entry_of e ∷ filter (λ entry. not entry.is_matched) (entries_of es)) (filter (λ entry. not entry.is_matched) (entries_of es)))) [
+      ≡ map (λ (entry : Entry). entry.rec) (cond (not b) (entry_of e ∷ filter (λ entry. not entry.is_matched) (entries_of es)) (filter (λ entry. not entry.is_matched) (entries_of es)))) [
         | true ↦ left_among es
         | false ↦ ap (λ recs. e.1.rec ∷ recs) (left_among es)
       ])
@@ -49,19 +49,19 @@ module _ {K : Type 0} (name : K → List ℕ) where
     pub any_is : (es : List (K × Master)) → is_some (lookup (λ k. bytes_eq key (name k)) es) ≡ list_any (λ (entry : Entry). is_same entry.key key) (entries_of es)
     any_is [] = refl
     any_is (e ∷ es) = rw (same_turned key (name e.0)) (
-      (elim (is_same (name e.0) key) as (λ b. is_some (cond b (Some e.1) (lookup (λ k. bytes_eq key (name k)) es)) ≡ (b || list_any (λ (entry : Entry). is_same entry.key key) (entries_of es))) [
-        | true ↦ refl
-        | false ↦ any_is es
-      ]))
+        (elim (is_same (name e.0) key) as (λ b. is_some (cond b (Some e.1) (lookup (λ k. bytes_eq key (name k)) es)) ≡ (b || list_any (λ (entry : Entry). is_same entry.key key) (entries_of es))) [
+          | true ↦ refl
+          | false ↦ any_is es
+        ]))
 
     -- the master with the key
     pub record_is : (es : List (K × Master)) → record_of key (entries_of es) ≡ option_map (λ (m : Master). m.rec) (lookup (λ k. bytes_eq key (name k)) es)
     record_is [] = refl
     record_is (e ∷ es) = rw (same_turned key (name e.0)) (
-      (elim (is_same (name e.0) key) as (λ b. option_map (λ (entry : Entry). entry.rec) (cond b (Some (entry_of e)) (find (λ (entry : Entry). is_same entry.key key) (entries_of es))) ≡ option_map (λ (m : Master). m.rec) (cond b (Some e.1) (lookup (λ k. bytes_eq key (name k)) es))) [
-        | true ↦ refl
-        | false ↦ record_is es
-      ]))
+        (elim (is_same (name e.0) key) as (λ b. option_map (λ (entry : Entry). entry.rec) (cond b (Some (entry_of e)) (find (λ (entry : Entry). is_same entry.key key) (entries_of es))) ≡ option_map (λ (m : Master). m.rec) (cond b (Some e.1) (lookup (λ k. bytes_eq key (name k)) es))) [
+          | true ↦ refl
+          | false ↦ record_is es
+        ]))
 
     matched_from : (es : List (K × Master)) (i : ℕ) (d : K) (m : Master) → i < length (keys_of es) → bytes_eq key (name (get_or (keys_of es) i d)) ≡ true → ((k : ℕ) → k < i → bytes_eq key (name (get_or (keys_of es) k d)) ≡ false) →
         slice_get (values_of es) i ≡ Some m → entries_of (set_value_at es i (record m { is_matched = true })) ≡ matched key (entries_of es)
@@ -86,7 +86,7 @@ module _ {K : Type 0} (name : K → List ℕ) where
     new_entry [] absent = refl
     new_entry (e ∷ es) absent =
         rw (same key e.0) (rw (same_turned (name key) (name e.0)) ((elim (is_same (name e.0) (name key)) as (λ b. (b || list_any (λ (entry : Entry). is_same entry.key (name key)) (entries_of es)) ≡ false →
-          entries_of (cond b ((e.0, m) ∷ es) (e ∷ insert_entry eq es key m)) ≡ entry_of e ∷ (entries_of es ++ entry_of (key, m) ∷ [])) [
+        entries_of (cond b ((e.0, m) ∷ es) (e ∷ insert_entry eq es key m)) ≡ entry_of e ∷ (entries_of es ++ entry_of (key, m) ∷ [])) [
           | true ↦ λ is. cc
           | false ↦ λ is. ap (λ rest. entry_of e ∷ rest) (new_entry es is)
         ]) absent))

@@ -1,5 +1,5 @@
 -- Of masters with one key the first, as they come one by one; and what details match of them.
-use Rattle.std.proofs.Common.{◌≡◌, ℕ, Bool, true, false, cond, ◌||◌, ◌&&◌, not, ◌==◌, List, [], ◌∷◌, ◌++◌, map, refl, ap, ◌∙◌, sym, subst, Some, None, Option, filter}
+use Rattle.std.proofs.Common.{◌≡◌, ℕ, Bool, true, false, cond, ◌||◌, ◌&&◌, not, ◌==◌, List, [], ◌∷◌, ◌++◌, map, refl, ap, ◌∙◌, sym, Some, Option, filter}
 use Rattle.std.specs.Prelude.{find, option_map}
 use Rattle.std.specs.List.{list_any}
 use Rattle.std.proofs.lemmas.Bool.{eqb-true}
@@ -128,7 +128,7 @@ module _ (of_master of_detail : Range) where
   masters_more masters rec =
       ap (map (entry_for of_master of_detail [])) (first_more of_master masters rec)
       ∙ (elim (list_any (λ f. agree of_master of_master f rec) (first_of_key of_master masters)) as (λ b. map (entry_for of_master of_detail []) (more of_master b (first_of_key of_master masters) rec) ≡
-          cond b (entries_by of_master of_detail masters []) (entries_by of_master of_detail masters [] ++ entry_for of_master of_detail [] rec ∷ [])) [
+      cond b (entries_by of_master of_detail masters []) (entries_by of_master of_detail masters [] ++ entry_for of_master of_detail [] rec ∷ [])) [
         | true ↦ refl
         | false ↦ map-append (entry_for of_master of_detail []) (first_of_key of_master masters) (rec ∷ [])
       ])
@@ -147,13 +147,13 @@ module _ (of_master of_detail : Range) where
           cond (agree of_master of_detail master detail) (Some master) (found masters) ≡ cond (agree of_master of_detail master detail) (Some master) (found (filter (differs of_master master) (first_of_key of_master masters)))
       by_test true is rest = rw is refl
       by_test false is rest = rw is (rest ∙ sym (find_kept (λ m. agree of_master of_detail m detail) (differs of_master master)
-        (λ m same. ap not (apart_too (part_of of_master master) (part_of of_master m) (part_of of_detail detail) is same)) (first_of_key of_master masters)))
+          (λ m same. ap not (apart_too (part_of of_master master) (part_of of_master m) (part_of of_detail detail) is same)) (first_of_key of_master masters)))
 
   record_found : (detail : List ℕ) (details firsts : Records) → record_of (part_of of_detail detail) (map (entry_for of_master of_detail details) firsts) ≡ find (λ master. agree of_master of_detail master detail) firsts
   record_found detail details [] = refl
   record_found detail details (master ∷ firsts) =
       (elim (agree of_master of_detail master detail) as (λ b. option_map (λ (entry : Entry). entry.rec) (cond b (Some (entry_for of_master of_detail details master)) (find (λ (entry : Entry). is_same entry.key (part_of of_detail detail)) (map (entry_for of_master of_detail details) firsts)))
-        ≡ cond b (Some master) (find (λ master. agree of_master of_detail master detail) firsts)) [
+      ≡ cond b (Some master) (find (λ master. agree of_master of_detail master detail) firsts)) [
         | true ↦ refl
         | false ↦ record_found detail details firsts
       ])
@@ -206,11 +206,11 @@ module _ (of_master of_detail : Range) where
       by_test : (b : Bool) → agree of_master of_detail master detail ≡ b → map (entry_for of_master of_detail (details ++ detail ∷ [])) firsts ≡ matched (part_of of_detail detail) (map (entry_for of_master of_detail details) firsts) →
           map (entry_for of_master of_detail (details ++ detail ∷ [])) (master ∷ firsts) ≡ matched (part_of of_detail detail) (map (entry_for of_master of_detail details) (master ∷ firsts))
       by_test true is rest = rw is (
-        ap (λ e. e ∷ map (entry_for of_master of_detail (details ++ detail ∷ [])) firsts) (entry_matched details detail master is)
-        ∙ ap (λ l. record { key = part_of of_master master; rec = master; is_matched = true } ∷ l) (others_same details detail master is firsts apart.0))
+          ap (λ e. e ∷ map (entry_for of_master of_detail (details ++ detail ∷ [])) firsts) (entry_matched details detail master is)
+          ∙ ap (λ l. record { key = part_of of_master master; rec = master; is_matched = true } ∷ l) (others_same details detail master is firsts apart.0))
       by_test false is rest = rw is (
-        ap (λ e. e ∷ map (entry_for of_master of_detail (details ++ detail ∷ [])) firsts) (entry_same details detail master is)
-        ∙ ap (λ l. entry_for of_master of_detail details master ∷ l) rest)
+          ap (λ e. e ∷ map (entry_for of_master of_detail (details ++ detail ∷ [])) firsts) (entry_same details detail master is)
+          ∙ ap (λ l. entry_for of_master of_detail details master ∷ l) rest)
 
   -- a detail more matches the master with its key
   pub details_more : (masters details : Records) (detail : List ℕ) → entries_by of_master of_detail masters (details ++ detail ∷ []) ≡ matched (part_of of_detail detail) (entries_by of_master of_detail masters details)
@@ -221,8 +221,8 @@ module _ (of_master of_detail : Range) where
   not_matched_are details [] = refl
   not_matched_are details (master ∷ firsts) =
       (elim (list_any (agree of_master of_detail master) details) as (λ b. map (λ (entry : Entry). entry.rec) (cond (not b) (entry_for of_master of_detail details master ∷ filter (λ (entry : Entry). not entry.is_matched) (map (entry_for of_master of_detail details) firsts))
-          (filter (λ (entry : Entry). not entry.is_matched) (map (entry_for of_master of_detail details) firsts)))
-        ≡ cond (not b) (master ∷ unmatched of_master of_detail firsts details) (unmatched of_master of_detail firsts details)) [
+      (filter (λ (entry : Entry). not entry.is_matched) (map (entry_for of_master of_detail details) firsts)))
+      ≡ cond (not b) (master ∷ unmatched of_master of_detail firsts details) (unmatched of_master of_detail firsts details)) [
         | true ↦ not_matched_are details firsts
         | false ↦ ap (λ l. master ∷ l) (not_matched_are details firsts)
       ])

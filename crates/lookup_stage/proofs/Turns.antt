@@ -1,5 +1,5 @@
 -- The plans of LOOKUP's row, as its value makes them.
-use Rattle.std.proofs.Common.{◌≡◌, ◌⊎◌, inl, inr, ◌<◌, ℕ, Bool, true, false, ◌==◌, if◌then◌else◌, List, [], ◌∷◌, ◌++◌, length, refl, sym, ◌∙◌, ap, subst, arith, Some, None, Option, pos}
+use Rattle.std.proofs.Common.{◌≡◌, ◌⊎◌, inl, inr, ◌<◌, ℕ, true, ◌==◌, if◌then◌else◌, List, [], ◌∷◌, ◌++◌, length, refl, sym, ◌∙◌, ap, subst, arith, Some, None, Option, pos}
 use Rattle.std.specs.Prelude.{find}
 use Rattle.std.proofs.lemmas.Bool.{eqb-true}
 use Rattle.std.proofs.lemmas.List.{append-nil, length-append}
@@ -7,7 +7,7 @@ use Rattle.pipe_model.specs.declared.range.Range.{Range}
 use Rattle.pipe_model.specs.Event.{Want, answers}
 use Rattle.pipe_model.specs.Event.Event.{Saw, SawEnd}
 use Rattle.pipe_model.specs.Event.Want.{Read, Done}
-use Rattle.pipe_model.specs.Row.{Pair, Act, Goal, Plan, Known}
+use Rattle.pipe_model.specs.Row.{Pair, Goal, Plan, Known}
 use Rattle.pipe_model.specs.Row.Act.{Takes}
 use Rattle.pipe_model.specs.Row.Goal.{Asks, Ends}
 use Rattle.pipe_model.specs.Shape.{asks, writes, can_read, read_next}
@@ -19,12 +19,11 @@ use Rattle.pipe_model.specs.JoiningRows.{agree, first_of_key, looked_up, looking
 use Rattle.stage_steps.specs.Plans.{Plans, last_from}
 use Rattle.stream_laws.proofs.Streams.{on_both, last_is}
 use Rattle.stream_laws.proofs.FanIns.{hand_causes}
-use Rattle.lookup_stage.specs.declared.lookup.Due.{Due}
-use Rattle.lookup_stage.specs.declared.lookup.Due.TheVariants.{Take, Alone, Both}
+use Rattle.lookup_stage.specs.declared.lookup.Due.TheVariants.{Take}
 use Rattle.lookup_stage.specs.declared.lookup.Lookup.{Lookup}
 use Rattle.lookup_stage.specs.declared.lookup.Reading.TheVariants as At
 use Rattle.lookup_stage.specs.Entry.{Entry}
-use Rattle.lookup_stage.specs.Lookup.{lookup_plan, acts_due, acts_left, due_for, entries_by, goal_at, IsKeeping, IsOfDetail, IsReading, LookupIs}
+use Rattle.lookup_stage.specs.Lookup.{lookup_plan, acts_due, due_for, entries_by, goal_at, IsKeeping, IsOfDetail, IsReading, LookupIs}
 use Rattle.lookup_stage.specs.Masters.{kept, record_of, matched, not_matched}
 use Rattle.lookup_stage.proofs.Firsts.{masters_more, record_is_found, details_more, not_matched_are}
 
@@ -123,8 +122,8 @@ module _ (x : Lookup) where
         let own : records_from 0 k'.seen ≡ records_from 0 k.seen ++ rec ∷ [] = on_both 0 k.seen ((0, rec) ∷ []) in
         let others : records_from 1 k'.seen ≡ records_from 1 k.seen = on_both 1 k.seen ((0, rec) ∷ []) ∙ append-nil (records_from 1 k.seen) in
         let it : find (λ master. agree x.of_master x.of_detail master rec) (records_from 1 k'.seen) ≡ found =
-            ap (find (λ master. agree x.of_master x.of_detail master rec)) others
-            ∙ sym (found_is ∙ ap (record_of (part_of x.of_detail rec)) was.masters_are ∙ record_is_found x.of_master x.of_detail rec (records_from 1 k.seen) (records_from 0 k.seen)) in
+        ap (find (λ master. agree x.of_master x.of_detail master rec)) others
+        ∙ sym (found_is ∙ ap (record_of (part_of x.of_detail rec)) was.masters_are ∙ record_is_found x.of_master x.of_detail rec (records_from 1 k.seen) (records_from 0 k.seen)) in
         subst (λ p. LookupIs with_detail plan k' p)
         (sym (ap (λ (p : Known → Plan). p k') stands.plan_is ∙ plan_at x.of_detail x.of_master k (1 ∷ []) 0 0 rec was.ends_are refl ∙ ap (λ f. record { acts = writes (looked_up rec f) ++ Takes 0 ∷ []; goal = Asks (Read 0) }) it)) (record {
           plan_is = stands.plan_is;
@@ -160,7 +159,7 @@ module _ (x : Lookup) where
         let was : IsKeeping (1 ∷ []) x k = subst (λ r. IsReading r x k) reading stands.reading_is in
         let k' : Known = hears k (SawEnd 0) in
         let left : unmatched' ≡ unmatched x.of_master x.of_detail (first_of_key x.of_master (records_from 1 k.seen)) (records_from 0 k.seen) =
-            left_is ∙ ap not_matched was.masters_are ∙ not_matched_are x.of_master x.of_detail (records_from 0 k.seen) (first_of_key x.of_master (records_from 1 k.seen)) in
+        left_is ∙ ap not_matched was.masters_are ∙ not_matched_are x.of_master x.of_detail (records_from 0 k.seen) (first_of_key x.of_master (records_from 1 k.seen)) in
         subst (λ p. LookupIs at_end plan k' p) (sym (ap (λ (p : Known → Plan). p k') stands.plan_is ∙ plan_over x.of_detail x.of_master k was.ends_are)) (record {
           plan_is = stands.plan_is;
           goal_is = refl;

@@ -9,3 +9,6 @@ mod stage;
 
 pub use laws::lists;
 pub use stage::{LookupStage, is_lookup};
+
+#[cfg(test)]
+mod tests;

@@ -1,4 +1,4 @@
-use Rattle.std.proofs.Common.{refl, sym, ◌∙◌, ap}
+use Rattle.std.proofs.Common.{refl, ◌∙◌, ap}
 use Rattle.lookup_stage.specs.Masters.{not_matched}
 use Rattle.lookup_stage.proofs.Turns.{sees_end}
 use Rattle.lookup_stage.proofs.lookup.LookupPlans.end.Goals as goal
