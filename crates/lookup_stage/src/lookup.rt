@@ -111,11 +111,8 @@ impl Plans for Lookup {
     fn next(&mut self, _alloc: Global) -> Result<Option<Act>, NoMemory> {
         let (act, due) = match mem::replace(&mut self.due, Due::Nothing) {
             Due::Nothing => {
-                return Ok(
-                    self.unmatched
-                        .next()
-                        .map(|rec| Act::Write(2, Out::Fresh(rec))),
-                );
+                let left = self.unmatched.next();
+                return Ok(left.map(|rec| Act::Write(2, Out::Fresh(rec))));
             }
             Due::Take(input) => (Act::Take(input), Due::Nothing),
             Due::Alone => (Act::Write(1, Out::Same(0)), Due::Take(0)),
