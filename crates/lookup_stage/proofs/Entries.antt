@@ -1,10 +1,9 @@
 -- The entries of a map from keys to masters, as the masters that are kept.
-use Rattle.std.proofs.Common.{◌≡◌, ℕ, zero, suc, ◌<◌, Bool, true, false, cond, ◌||◌, not, nat_eq, List, [], ◌∷◌, ◌++◌, length, map, refl, ap, ◌∙◌, sym, arith, Some, None, Option, is_some, slice_get, get_or, filter, position, ◌&&◌}
+use Rattle.std.proofs.Common.{◌≡◌, ℕ, zero, suc, ◌<◌, Bool, true, false, cond, ◌||◌, not, List, [], ◌∷◌, ◌++◌, length, map, refl, ap, ◌∙◌, sym, arith, Some, None, Option, is_some, slice_get, get_or, filter, position}
 use Rattle.std.specs.Prelude.{find, option_map}
 use Rattle.std.specs.List.{list_any}
 use Rattle.std.specs.Map.{keys_of, values_of, lookup}
 use Rattle.std.specs.Str.{bytes_eq}
-use Rattle.std.proofs.lemmas.Cmp.{nat_list_eq_equiv}
 use Rattle.std.proofs.lemmas.List.Quantifiers.{position-Some}
 use Rattle.indexmap.specs.IndexMap.{insert_entry}
 use Rattle.indexmap.specs.Layout.{set_value_at}
@@ -12,16 +11,7 @@ use Rattle.pipe_model.specs.Keys.{is_same}
 use Rattle.lookup_stage.specs.declared.masters.Master.{Master}
 use Rattle.lookup_stage.specs.Entry.{Entry}
 use Rattle.lookup_stage.specs.Masters.{kept, record_of, matched, not_matched}
-
--- keys are the same where their bytes are
-same_bytes : (a b : List ℕ) → bytes_eq a b ≡ is_same a b
-same_bytes [] [] = refl
-same_bytes [] (y ∷ b) = refl
-same_bytes (x ∷ a) [] = refl
-same_bytes (x ∷ a) (y ∷ b) = ap (λ s. nat_eq x y && s) (same_bytes a b)
-
-pub same_turned : (a b : List ℕ) → bytes_eq a b ≡ is_same b a
-same_turned a b = nat_list_eq_equiv.symm a b ∙ same_bytes b a
+use Rattle.lookup_stage.proofs.SameKeys.{same_turned}
 
 -- those of some masters that no detail matched
 abbrev pub left_of : List Master → List (List ℕ)

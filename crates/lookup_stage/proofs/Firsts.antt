@@ -1,8 +1,8 @@
 -- Of masters with one key the first, as they come one by one; and what details match of them.
-use Rattle.std.proofs.Common.{◌≡◌, ℕ, Bool, true, false, cond, ◌||◌, ◌&&◌, not, ◌==◌, List, [], ◌∷◌, ◌++◌, map, refl, ap, ◌∙◌, sym, Some, Option, filter}
+use Rattle.std.proofs.Common.{◌≡◌, ℕ, Bool, true, false, cond, ◌||◌, not, List, [], ◌∷◌, ◌++◌, map, refl, ap, ◌∙◌, sym, Some, Option, filter}
 use Rattle.std.specs.Prelude.{find, option_map}
 use Rattle.std.specs.List.{list_any}
-use Rattle.std.proofs.lemmas.Bool.{eqb-true}
+use Rattle.std.proofs.Math.Bool.{or-true, or-false}
 use Rattle.std.proofs.lemmas.List.{append-nil, map-append}
 use Rattle.std.proofs.lemmas.List.Elements.{filter-append}
 use Rattle.std.proofs.lemmas.List.Folds.{list_any-append}
@@ -12,43 +12,25 @@ use Rattle.pipe_model.specs.Keys.{is_same}
 use Rattle.pipe_model.specs.Ranges.{part_of}
 use Rattle.pipe_model.specs.Shape.{Records}
 use Rattle.pipe_model.specs.JoiningRows.{agree, first_of_key, unmatched}
-use Rattle.pipe_model.proofs.Numbers.{test_same}
-use Rattle.pipe_model.proofs.Truths.{both, neither}
+use Rattle.pipe_model.proofs.Truths.{neither}
 use Rattle.lookup_stage.specs.Entry.{Entry}
 use Rattle.lookup_stage.specs.Lookup.{entry_for, entries_by}
 use Rattle.lookup_stage.specs.Masters.{kept, record_of, matched, not_matched}
+use Rattle.lookup_stage.proofs.SameKeys.{meet, apart_too}
 
--- Keys
-
-key_is : (a b : List ℕ) → is_same a b ≡ true → a ≡ b
-key_is [] [] is = refl
-key_is [] (y ∷ b) is = cc
-key_is (x ∷ a) [] is = cc
-key_is (x ∷ a) (y ∷ b) is = let two = both (x == y) (is_same a b) is in ap (λ z. z ∷ a) (eqb-true x y two.0) ∙ ap (λ l. y ∷ l) (key_is a b two.1)
-
-key_itself : (a : List ℕ) → is_same a a ≡ true
-key_itself [] = refl
-key_itself (x ∷ a) = ap (λ s. s && is_same a a) (test_same x) ∙ key_itself a
-
--- a key that is the same as two others makes them the same
-meet : (a b c : List ℕ) → is_same a c ≡ true → is_same b c ≡ true → is_same a b ≡ true
-meet a b c p q = ap (is_same a) (key_is b c q ∙ sym (key_is a c p)) ∙ key_itself a
+-- Truth values and lists
 
 -- what would make false true doesn't hold
-same_false : (s : Bool) → (s ≡ true → false ≡ true) → s ≡ false
+same_false : (b : Bool) → (b ≡ true → false ≡ true) → b ≡ false
 same_false true would = sym (would refl)
 same_false false would = refl
 
--- a key differs from what another differs from that is the same as it
-apart_too : (a b c : List ℕ) → is_same a c ≡ false → is_same b c ≡ true → is_same a b ≡ false
-apart_too a b c apart same = ap (is_same a) (key_is b c same) ∙ apart
-
--- Lists
-
+-- a test of what a list was made into is one of the list
 any_map : {X Y : Type 0} (p : Y → Bool) (f : X → Y) (xs : List X) → list_any p (map f xs) ≡ list_any (λ x. p (f x)) xs
 any_map p f [] = refl
 any_map p f (x ∷ xs) = ap (λ b. p (f x) || b) (any_map p f xs)
 
+-- what is found is found without some that don't pass
 find_kept : {X : Type 0} (p q : X → Bool) → ((x : X) → p x ≡ true → q x ≡ true) → (xs : List X) → find p (filter q xs) ≡ find p xs
 find_kept p q keeps [] = refl
 find_kept p q keeps (x ∷ xs) = by_test (q x) refl (find_kept p q keeps xs)
@@ -168,24 +150,16 @@ module _ (of_master of_detail : Range) where
       ap (λ b. record { key = part_of of_master master; rec = master; is_matched = b }) (
       list_any-append (agree of_master of_detail master) details (detail ∷ [])
       ∙ ap (λ b. list_any (agree of_master of_detail master) details || (b || false)) apart
-      ∙ or_false (list_any (agree of_master of_detail master) details)
+      ∙ or-false (list_any (agree of_master of_detail master) details)
       )
-    where
-      or_false : (b : Bool) → (b || false) ≡ b
-      or_false true = refl
-      or_false false = refl
 
   entry_matched : (details : Records) (detail master : List ℕ) → agree of_master of_detail master detail ≡ true → entry_for of_master of_detail (details ++ detail ∷ []) master ≡ record { key = part_of of_master master; rec = master; is_matched = true }
   entry_matched details detail master same =
       ap (λ b. record { key = part_of of_master master; rec = master; is_matched = b }) (
       list_any-append (agree of_master of_detail master) details (detail ∷ [])
       ∙ ap (λ b. list_any (agree of_master of_detail master) details || (b || false)) same
-      ∙ or_true (list_any (agree of_master of_detail master) details)
+      ∙ or-true (list_any (agree of_master of_detail master) details)
       )
-    where
-      or_true : (b : Bool) → (b || true) ≡ true
-      or_true true = refl
-      or_true false = refl
 
   -- masters of another key don't match
   others_same : (details : Records) (detail master : List ℕ) → agree of_master of_detail master detail ≡ true → (masters : Records) → list_any (agree of_master of_master master) masters ≡ false →

@@ -2,7 +2,7 @@
 use Rattle.std.proofs.Common.{◌≡◌, ◌⊎◌, inl, inr, ◌<◌, ℕ, true, ◌==◌, if◌then◌else◌, List, [], ◌∷◌, ◌++◌, length, refl, sym, ◌∙◌, ap, subst, arith, Some, None, Option, pos}
 use Rattle.std.specs.Prelude.{find}
 use Rattle.std.proofs.lemmas.Bool.{eqb-true}
-use Rattle.std.proofs.lemmas.List.{append-nil, length-append}
+use Rattle.std.proofs.lemmas.List.{append-nil, length_push}
 use Rattle.pipe_model.specs.declared.range.Range.{Range}
 use Rattle.pipe_model.specs.Event.{Want, answers}
 use Rattle.pipe_model.specs.Event.Event.{Saw, SawEnd}
@@ -36,10 +36,6 @@ want_of (Ends code) = Done code
 front_none : {A : Type 0} (xs ys : List A) → [] ≡ xs ++ ys → xs ≡ []
 front_none [] ys is = refl
 front_none (x ∷ xs) ys is = cc
-
--- one more
-filled : {A : Type 0} (xs : List A) (x : A) → 0 < length (xs ++ x ∷ [])
-filled xs x = omega (arith, length-append xs (x ∷ []))
 
 module _ (of_detail of_master : Range) where
   -- what a record causes
@@ -130,7 +126,7 @@ module _ (x : Lookup) where
           goal_is = sym (ap goal_at reading);
           acts_are = due_acts found rec ∙ ap (acts_due (due_for found)) (sym (last_is 0 k.seen rec)) ∙ sym (append-nil (acts_due (due_for found) (last_from k'.seen 0)))
               ∙ ap (λ us. acts_due (due_for found) (last_from k'.seen 0) ++ writes (all_on 2 us)) (sym was.none_left);
-          came = due_came found k'.seen (subst (λ recs. 0 < length recs) (sym own) (filled (records_from 0 k.seen) rec));
+          came = due_came found k'.seen (subst (λ recs. 0 < length recs) (sym own) (omega (arith, length_push (records_from 0 k.seen) rec)));
           reading_is = subst (λ r. IsReading r with_detail k') (sym reading) (record {
             ends_are = was.ends_are;
             masters_are = matched_is
