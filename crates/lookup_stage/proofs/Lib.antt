@@ -1,0 +1,4 @@
+mod SameKeys
+mod Entries
+mod Firsts
+mod Turns

@@ -1,0 +1,4 @@
+pub mod Entry
+pub mod Masters
+pub mod Lookup
+pub mod LookupStage
