@@ -64,6 +64,12 @@ module _ (lanes : List Lane) (i : ℕ) where
   hidden least lane here hides = kept least (λ other at. (let same : lane ≡ other = cc in subst (λ (l : Lane). in_sight l.at ≡ false) same hides))
 
   module _ (lane : Lane) (here : slice_get lanes i ≡ Some lane) (sees : in_sight lane.at ≡ true) where
+    -- it isn't led by itself
+    itself : (j : ℕ) (other : Lane) → j ≡ i → slice_get lanes j ≡ Some other → leads other.key.items j lane.key.items i ≡ false
+    itself j other same at =
+        let one : lane ≡ other = cc in
+        subst (λ n. leads other.key.items n lane.key.items i ≡ false) (sym same) (subst (λ (l : Lane). leads l.key.items i lane.key.items i ≡ false) one (leads_not_itself lane.key.items i))
+
     -- the first record in sight
     pub first_one : (least : Option ℕ) → least ≡ None → IsLeast lanes i least → IsFirst lanes (i + 1) i
     first_one (Some m) is it = cc
@@ -77,16 +83,6 @@ module _ (lanes : List Lane) (i : ℕ) where
         | inr same ↦ itself j other same at
       ];
     }
-      where
-        itself : (j : ℕ) (other : Lane) → j ≡ i → slice_get lanes j ≡ Some other → leads other.key.items j lane.key.items i ≡ false
-        itself j other same at =
-            let one : lane ≡ other = cc in
-            subst (λ n. leads other.key.items n lane.key.items i ≡ false) (sym same) (subst (λ (l : Lane). leads l.key.items i lane.key.items i ≡ false) one (leads_not_itself lane.key.items i))
-
-    itself : (j : ℕ) (other : Lane) → j ≡ i → slice_get lanes j ≡ Some other → leads other.key.items j lane.key.items i ≡ false
-    itself j other same at =
-        let one : lane ≡ other = cc in
-        subst (λ n. leads other.key.items n lane.key.items i ≡ false) (sym same) (subst (λ (l : Lane). leads l.key.items i lane.key.items i ≡ false) one (leads_not_itself lane.key.items i))
 
     module _ (m : ℕ) (old : Lane) (old_here : slice_get lanes m ≡ Some old) where
       -- it goes before the one that went first

@@ -61,15 +61,12 @@ module _ (range : Range) (lanes : List Lane) (i opened count opened' : ℕ) (all
 
 -- Its input is heard
 
+cons_not : {x : Act} {xs : List Act} → [] ≡ x ∷ xs → ⊥
+cons_not e = cc
+
 was_reading : (due : Due) (i opened : ℕ) (lanes : List Lane) (k : Known) (want : Want) → LeftIs due i opened lanes k (asks want) → IsReading i opened lanes (asks want)
 was_reading Dues.Write i opened lanes k want is = absurd (cons_not (ap (λ (p : Plan). p.acts) is.left_is))
-  where
-    cons_not : {x : Act} {xs : List Act} → [] ≡ x ∷ xs → ⊥
-    cons_not e = cc
 was_reading Dues.Take i opened lanes k want is = absurd (cons_not (ap (λ (p : Plan). p.acts) is.left_is))
-  where
-    cons_not : {x : Act} {xs : List Act} → [] ≡ x ∷ xs → ⊥
-    cons_not e = cc
 was_reading Dues.Read i opened lanes k want is = is
 was_reading Dues.End i opened lanes k want is = absurd (asks_not (ap (λ (p : Plan). p.goal) is))
   where

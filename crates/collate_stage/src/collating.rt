@@ -14,7 +14,7 @@ pub enum Collating {
     Merge(Merge),
 }
 
-// How many inputs a strand has. There are never more than a number of an input says.
+// How many inputs a strand has. More than an input's number can count would be want of memory.
 fn inputs_of(strand: &Strand) -> Result<u16, NoMemory>
     ensures { IfOk result (λ count. count ≡ length strand.now.ports.has_input) }
 {

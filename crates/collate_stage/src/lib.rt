@@ -10,3 +10,6 @@ mod stage;
 
 pub use laws::lists;
 pub use stage::{CollateStage, is_collate};
+
+#[cfg(test)]
+mod tests;
