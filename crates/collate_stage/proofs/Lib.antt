@@ -1,0 +1,9 @@
+pub mod Numbered
+pub mod Sights
+pub mod KeyOrder
+pub mod LaneSteps
+pub mod LeastLanes
+pub mod MergeRounds
+pub mod MergeSteps
+pub mod CollateRounds
+pub mod CollateSteps

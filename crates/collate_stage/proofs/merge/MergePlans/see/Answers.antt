@@ -1,0 +1,7 @@
+use Rattle.collate_stage.proofs.MergeSteps.{saw_plans}
+use Rattle.collate_stage.proofs.merge.MergePlans.see.Goals as goal
+
+pub returns-clause-plans : goal.returns-clause-plans
+returns-clause-plans c =
+    saw_plans c.args.self.now c.go_on.new.self c.show_at.new.lanes.items c.go_on.ensures.range c.go_on.ensures.lanes c.go_on.ensures.count c.go_on.ensures.plans
+    c.args.input c.args.bytes.now c.part_of.result.now c.part_of.ensures c.in_ok-show_at.ensures

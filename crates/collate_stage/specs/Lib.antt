@@ -1,0 +1,5 @@
+pub mod Lanes
+pub mod Collation
+pub mod Merging
+pub mod Plans
+pub mod Stage

@@ -1,0 +1,64 @@
+ghost use Rattle.std.specs.Prelude.{◌≡◌};
+ghost use Rattle.collate_stage.specs.Plans.{is_collate};
+
+use crate::collating::Collating;
+use pipe_model::{Kind, NoMemory, Seen, Strand, Want};
+use stage_steps::{Planned, Stage};
+use std::alloc::Global;
+
+/// A stage COLLATE or MERGE.
+#[derive(Drop)]
+pub struct CollateStage {
+    stage: Planned<Collating>,
+}
+
+/// Whether the kind is COLLATE or MERGE.
+pub fn is_collate(kind: &Kind) -> bool
+    ensures { result ≡ is_collate kind.now }
+{
+    matches!(kind, Kind::Collate { .. } | Kind::Merge(_))
+}
+
+impl CollateStage {
+    ghost use Rattle.std.specs.Prelude.{◌≡◌, [], true, IfOk};
+    ghost use Rattle.collate_stage.specs.Plans.{is_collate};
+    ghost use Rattle.collate_stage.specs.Stage.{CollateStands};
+
+    /// The stage of a strand, before its first event.
+    pub fn new(alloc: Global, strand: &Strand) -> Result<CollateStage, NoMemory>
+        requires { is_collate strand.now.kind ≡ true }
+        ensures { IfOk result (λ stage. CollateStands stage strand.now []) }
+    {
+        let plans = Collating::new(alloc, strand)?;
+        Ok(CollateStage {
+            stage: Planned::new(alloc, plans, strand.ports.has_output.as_slice())?,
+        })
+    }
+}
+
+impl Stage for CollateStage {
+    ghost use Rattle.std.specs.Prelude.{IfOk};
+    ghost use Rattle.stage_steps.specs.Coroutine.{Resumes};
+    ghost use Rattle.collate_stage.specs.Stage.{CollateStands};
+
+    ghost stands = { CollateStands };
+
+    fn first(&self) -> Want {
+        self.stage.first()
+    }
+
+    // It may be told any event; what isn't answered ends it.
+    fn resume(&mut self, alloc: Global, seen: Seen, bytes: &[u8]) -> Result<Want, NoMemory>
+        ensures { IfOk result (λ asked. Resumes CollateStands self.old self.new seen bytes.now asked) }
+    {
+        self.stage.resume(alloc, seen, bytes)
+    }
+
+    fn looks(&self) -> bool {
+        self.stage.looks()
+    }
+
+    fn kept(&self) -> &[u8] {
+        self.stage.kept()
+    }
+}
