@@ -1,4 +1,4 @@
-ghost use Rattle.std.specs.Prelude.{◌≡◌, length, IfOk};
+ghost use Rattle.std.specs.Prelude.{◌≡◌, ◌≤◌, length};
 
 use crate::collate::Collate;
 use crate::merge::Merge;
@@ -14,23 +14,22 @@ pub enum Collating {
     Merge(Merge),
 }
 
-// How many inputs a strand has. More than an input's number can count would be want of memory.
-fn inputs_of(strand: &Strand) -> Result<u16, NoMemory>
-    ensures { IfOk result (λ count. count ≡ length strand.now.ports.has_input) }
+// How many inputs a strand has.
+fn inputs_of(strand: &Strand) -> u16
+    requires { length strand.now.ports.has_input ≤ 64 }
+    ensures { result ≡ length strand.now.ports.has_input }
 {
-    match u16::try_from(strand.ports.has_input.as_slice().len()) {
-        Ok(count) => Ok(count),
-        Err(_) => Err(NoMemory),
-    }
+    strand.ports.has_input.as_slice().len() as u16
 }
 
 impl Collating {
-    ghost use Rattle.std.specs.Prelude.{◌≡◌, true, IfOk};
+    ghost use Rattle.std.specs.Prelude.{◌≡◌, ◌≤◌, true, length, IfOk};
     ghost use Rattle.collate_stage.specs.Plans.{is_collate, ArePlansOf};
 
     // The plans of a strand, before its first event.
     pub(crate) fn new(alloc: Global, strand: &Strand) -> Result<Collating, NoMemory>
-        requires { is_collate strand.now.kind ≡ true }
+        requires kind { is_collate strand.now.kind ≡ true }
+        requires few { length strand.now.ports.has_input ≤ 64 }
         ensures { IfOk result (λ plans. ArePlansOf strand.now plans) }
     {
         match &strand.kind {
@@ -38,7 +37,7 @@ impl Collating {
                 Ok(Collating::Collate(Collate::new(alloc, *masters, *details)))
             }
             Kind::Merge(range) => {
-                let count = inputs_of(strand)?;
+                let count = inputs_of(strand);
                 Ok(Collating::Merge(Merge::new(alloc, *range, count)?))
             }
             _ => unreachable!(),

@@ -20,13 +20,14 @@ pub fn is_collate(kind: &Kind) -> bool
 }
 
 impl CollateStage {
-    ghost use Rattle.std.specs.Prelude.{◌≡◌, [], true, IfOk};
+    ghost use Rattle.std.specs.Prelude.{◌≡◌, ◌≤◌, [], true, length, IfOk};
     ghost use Rattle.collate_stage.specs.Plans.{is_collate};
     ghost use Rattle.collate_stage.specs.Stage.{CollateStands};
 
-    /// The stage of a strand, before its first event.
+    /// The stage of a strand, before its first event. No stage of a net has more inputs than 64.
     pub fn new(alloc: Global, strand: &Strand) -> Result<CollateStage, NoMemory>
-        requires { is_collate strand.now.kind ≡ true }
+        requires kind { is_collate strand.now.kind ≡ true }
+        requires few { length strand.now.ports.has_input ≤ 64 }
         ensures { IfOk result (λ stage. CollateStands stage strand.now []) }
     {
         let plans = Collating::new(alloc, strand)?;

@@ -17,5 +17,5 @@ returns-in_ok-new-in-Merge c =
       row_is = ap (λ kind. row_of s (line_of kind).shape) c.in-Merge.is;
       keeps_nothing = ap (λ kind. keeping_by (line_of kind).shape) c.in-Merge.is;
       looks_are = sym (ap (λ kind. (line_of kind).looks) c.in-Merge.is);
-      begins = subst (λ n. MergeIs plans (round_plan n (merging range)) nothing_known (round_plan n (merging range) nothing_known)) c.in_ok-count-in-Merge.ensures c.in_ok-new-in-Merge.ensures;
+      begins = subst (λ n. MergeIs plans (round_plan n (merging range)) nothing_known (round_plan n (merging range) nothing_known)) c.inputs_of-count.ensures c.in_ok-new-in-Merge.ensures;
     }
