@@ -1,6 +1,9 @@
+pub mod Fan
 pub mod FanAny
+pub mod FanEach
 pub mod FanIn
 pub mod FanOut
+pub mod FanPlans
 pub mod Gather
 pub mod Overlay
 pub mod Passing

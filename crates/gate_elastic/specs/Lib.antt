@@ -1,3 +1,4 @@
 pub mod Buffers
 pub mod Gate
 pub mod GateLists
+pub mod Gates

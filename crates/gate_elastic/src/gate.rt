@@ -1,18 +1,21 @@
 use crate::buffer::Buffers;
 use crate::gate_lists::GateLists;
+use crate::gate_plan::Gates;
 use pipe_model::{Kind, NoMemory, Seen, Strand, Want};
-use stage_steps::{Copies, Listed, Order, Stage};
+use stage_steps::{Copies, Listed, Order, Planned, Stage};
 use std::alloc::Global;
 
 /// A stage that passes on what it reads.
 #[derive(Drop)]
 pub enum GateStage {
     Lists(Listed<GateLists>),
+    Gate(Planned<Gates>),
 }
 
 impl GateStage {
     ghost use Rattle.std.specs.Prelude.{◌≡◌, true, [], IfOk};
     ghost use Rattle.pipe_model.specs.declared.kind.Kind.{Kind as KindIs};
+    ghost use Rattle.pipe_model.specs.declared.kind.Kind.TheVariants as Kinds;
     ghost use Rattle.pipe_model.specs.declared.net.Strand.{Strand as StrandIs};
     ghost use Rattle.gate_elastic.specs.Gate.{is_gate, GateStands};
     ghost use Rattle.gate_elastic.specs.GateLists.{AreListsOf};
@@ -28,6 +31,13 @@ impl GateStage {
         Ok(GateStage::Lists(Listed::new(alloc, lists, Order::TakesFirst, outputs, false)?))
     }
 
+    // GATE with these connected outputs, before its first event.
+    pub(crate) fn of_gate(alloc: Global, outputs: &[bool]) -> Result<GateStage, NoMemory>
+        ensures { IfOk result (λ stage. (s : StrandIs) → s.kind ≡ Kinds.Gate → s.ports.has_output ≡ outputs.now → GateStands stage s []) }
+    {
+        Ok(GateStage::Gate(Planned::new(alloc, Gates::new(), outputs)?))
+    }
+
     /// The stage of a strand, before its first event.
     pub fn new(alloc: Global, strand: &Strand) -> Result<GateStage, NoMemory>
         requires { is_gate strand.now.kind ≡ true }
@@ -41,6 +51,7 @@ impl GateStage {
             Kind::Buffer => {
                 GateStage::of_lists(alloc, GateLists::Buffer(Buffers::new(alloc)), outputs)
             }
+            Kind::Gate => GateStage::of_gate(alloc, outputs),
             _ => unreachable!(),
         }
     }
@@ -56,6 +67,7 @@ impl Stage for GateStage {
     fn first(&self) -> Want {
         match self {
             GateStage::Lists(stage) => stage.first(),
+            GateStage::Gate(stage) => stage.first(),
         }
     }
 
@@ -65,18 +77,21 @@ impl Stage for GateStage {
     {
         match self {
             GateStage::Lists(stage) => stage.resume(alloc, seen, bytes),
+            GateStage::Gate(stage) => stage.resume(alloc, seen, bytes),
         }
     }
 
     fn looks(&self) -> bool {
         match self {
             GateStage::Lists(stage) => stage.looks(),
+            GateStage::Gate(stage) => stage.looks(),
         }
     }
 
     fn kept(&self) -> &[u8] {
         match self {
             GateStage::Lists(stage) => stage.kept(),
+            GateStage::Gate(stage) => stage.kept(),
         }
     }
 }

@@ -7,5 +7,5 @@ use pipe_model::Kind;
 pub fn is_gate(kind: &Kind) -> bool
     ensures { result ≡ is_gate kind.now }
 {
-    matches!(kind, Kind::Copy | Kind::Buffer)
+    matches!(kind, Kind::Copy | Kind::Buffer | Kind::Gate)
 }

@@ -20,7 +20,7 @@ use Rattle.pipe_cli.specs.Meaning.{fed_size, file_size}
 
 -- the CONSOLE that reads is built, whatever its bytes
 reader_built : (bytes : List ℕ) → IsBuilt (ConsoleIn bytes)
-reader_built bytes = record { stage = refl; whole = refl; ordered = refl; fileless = refl }
+reader_built bytes = record { stage = refl; whole = refl; fileless = refl }
 
 -- a kind that is fed is built as before
 kind_built : (input : List ℕ) (files : Files) (kind : Kind) → IsBuilt kind → IsBuilt (fed_kind input files kind)

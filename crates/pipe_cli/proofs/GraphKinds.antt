@@ -21,7 +21,7 @@ use Rattle.net_graph.specs.Stands.{Stand, stages_of, stands_of}
 kind_built : (name : List ℕ) (arg : ArgText) (first : Bool) (kind : Kind) → IsKind name arg first kind → IsBuilt kind
 kind_built name arg first kind is =
     let typed = typed_kind name arg first kind is in
-    record { stage = known_is_built first kind typed.named; whole = typed.plain.whole; ordered = typed.plain.ordered; fileless = typed.plain.fileless }
+    record { stage = known_is_built first kind typed.named; whole = typed.plain.whole; fileless = typed.plain.fileless }
 
 -- so are the kinds of strands
 strands_built : (stands : List Stand) (links : List Link) (stage : ℕ) (stages : List Stand) (kinds : List Kind) → AreOutcomes stages (map (λ kind. Ok kind) kinds) →

@@ -4,8 +4,7 @@ use Rattle.std.specs.declared.option.Option.TheVariants.{Some}
 use Rattle.pipe_model.specs.declared.kind.Kind.{Kind}
 use Rattle.pipe_model.specs.declared.net.Net.{Net}
 use Rattle.pipe_model.specs.declared.net.Strand.{Strand}
-use Rattle.pipe_model.specs.Form.{meeting_by, parting_by, keeping_by, is_filed}
-use Rattle.pipe_model.specs.Form.Meeting.{Ordered}
+use Rattle.pipe_model.specs.Form.{parting_by, keeping_by, is_filed}
 use Rattle.pipe_model.specs.Form.Parting.{Whole}
 use Rattle.pipe_model.specs.Shape.{Keeping}
 use Rattle.pipe_model.specs.State.{Who, nothing_yet, strand_at}
@@ -16,11 +15,10 @@ use Rattle.stage_table.specs.BuiltIn.{is_built_in}
 abbrev pub keeping_of : Kind → Keeping
 keeping_of kind = keeping_by (line_of kind).shape
 
--- there is a stage of the kind, of one strand, which doesn't take what comes first and keeps no file
+-- there is a stage of the kind, of one strand, which keeps no file
 pub record IsBuilt (kind : Kind) : Type 0 where
   pub stage : is_built_in kind ≡ true
   pub whole : parting_by (line_of kind).shape ≡ Whole
-  pub ordered : meeting_by (line_of kind).shape ≡ Ordered
   pub fileless : is_filed (keeping_of kind) ≡ false
 
 -- the strands of the net are of such kinds

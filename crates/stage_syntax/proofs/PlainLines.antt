@@ -1,9 +1,8 @@
--- What the line of a kind that can be typed says today: one strand that looks at its inputs in an order of its own and
--- keeps no file, an output, and an input where it isn't first.
+-- What the line of a kind that can be typed says today: one strand, which keeps no file, an output, and an input where it
+-- isn't first.
 use Rattle.std.proofs.Common.{◌≡◌, ℕ, zero, suc, ◌<◌, Bool, true, false, not, ◌&&◌, ◌||◌, nat_lt, refl, arith}
 use Rattle.std.proofs.lemmas.Bool.{not-true}
-use Rattle.pipe_model.specs.Form.{Meeting, Parting, inputs_by, is_filed, keeping_by, meeting_by, parting_by}
-use Rattle.pipe_model.specs.Form.Meeting.{Ordered, Braided, Loose}
+use Rattle.pipe_model.specs.Form.{Parting, inputs_by, is_filed, keeping_by, parting_by}
 use Rattle.pipe_model.specs.Form.Parting.{Whole, Queued, Streamed}
 use Rattle.pipe_model.specs.Table.{Line, outputs_by}
 use Rattle.pipe_model.proofs.Truths.{both}
@@ -13,19 +12,13 @@ is_whole Whole = true
 is_whole Queued = false
 is_whole Streamed = false
 
-abbrev is_ordered : Meeting → Bool
-is_ordered Ordered = true
-is_ordered Braided = false
-is_ordered Loose = false
-
 -- as a test
 abbrev pub is_plain : Bool → Line → Bool
 is_plain first l =
-    is_whole (parting_by l.shape) && (is_ordered (meeting_by l.shape) && (not (is_filed (keeping_by l.shape)) && (nat_lt 0 (outputs_by l) && (nat_lt 0 (inputs_by l.shape) || first))))
+    is_whole (parting_by l.shape) && (not (is_filed (keeping_by l.shape)) && (nat_lt 0 (outputs_by l) && (nat_lt 0 (inputs_by l.shape) || first)))
 
 pub record IsPlain (first : Bool) (l : Line) : Type 0 where
   pub whole : parting_by l.shape ≡ Whole
-  pub ordered : meeting_by l.shape ≡ Ordered
   pub fileless : is_filed (keeping_by l.shape) ≡ false
   pub output : 0 < outputs_by l
   pub input : first ≡ false → 0 < inputs_by l.shape
@@ -34,11 +27,6 @@ whole : (parting : Parting) → is_whole parting ≡ true → parting ≡ Whole
 whole Whole is = refl
 whole Queued is = cc
 whole Streamed is = cc
-
-ordered : (meeting : Meeting) → is_ordered meeting ≡ true → meeting ≡ Ordered
-ordered Ordered is = refl
-ordered Braided is = cc
-ordered Loose is = cc
 
 some : (n : ℕ) → nat_lt 0 n ≡ true → 0 < n
 some zero is = cc
@@ -52,13 +40,11 @@ fed first (suc n) is later = omega arith
 pub plain_line : (first : Bool) (l : Line) → is_plain first l ≡ true → IsPlain first l
 plain_line first l is =
     let one = both (is_whole (parting_by l.shape)) _ is in
-    let two = both (is_ordered (meeting_by l.shape)) _ one.1 in
-    let three = both (not (is_filed (keeping_by l.shape))) _ two.1 in
-    let four = both (nat_lt 0 (outputs_by l)) _ three.1 in
+    let two = both (not (is_filed (keeping_by l.shape))) _ one.1 in
+    let three = both (nat_lt 0 (outputs_by l)) _ two.1 in
     record {
       whole = whole (parting_by l.shape) one.0;
-      ordered = ordered (meeting_by l.shape) two.0;
-      fileless = not-true (is_filed (keeping_by l.shape)) three.0;
-      output = some (outputs_by l) four.0;
-      input = fed first (inputs_by l.shape) four.1;
+      fileless = not-true (is_filed (keeping_by l.shape)) two.0;
+      output = some (outputs_by l) three.0;
+      input = fed first (inputs_by l.shape) three.1;
     }

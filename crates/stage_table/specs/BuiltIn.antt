@@ -1,5 +1,5 @@
 -- The kinds of the built-in stages, and what these stand for.
-use Rattle.std.specs.Prelude.{Bool, ◌||◌, List}
+use Rattle.std.specs.Prelude.{◌≤◌, Bool, ◌||◌, List, length}
 use Rattle.pipe_model.specs.declared.net.Strand.{Strand}
 use Rattle.pipe_model.specs.declared.kind.Kind.{Kind}
 use Rattle.pipe_model.specs.Event.{Event}
@@ -10,12 +10,21 @@ use Rattle.unique_sort.specs.OrderStage.{is_order, UniqueStands}
 use Rattle.block_stages.specs.Block.{is_block, BlockStands}
 use Rattle.specs_stage.specs.SpecsStage.{is_specs, SpecsStageStands}
 use Rattle.gate_elastic.specs.Gate.{is_gate, GateStands}
+use Rattle.fan_stages.specs.Fan.{is_fan, FanStands}
+use Rattle.lookup_stage.specs.LookupStage.{is_lookup, LookupStands}
+use Rattle.collate_stage.specs.Plans.{is_collate}
+use Rattle.collate_stage.specs.Stage.{CollateStands}
 use Rattle.stage_table.specs.declared.built_in.BuiltIn.{BuiltIn}
-use Rattle.stage_table.specs.declared.built_in.BuiltIn.TheVariants.{Device, Select, Edit, Order, Block, Specs, Gate}
+use Rattle.stage_table.specs.declared.built_in.BuiltIn.TheVariants.{Device, Select, Edit, Order, Block, Specs, Gate, Fan, Lookup, Collate}
 
 -- a family has the kind
 abbrev pub is_built_in : Kind → Bool
-is_built_in kind = is_device kind || (is_select kind || (is_edit kind || (is_order kind || (is_block kind || (is_specs kind || is_gate kind)))))
+is_built_in kind = is_device kind || (is_select kind || (is_edit kind || (is_order kind || (is_block kind || (is_specs kind || (is_gate kind || (is_fan kind || (is_lookup kind || is_collate kind))))))))
+
+-- so many inputs and outputs at most as a stage of a net may have
+pub record HasFewPlaces (s : Strand) : Type 0 where
+  pub inputs : length s.ports.has_input ≤ 64
+  pub outputs : length s.ports.has_output ≤ 64
 
 -- the stage stands for this history of this strand
 abbrev pub BuiltInStands : BuiltIn → Strand → List Event → Type 0
@@ -26,3 +35,6 @@ BuiltInStands (Order x) s h = UniqueStands x.value s h
 BuiltInStands (Block x) s h = BlockStands x.value s h
 BuiltInStands (Specs x) s h = SpecsStageStands x.value s h
 BuiltInStands (Gate x) s h = GateStands x.value s h
+BuiltInStands (Fan x) s h = FanStands x.value s h
+BuiltInStands (Lookup x) s h = LookupStands x.value s h
+BuiltInStands (Collate x) s h = CollateStands x.value s h

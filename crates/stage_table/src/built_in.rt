@@ -1,7 +1,10 @@
 use block_stages::BlockStage;
+use collate_stage::CollateStage;
 use device_stages::DeviceStage;
 use edit_stages::EditStage;
+use fan_stages::FanStage;
 use gate_elastic::GateStage;
+use lookup_stage::LookupStage;
 use pipe_model::{NoMemory, Seen, Want};
 use select_stages::SelectStage;
 use specs_stage::SpecsStage;
@@ -20,6 +23,9 @@ pub enum BuiltIn {
     Block(Box<BlockStage>),
     Specs(Box<SpecsStage>),
     Gate(Box<GateStage>),
+    Fan(Box<FanStage>),
+    Lookup(Box<LookupStage>),
+    Collate(Box<CollateStage>),
 }
 
 impl Stage for BuiltIn {
@@ -38,6 +44,9 @@ impl Stage for BuiltIn {
             BuiltIn::Block(stage) => stage.first(),
             BuiltIn::Specs(stage) => stage.first(),
             BuiltIn::Gate(stage) => stage.first(),
+            BuiltIn::Fan(stage) => stage.first(),
+            BuiltIn::Lookup(stage) => stage.first(),
+            BuiltIn::Collate(stage) => stage.first(),
         }
     }
 
@@ -54,6 +63,9 @@ impl Stage for BuiltIn {
             BuiltIn::Block(stage) => (**stage).resume(alloc, seen, bytes),
             BuiltIn::Specs(stage) => (**stage).resume(alloc, seen, bytes),
             BuiltIn::Gate(stage) => (**stage).resume(alloc, seen, bytes),
+            BuiltIn::Fan(stage) => (**stage).resume(alloc, seen, bytes),
+            BuiltIn::Lookup(stage) => (**stage).resume(alloc, seen, bytes),
+            BuiltIn::Collate(stage) => (**stage).resume(alloc, seen, bytes),
         }
     }
 
@@ -66,6 +78,9 @@ impl Stage for BuiltIn {
             BuiltIn::Block(stage) => stage.looks(),
             BuiltIn::Specs(stage) => stage.looks(),
             BuiltIn::Gate(stage) => stage.looks(),
+            BuiltIn::Fan(stage) => stage.looks(),
+            BuiltIn::Lookup(stage) => stage.looks(),
+            BuiltIn::Collate(stage) => stage.looks(),
         }
     }
 
@@ -78,6 +93,9 @@ impl Stage for BuiltIn {
             BuiltIn::Block(stage) => stage.kept(),
             BuiltIn::Specs(stage) => stage.kept(),
             BuiltIn::Gate(stage) => stage.kept(),
+            BuiltIn::Fan(stage) => stage.kept(),
+            BuiltIn::Lookup(stage) => stage.kept(),
+            BuiltIn::Collate(stage) => stage.kept(),
         }
     }
 }

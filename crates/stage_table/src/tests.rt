@@ -6,7 +6,8 @@ fn some_kinds_are_built_in(rt: HostRuntime) {
     assert!(rt; is_built_in(&Kind::Hole));
     assert!(rt; is_built_in(&Kind::Reverse));
     assert!(rt; is_built_in(&Kind::Copy));
-    assert!(rt; !is_built_in(&Kind::FanOut));
+    assert!(rt; is_built_in(&Kind::FanOut));
+    assert!(rt; !is_built_in(&Kind::Elastic));
 }
 
 // Calls for this type show that its values can be moved to another thread.
