@@ -1,41 +1,53 @@
 -- On which streams a strand may go on.
-use Rattle.std.proofs.Common.{◌≡◌, ◌≢◌, ◌⊎◌, inl, inr, ℕ, ◌+◌, ◌≤◌, ◌<◌, true, false, ◌&&◌, ◌==◌, length, ◌∙◌, ap, arith, None, slice_get}
-use Rattle.std.proofs.lemmas.Bool.{ne_eqb, cases_lt}
-use Rattle.std.proofs.lemmas.Option.{slice_get_past}
-use Rattle.pipe_model.proofs.Numbers.{equal_or_not}
+use Rattle.std.proofs.Common.{◌≡◌, ℕ, zero, suc, ◌<◌, Bool, true, false, ◌&&◌, ◌==◌, ◌∙◌, ap, arith, refl, Option, Some, None, is_some, slice_get}
+use Rattle.std.specs.Prelude.{if◌then◌else◌}
+use Rattle.std.proofs.lemmas.Bool.{ne_eqb}
+use Rattle.pipe_model.specs.declared.step.Seen.TheVariants.{Saw}
 use Rattle.run_desk.specs.declared.seat.Ask.{Ask}
 use Rattle.run_desk.specs.declared.seat.Ask.TheVariants as Now
 use Rattle.run_desk.specs.Desk.{DeskState}
 use Rattle.run_desk.specs.Telling as Telling
 
--- a strand that asks for any goes on on none behind its inputs
-past_inputs : (d : DeskState) (s j : ℕ) (a : Ask) → Telling.is_wide a ≡ true → j ≢ 0 → length (Telling.inputs_of (slice_get d.doors s)) ≤ j → Telling.seen_by d s j a ≡ None
-past_inputs d s j Now.Any w p m =
-    ap (λ z. Telling.any_seen j (Telling.shows (Telling.through d.wires (Telling.joined z))) ((j == 0) && Telling.all_over d s)) (slice_get_past (Telling.inputs_of (slice_get d.doors s)) j m)
-    ∙ ap (λ z. Telling.any_seen j false (z && Telling.all_over d s)) (ne_eqb j 0 p)
-past_inputs d s j Now.Gate w p m =
-    ap (λ z. Telling.read_seen j (Telling.shows (Telling.through d.wires (Telling.joined z))) ((j == 0) && Telling.is_over (Telling.through d.wires (Telling.joined z)))) (slice_get_past (Telling.inputs_of (slice_get d.doors s)) j m)
-    ∙ ap (λ z. Telling.read_seen j false (z && true)) (ne_eqb j 0 p)
-past_inputs d s j Now.Nothing w p m = cc
-past_inputs d s j (Now.Commit l) w p m = cc
-past_inputs d s j (Now.Read i) w p m = cc
-past_inputs d s j (Now.Take i) w p m = cc
-past_inputs d s j (Now.Write o) w p m = cc
-past_inputs d s j Now.Primed w p m = cc
-past_inputs d s j Now.Issue w p m = cc
-past_inputs d s j (Now.Join u) w p m = cc
-past_inputs d s j (Now.Cut i) w p m = cc
-past_inputs d s j (Now.Done c) w p m = cc
-
-pub wide_none : (d : DeskState) (s k : ℕ) → Telling.is_wide (Telling.ask_at d s) ≡ true → 0 < k → length (Telling.inputs_of (slice_get d.doors s)) ≤ k → ((j : ℕ) → j < k → Telling.seen_at d s j ≡ None) → (j : ℕ) → Telling.seen_at d s j ≡ None
-wide_none d s k wide some all before j = go (cases_lt j k)
+-- behind its first input a strand that asks for any is told of a record at hand, and of nothing else
+behind_first : (d : DeskState) (s j : ℕ) (a : Ask) → Telling.is_wide a ≡ true → 0 < j → Telling.seen_by d s j a ≡ (if Telling.shows (Telling.wire_in d s j) then Some (Saw j) else None)
+behind_first d s j Now.Any w p = by_any (Telling.shows (Telling.wire_in d s j)) (j == 0) (ne_eqb j 0 (λ z. absurd (omega (arith, z, p))))
   where
-    go : (j < k) ⊎ (k ≤ j) → Telling.seen_at d s j ≡ None
-    go (inl p) = before j p
-    go (inr p) = past_inputs d s j (Telling.ask_at d s) wide (λ z. absurd (omega (arith, z, some, p))) (omega (arith, all, p))
-
-pub next_none : (d : DeskState) (s k : ℕ) → Telling.seen_at d s k ≡ None → ((j : ℕ) → j < k → Telling.seen_at d s j ≡ None) → (j : ℕ) → j < k + 1 → Telling.seen_at d s j ≡ None
-next_none d s k none before j p = elim (equal_or_not j k) [ inl e ↦ ap (Telling.seen_at d s) e ∙ none | inr e ↦ before j (strict j k p e) ]
+    by_any : (hand first : Bool) → first ≡ false → Telling.any_seen j hand (first && Telling.all_over d s) ≡ (if hand then Some (Saw j) else None)
+    by_any true first is = refl
+    by_any false first is = ap (λ z. Telling.any_seen j false (z && Telling.all_over d s)) is
+behind_first d s j Now.Gate w p = by_gate (Telling.shows (Telling.wire_in d s j)) (j == 0) (ne_eqb j 0 (λ z. absurd (omega (arith, z, p))))
   where
-    strict : (a b : ℕ) → a < b + 1 → a ≢ b → a < b
-    strict a b p q = grind arith
+    by_gate : (hand first : Bool) → first ≡ false → Telling.read_seen j hand (first && Telling.is_over (Telling.wire_in d s j)) ≡ (if hand then Some (Saw j) else None)
+    by_gate true first is = refl
+    by_gate false first is = ap (λ z. Telling.read_seen j false (z && Telling.is_over (Telling.wire_in d s j))) is
+behind_first d s j Now.Nothing w p = cc
+behind_first d s j (Now.Commit l) w p = cc
+behind_first d s j (Now.Read i) w p = cc
+behind_first d s j (Now.Take i) w p = cc
+behind_first d s j (Now.Write o) w p = cc
+behind_first d s j Now.Primed w p = cc
+behind_first d s j Now.Issue w p = cc
+behind_first d s j (Now.Join u) w p = cc
+behind_first d s j (Now.Cut i) w p = cc
+behind_first d s j (Now.Done c) w p = cc
+
+-- so the first event is that of its first input, or of the least other one at which a record is at hand
+abbrev FirstBehind : DeskState → ℕ → Option ℕ → Type 0
+FirstBehind d s None = Telling.IsFirstEvent d s None
+FirstBehind d s (Some k) = Telling.IsFirstEvent d s (Some (k, Saw k))
+
+pub wide_first : (d : DeskState) (s : ℕ) (found : Option ℕ) → Telling.is_wide (Telling.ask_at d s) ≡ true → Telling.seen_at d s 0 ≡ None
+    → Telling.IsFirstShown d.wires (Telling.inputs_of (slice_get d.doors s)) found → FirstBehind d s found
+wide_first d s None wide none shown = each
+  where
+    each : (k : ℕ) → Telling.seen_at d s k ≡ None
+    each zero = none
+    each (suc k) = behind_first d s (suc k) (Telling.ask_at d s) wide (omega arith) ∙ ap (λ z. if z then Some (Saw (suc k)) else None) (shown (suc k) (omega arith))
+wide_first d s (Some k) wide none shown = ((ap is_some at_k, before), at_k)
+  where
+    at_k : Telling.seen_at d s k ≡ Some (Saw k)
+    at_k = behind_first d s k (Telling.ask_at d s) wide shown.0 ∙ ap (λ z. if z then Some (Saw k) else None) shown.1
+
+    before : (j : ℕ) → j < k → Telling.seen_at d s j ≡ None
+    before zero p = none
+    before (suc j) p = behind_first d s (suc j) (Telling.ask_at d s) wide (omega arith) ∙ ap (λ z. if z then Some (Saw (suc j)) else None) (shown.2 (suc j) (omega arith) p)

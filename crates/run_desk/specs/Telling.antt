@@ -197,6 +197,12 @@ abbrev pub IsFirst : DeskState → ℕ → Option ℕ → Type 0
 IsFirst d s None = (k : ℕ) → seen_at d s k ≡ None
 IsFirst d s (Some k) = (is_some (seen_at d s k) ≡ true) × ((j : ℕ) → j < k → seen_at d s j ≡ None)
 
+-- the least input behind the first at which a record is at hand, or none
+abbrev pub IsFirstShown : List WireState → List (Option ℕ) → Option ℕ → Type 0
+IsFirstShown wires inputs None = (k : ℕ) → 0 < k → shows (through wires (joined (slice_get inputs k))) ≡ false
+IsFirstShown wires inputs (Some k) = (0 < k) × (shows (through wires (joined (slice_get inputs k))) ≡ true)
+    × ((j : ℕ) → 0 < j → j < k → shows (through wires (joined (slice_get inputs j))) ≡ false)
+
 -- the same, with what the strand would be told there
 abbrev pub IsFirstEvent : DeskState → ℕ → Option (ℕ × Seen) → Type 0
 IsFirstEvent d s None = IsFirst d s None

@@ -2,7 +2,7 @@ ghost use Rattle.std.specs.Prelude.{◌≡◌, ◌<◌, length, slice_get, Some}
 ghost use Rattle.std.specs.List.{list_all};
 ghost use Rattle.run_desk.specs.Telling as Telling;
 
-use crate::looks::is_over;
+use crate::looks::{is_over, shows};
 use connectors::Wire;
 use std::marker::Model;
 
@@ -86,6 +86,22 @@ impl Doors {
         ensures { result ≡ list_all (λ door. Telling.is_over (Telling.through wires.now door)) self.now.inputs }
     {
         self.inputs.iter().all(|door| is_over(wires, *door))
+    }
+
+    // The least input behind the first at which a record is at hand.
+    #[inline(always)]
+    pub(crate) fn first_shown(&self, wires: &[Wire]) -> Option<u16>
+        requires { Telling.LeadBelow (length wires.now) self.now.inputs }
+        ensures { Telling.IsFirstShown wires.now self.now.inputs result }
+    {
+        let mut k = 1;
+        while k < self.inputs.len() {
+            if shows(wires, self.inputs[k]) {
+                return Some(k as u16);
+            }
+            k += 1;
+        }
+        None
     }
 
     pub(crate) fn inputs(&self) -> &[Option<u32>]

@@ -47,26 +47,29 @@ impl Desk {
         }
     }
 
-    // The same for a strand that may go on on several.
-    #[tactic(auto, using(crate::proofs::Streams::wide_none, crate::proofs::Streams::next_none))]
+    // The same for a strand that may go on on several: on the first of its inputs it may be told more than that a record is
+    // at hand.
+    #[tactic(auto, using(crate::proofs::Streams::wide_first))]
     #[inline(never)]
     fn wide_event(&self, strand: u32) -> Option<(u16, Seen)>
         requires wide { Telling.is_wide (Telling.ask_at self.now strand) ≡ true }
         requires strand { strand < length self.now.seats }
         ensures { Telling.IsFirstEvent self.now strand result }
     {
-        let count = self.input_count(strand);
         if let Some(seen) = self.seen_at(strand, 0) {
             return Some((0, seen));
         }
-        let mut k = 1;
-        while k < count {
-            if let Some(seen) = self.seen_at(strand, k) {
-                return Some((k, seen));
-            }
-            k += 1;
-        }
-        None
+        let k = self.first_shown(strand)?;
+        Some((k, Seen::Saw(k)))
+    }
+
+    // The least input behind the first at which a record is at hand.
+    #[inline(always)]
+    fn first_shown(&self, strand: u32) -> Option<u16>
+        requires { strand < length self.now.seats }
+        ensures { Telling.IsFirstShown self.now.wires (Telling.inputs_of (slice_get self.now.doors strand)) result }
+    {
+        self.doors[strand as usize].first_shown(&self.wires)
     }
 
     fn seen_by(&self, strand: u32, stream: u16, ask: Ask) -> Option<Seen>
