@@ -1,5 +1,4 @@
 ghost use Rattle.std.specs.Prelude.{◌≡◌, ◌≤◌, length};
-ghost use Rattle.pipe_model.specs.declared.net.Strand.{Strand as StrandIs};
 ghost use Rattle.fan_stages.specs.Fan.{is_fan};
 
 use crate::fan_any::{FansInAny, Juxtaposes};
