@@ -3,7 +3,6 @@ use Rattle.std.proofs.Common.{◌≡◌, ℕ, true, false, List, [], ◌∷◌, 
 use Rattle.pipe_model.specs.declared.kind.Kind.{Kind}
 use Rattle.pipe_model.specs.declared.kind.Kind.TheVariants.{ConsoleIn, ConsoleOut, Dam, Elastic, FanIn, FanOut, Hole, Literal, Locate}
 use Rattle.pipe_model.specs.declared.range.Span.TheVariants.{Columns}
-use Rattle.pipe_model.specs.declared.net.Link.{Link}
 use Rattle.pipe_model.specs.declared.net.Net.{Net}
 use Rattle.pipe_model.specs.declared.net.Ports.{Ports}
 use Rattle.pipe_model.specs.declared.net.Strand.{Strand}

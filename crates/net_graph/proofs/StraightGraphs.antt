@@ -1,5 +1,5 @@
 -- The pieces of a straight line are its net.
-use Rattle.std.proofs.Common.{◌≡◌, ℕ, suc, ◌+◌, ◌≤◌, true, false, List, [], ◌∷◌, length, map, sym, ap, ap₂, ◌∙◌, arith, append-nil, add-one, Ok, None}
+use Rattle.std.proofs.Common.{◌≡◌, ℕ, suc, ◌+◌, ◌≤◌, true, List, [], ◌∷◌, length, map, sym, ap, ap₂, ◌∙◌, arith, append-nil, add-one, Ok, None}
 use Rattle.pipe_model.specs.declared.kind.Kind.{Kind}
 use Rattle.pipe_model.specs.declared.kind.Kind.TheVariants.{ConsoleIn}
 use Rattle.pipe_model.specs.declared.net.Link.{Link}
