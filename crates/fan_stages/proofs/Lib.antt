@@ -2,6 +2,7 @@ mod AnyPlans
 pub mod Ascending
 mod Dealing
 pub mod FanIns
+mod Fitting
 pub mod Gathers
 pub mod Laying
 pub mod Overlaid

@@ -85,7 +85,7 @@ module _ (inputs : ℕ) (order : ℕ → List Pair → List ℕ) where
   reading k = find (can_read inputs k.ends) (order inputs k.seen)
 
   -- a plan that is just made: by its acts, and what is read next
-  made : (k : Known) (passing : Passing) (next : Option ℕ) (acts : List Act) → passes_on inputs order k ≡ read_next acts [] (reading k) → IsOfCame passing k.seen → acts ≡ passing_acts passing k.seen → reading k ≡ next →
+  made : (k : Known) (passing : Passing) (next : Option ℕ) (acts : List Act) → passes_on inputs order k ≡ read_next acts [] (reading k) → IsOfCame passing k.seen → acts ≡ passing_acts passing (last_from k.seen) → reading k ≡ next →
       PassesOn inputs order passing next (passes_on inputs order) k (passes_on inputs order k)
   made k passing next acts is came acts_are next_is = record {
     plan_is = refl;

@@ -3,7 +3,7 @@ use Rattle.std.specs.Prelude.{ℕ, Bool, true, false}
 use Rattle.pipe_model.specs.Row.{Plan, Known}
 use Rattle.fan_stages.specs.declared.fan_plans.FanPlans.{FanPlans}
 use Rattle.fan_stages.specs.declared.fan_plans.FanPlans.TheVariants as Forms
-use Rattle.fan_stages.specs.FanAny.{FansInAnyStand, JuxtaposesStand, due_count}
+use Rattle.fan_stages.specs.FanAny.{FansInAnyStand, JuxtaposesStand}
 use Rattle.fan_stages.specs.FanIn.{FanInStands}
 use Rattle.fan_stages.specs.Gather.{GatherStands}
 use Rattle.fan_stages.specs.Overlay.{OverlaysStand, overlay_count}
@@ -27,8 +27,8 @@ fan_plans_look _ = false
 -- how many acts are left at most
 abbrev pub fan_plans_left : FanPlans → ℕ
 fan_plans_left (Forms.FanIn x) = passing_count x.passing
-fan_plans_left (Forms.FanInAny x) = due_count x.due
+fan_plans_left (Forms.FanInAny x) = passing_count x.passing
 fan_plans_left (Forms.Gather x) = passing_count x.passing
 fan_plans_left (Forms.Overlay x) = overlay_count x
 fan_plans_left (Forms.Synchronise x) = acts_count x
-fan_plans_left (Forms.Juxtapose x) = due_count x.due
+fan_plans_left (Forms.Juxtapose x) = passing_count x.passing

@@ -1,4 +1,4 @@
--- What is left to do with the record at hand of a stage that passes each record on to output 0, and what it reads next.
+-- What is left to do with the record at hand, of a stage that writes on output 0 for each record, and what is read next by one that passes each record on.
 use Rattle.std.specs.Prelude.{◌≡◌, ◌<◌, ℕ, List, [], ◌∷◌, length, find}
 use Rattle.std.specs.declared.option.Option.{Option}
 use Rattle.std.specs.declared.option.Option.TheVariants.{Some, None}
@@ -12,11 +12,11 @@ use Rattle.stage_steps.specs.Plans.{act_of, last_from, IsOfSeen}
 use Rattle.fan_stages.specs.declared.passing.Passing.{Passing}
 use Rattle.fan_stages.specs.declared.passing.Passing.TheVariants.{Writing, Taking, Passed}
 
--- the acts that are left, by the records that came
-abbrev pub passing_acts : Passing → List Pair → List Act
-passing_acts (Writing i) seen = Writes 0 (last_from seen i) ∷ Takes i ∷ []
-passing_acts (Taking i) seen = Takes i ∷ []
-passing_acts Passed seen = []
+-- the acts that are left, by the record that is written for one of an input
+abbrev pub passing_acts : Passing → (ℕ → List ℕ) → List Act
+passing_acts (Writing i) made = Writes 0 (made i) ∷ Takes i ∷ []
+passing_acts (Taking i) made = Takes i ∷ []
+passing_acts Passed made = []
 
 abbrev pub passing_count : Passing → ℕ
 passing_count (Writing i) = 2
@@ -31,8 +31,8 @@ IsOfCame Passed seen = Unit {0}
 
 -- the first act that is left, or none where nothing is
 abbrev pub GivesPassing : Passing → Passing → Option Doing → Type 0
-GivesPassing x y None = (y ≡ x) × ((seen : List Pair) → passing_acts x seen ≡ [])
-GivesPassing x y (Some act) = (seen : List Pair) → IsOfCame x seen → (passing_acts x seen ≡ act_of act seen ∷ passing_acts y seen) × IsOfCame y seen × IsOfSeen act seen
+GivesPassing x y None = (y ≡ x) × ((seen : List Pair) → passing_acts x (last_from seen) ≡ [])
+GivesPassing x y (Some act) = (seen : List Pair) → IsOfCame x seen → (passing_acts x (last_from seen) ≡ act_of act seen ∷ passing_acts y (last_from seen)) × IsOfCame y seen × IsOfSeen act seen
 
 abbrev pub FallsPassing : Passing → Passing → Option Doing → Type 0
 FallsPassing x y None = Unit {0}
@@ -47,5 +47,5 @@ pub record PassesOn (inputs : ℕ) (order : ℕ → List Pair → List ℕ) (pas
   pub plan_is : plan ≡ passes_on inputs order
   pub next_is : find (can_read inputs k.ends) (order inputs k.seen) ≡ next
   pub came : IsOfCame passing k.seen
-  pub acts_are : left.acts ≡ passing_acts passing k.seen
+  pub acts_are : left.acts ≡ passing_acts passing (last_from k.seen)
   pub goal_is : left.goal ≡ look next

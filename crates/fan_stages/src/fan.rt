@@ -80,24 +80,41 @@ impl FanStage {
     {
         let inputs = inputs_of(strand);
         let outputs = strand.ports.has_output.as_slice();
-        let plans = match &strand.kind {
+        match &strand.kind {
             Kind::FanOut => {
                 let pairs = FanEach::FanOut(FansOut::new(alloc, outputs)?);
-                return FanStage::of_pairs(alloc, pairs, outputs);
+                FanStage::of_pairs(alloc, pairs, outputs)
             }
             Kind::Deal => {
                 let pairs = FanEach::Deal(Deals::new(alloc, outputs)?);
-                return FanStage::of_pairs(alloc, pairs, outputs);
+                FanStage::of_pairs(alloc, pairs, outputs)
             }
-            Kind::FanIn => FanPlans::FanIn(FanIn::new(inputs)),
-            Kind::FanInAny => FanPlans::FanInAny(FansInAny::new()),
-            Kind::Gather => FanPlans::Gather(Gather::new(alloc, inputs)?),
-            Kind::Overlay(pad) => FanPlans::Overlay(Overlays::new(alloc, inputs, *pad)?),
-            Kind::Synchronise => FanPlans::Synchronise(Synchronises::new(alloc, inputs)?),
-            Kind::Juxtapose => FanPlans::Juxtapose(Juxtaposes::new(alloc)),
+            Kind::FanIn => {
+                let plans = FanPlans::FanIn(FanIn::new(inputs));
+                FanStage::of_plans(alloc, plans, outputs)
+            }
+            Kind::FanInAny => {
+                let plans = FanPlans::FanInAny(FansInAny::new());
+                FanStage::of_plans(alloc, plans, outputs)
+            }
+            Kind::Gather => {
+                let plans = FanPlans::Gather(Gather::new(alloc, inputs)?);
+                FanStage::of_plans(alloc, plans, outputs)
+            }
+            Kind::Overlay(pad) => {
+                let plans = FanPlans::Overlay(Overlays::new(alloc, inputs, *pad)?);
+                FanStage::of_plans(alloc, plans, outputs)
+            }
+            Kind::Synchronise => {
+                let plans = FanPlans::Synchronise(Synchronises::new(alloc, inputs)?);
+                FanStage::of_plans(alloc, plans, outputs)
+            }
+            Kind::Juxtapose => {
+                let plans = FanPlans::Juxtapose(Juxtaposes::new(alloc));
+                FanStage::of_plans(alloc, plans, outputs)
+            }
             _ => unreachable!(),
-        };
-        FanStage::of_plans(alloc, plans, outputs)
+        }
     }
 }
 

@@ -1,43 +1,27 @@
 ghost use Rattle.std.specs.Prelude.{◌≡◌, ◌++◌, IfOk};
+ghost use Rattle.stage_steps.specs.Plans.{goal_of};
+ghost use Rattle.fan_stages.specs.FanAny.{any_goal};
 
+use crate::passing::Passing;
 use pipe_model::{NoMemory, Out, Rec};
 use stage_steps::{Act, Goal, Plans};
 use std::alloc::Global;
 use std::mem;
 
-/// What is left to do of a stage that looks at any input.
-#[derive(Clone, Copy)]
-pub(crate) enum Due {
-    /// It writes a record on output 0, takes the one in sight on this input, and looks again.
-    Write(u16),
-    /// It takes the record in sight on this input, and looks again.
-    Take(u16),
-    /// It looks at any input.
-    Look,
-    /// It ends.
-    End,
-}
-
-impl Due {
-    ghost use Rattle.stage_steps.specs.Plans.{goal_of};
-    ghost use Rattle.fan_stages.specs.FanAny.{due_goal};
-
-    // What follows.
-    #[inline(always)]
-    fn goal(self) -> Goal
-        ensures { goal_of result ≡ due_goal self }
-    {
-        match self {
-            Due::End => Goal::End(0),
-            _ => Goal::Any,
-        }
-    }
+// What follows where a stage looks at any input, by whether all have ended.
+#[inline(always)]
+fn any_goal(all_ended: bool) -> Goal
+    ensures { goal_of result ≡ any_goal all_ended }
+{
+    if all_ended { Goal::End(0) } else { Goal::Any }
 }
 
 /// FANINANY: each record of any input, on output 0.
 #[derive(Drop)]
 pub struct FansInAny {
-    due: Due,
+    passing: Passing,
+    /// All inputs have ended.
+    all_ended: bool,
 }
 
 impl FansInAny {
@@ -49,22 +33,27 @@ impl FansInAny {
     pub(crate) fn new() -> FansInAny
         ensures { FansInAnyStand result (any_plan passed) nothing_known (any_plan passed nothing_known) }
     {
-        FansInAny { due: Due::Look }
+        FansInAny {
+            passing: Passing::Passed,
+            all_ended: false,
+        }
     }
 }
 
 impl Plans for FansInAny {
-    ghost use Rattle.fan_stages.specs.FanAny.{FansInAnyStand, fans_in_any_look, due_count};
+    ghost use Rattle.std.specs.Prelude.{false};
+    ghost use Rattle.fan_stages.specs.FanAny.{FansInAnyStand};
+    ghost use Rattle.fan_stages.specs.Passing.{passing_count};
 
     ghost stands = { FansInAnyStand };
 
-    ghost is_looking = { fans_in_any_look };
+    ghost is_looking = { λ _. false };
 
-    ghost left = { λ x. due_count x.due };
+    ghost left = { λ x. passing_count x.passing };
 
     #[inline(always)]
     fn see(&mut self, _alloc: Global, input: u16, _bytes: &[u8]) -> Result<(), NoMemory> {
-        self.due = Due::Write(input);
+        self.passing = Passing::Writing(input);
         Ok(())
     }
 
@@ -74,27 +63,18 @@ impl Plans for FansInAny {
     }
 
     fn end_all(&mut self) {
-        self.due = Due::End;
+        self.passing = Passing::Passed;
+        self.all_ended = true;
     }
 
     #[inline(always)]
     fn next(&mut self, _alloc: Global) -> Result<Option<Act>, NoMemory> {
-        match self.due {
-            Due::Write(input) => {
-                self.due = Due::Take(input);
-                Ok(Some(Act::Write(0, Out::Same(input))))
-            }
-            Due::Take(input) => {
-                self.due = Due::Look;
-                Ok(Some(Act::Take(input)))
-            }
-            Due::Look | Due::End => Ok(None),
-        }
+        Ok(self.passing.next())
     }
 
     #[inline(always)]
     fn goal(&self) -> Goal {
-        self.due.goal()
+        any_goal(self.all_ended)
     }
 
     fn looks(&self) -> bool {
@@ -109,7 +89,9 @@ pub struct Juxtaposes {
     prefix: Vec<u8>,
     /// The record that is to be written, where one is.
     new: Rec,
-    due: Due,
+    passing: Passing,
+    /// All inputs have ended.
+    all_ended: bool,
 }
 
 // Two byte strings in one.
@@ -135,29 +117,32 @@ impl Juxtaposes {
         Juxtaposes {
             prefix: Vec::new(alloc),
             new: Rec::from_vec(Vec::new(alloc)),
-            due: Due::Look,
+            passing: Passing::Passed,
+            all_ended: false,
         }
     }
 }
 
 impl Plans for Juxtaposes {
-    ghost use Rattle.fan_stages.specs.FanAny.{JuxtaposesStand, juxtaposes_look, due_count};
+    ghost use Rattle.std.specs.Prelude.{true};
+    ghost use Rattle.fan_stages.specs.FanAny.{JuxtaposesStand};
+    ghost use Rattle.fan_stages.specs.Passing.{passing_count};
 
     ghost stands = { JuxtaposesStand };
 
-    ghost is_looking = { juxtaposes_look };
+    ghost is_looking = { λ _. true };
 
-    ghost left = { λ x. due_count x.due };
+    ghost left = { λ x. passing_count x.passing };
 
     #[inline(always)]
     fn see(&mut self, alloc: Global, input: u16, bytes: &[u8]) -> Result<(), NoMemory> {
         if input == 0 {
             self.prefix.clear();
             self.prefix.extend_from_slice(bytes)?;
-            self.due = Due::Take(input);
+            self.passing = Passing::Taking(input);
         } else {
             self.new = in_one(alloc, self.prefix.as_slice(), bytes)?;
-            self.due = Due::Write(input);
+            self.passing = Passing::Writing(input);
         }
         Ok(())
     }
@@ -168,28 +153,29 @@ impl Plans for Juxtaposes {
     }
 
     fn end_all(&mut self) {
-        self.due = Due::End;
+        self.passing = Passing::Passed;
+        self.all_ended = true;
     }
 
     #[inline(always)]
     fn next(&mut self, alloc: Global) -> Result<Option<Act>, NoMemory> {
-        match self.due {
-            Due::Write(input) => {
-                self.due = Due::Take(input);
+        match self.passing {
+            Passing::Writing(input) => {
+                self.passing = Passing::Taking(input);
                 let new = mem::replace(&mut self.new, Rec::from_vec(Vec::new(alloc)));
                 Ok(Some(Act::Write(0, Out::Fresh(new))))
             }
-            Due::Take(input) => {
-                self.due = Due::Look;
+            Passing::Taking(input) => {
+                self.passing = Passing::Passed;
                 Ok(Some(Act::Take(input)))
             }
-            Due::Look | Due::End => Ok(None),
+            Passing::Passed => Ok(None),
         }
     }
 
     #[inline(always)]
     fn goal(&self) -> Goal {
-        self.due.goal()
+        any_goal(self.all_ended)
     }
 
     fn looks(&self) -> bool {
