@@ -120,7 +120,7 @@ fn words_and_bytes_give_bytes_and_a_status(rt: HostRuntime) -> Result<(), Fail> 
         (&["console | locate 2 /d/"], TEXT, 0, b"", b""),
         (&["locate /b/ | console"], TEXT, 0, b"", b""),
         (
-            &["console | lookup 1 | console"],
+            &["console | elastic | console"],
             TEXT,
             2,
             b"",

@@ -14,6 +14,7 @@ use Rattle.pipe_model.specs.Proper.{are_columns, is_count, is_filled, is_length,
 use Rattle.pipe_model.specs.Straight.{all_columns}
 use Rattle.stage_syntax.proofs.ReadValues.{AreOfRow, IsOfOne, columns_of, count_of_times, length_of, made_of_row, range_of_one, right_of_row, string_of_one, times_of_one}
 use Rattle.stage_syntax.proofs.Typed.{IsTyped, known}
+use Rattle.stage_syntax.proofs.TypedJoins.{merging, overlaid, pairing}
 use Rattle.stage_syntax.proofs.TypedOrder.{of_unique_row, sorting, counting, filling, blocking, deblocking}
 use Rattle.stage_syntax.proofs.TypedSpecs.{specifying}
 use Rattle.stage_syntax.specs.Arg.{ArgText}
@@ -273,18 +274,57 @@ rows_typed first = (
                                                 (
                                                   of_parts first _ (counting first),
                                                   (
-                                                    of_parts first _ (alone first Kinds.Buffer (known first Kinds.Buffer refl refl refl)),
+                                                    of_parts first _ (pairing first Kinds.Lookup (λ details masters proper. known first (Kinds.Lookup details masters) refl refl proper)),
                                                     (
-                                                      of_parts first _ (alone first Kinds.Copy (known first Kinds.Copy refl refl refl)),
+                                                      of_parts first _ (pairing first Kinds.Collate (λ masters details proper. known first (Kinds.Collate masters details) refl refl proper)),
                                                       (
-                                                        of_parts first _ (filling first),
+                                                        of_parts first _ (merging first),
                                                         (
-                                                          of_parts first _ (blocking first),
+                                                          of_parts first _ (alone first Kinds.FanOut (known first Kinds.FanOut refl refl refl)),
                                                           (
-                                                            of_parts first _ (deblocking first),
+                                                            of_parts first _ (alone first Kinds.FanIn (known first Kinds.FanIn refl refl refl)),
                                                             (
-                                                              of_parts first _ (specifying first),
-                                                              tt,
+                                                              of_parts first _ (alone first Kinds.FanInAny (known first Kinds.FanInAny refl refl refl)),
+                                                              (
+                                                                of_parts first _ (alone first Kinds.Deal (known first Kinds.Deal refl refl refl)),
+                                                                (
+                                                                  of_parts first _ (alone first Kinds.Gather (known first Kinds.Gather refl refl refl)),
+                                                                  (
+                                                                    of_parts first _ (overlaid first),
+                                                                    (
+                                                                      of_parts first _ (alone first Kinds.Synchronise (known first Kinds.Synchronise refl refl refl)),
+                                                                      (
+                                                                        of_parts first _ (alone first Kinds.Synchronise (known first Kinds.Synchronise refl refl refl)),
+                                                                        (
+                                                                          of_parts first _ (alone first Kinds.Juxtapose (known first Kinds.Juxtapose refl refl refl)),
+                                                                          (
+                                                                            of_parts first _ (alone first Kinds.Gate (known first Kinds.Gate refl refl refl)),
+                                                                            (
+                                                                              of_parts first _ (alone first Kinds.Buffer (known first Kinds.Buffer refl refl refl)),
+                                                                              (
+                                                                                of_parts first _ (alone first Kinds.Copy (known first Kinds.Copy refl refl refl)),
+                                                                                (
+                                                                                  of_parts first _ (filling first),
+                                                                                  (
+                                                                                    of_parts first _ (blocking first),
+                                                                                    (
+                                                                                      of_parts first _ (deblocking first),
+                                                                                      (
+                                                                                        of_parts first _ (specifying first),
+                                                                                        tt,
+                                                                                      ),
+                                                                                    ),
+                                                                                  ),
+                                                                                ),
+                                                                              ),
+                                                                            ),
+                                                                          ),
+                                                                        ),
+                                                                      ),
+                                                                    ),
+                                                                  ),
+                                                                ),
+                                                              ),
                                                             ),
                                                           ),
                                                         ),

@@ -77,7 +77,28 @@ Duplicate| 2147483647|later|duplicate 2147483647\n\
 duplicate| *  |later|duplicate *\n\
 duplicate| 2147483648|later|4 at 12\n\
 duplicate| x|later|3 at 12\n\
-duplicate| 2 3|later|2 at 16";
+duplicate| 2 3|later|2 at 16\n\
+lookup||later|lookup columns 1-* columns 1-*\n\
+LookUp| 2.3 w1|later|lookup columns 2-4 words 1-1\n\
+lookup| 1 2 3|later|2 at 20\n\
+lookup| 1 x|later|3 at 16\n\
+collate| w2|first|collate words 2-2 words 2-2\n\
+collate| 1 f2-*|later|collate columns 1-1 fields 2-*\n\
+collate| 1 5-3|later|9 at 20\n\
+merge||later|merge columns 1-*\n\
+merge| f 2|later|merge fields 2-2\n\
+merge| 0|later|4 at 12\n\
+merge| 1 2|later|2 at 16\n\
+overlay||later|overlay 32\n\
+overlay| x41|later|overlay 65\n\
+overlay| /ab/|later|4 at 12\n\
+overlay| //|later|6 at 12\n\
+overlay| 5|later|7 at 12\n\
+overlay| x4|later|8 at 12\n\
+overlay| ,x, y|later|2 at 20\n\
+Synchronize|  |later|synchronise\n\
+gate| x|later|2 at 12\n\
+elastic||later|unknown";
 
 #[test]
 fn names_and_arguments_have_their_kinds(rt: HostRuntime) -> Result<(), Fail> {
@@ -292,11 +313,6 @@ sort| 1 1 1 1 1 1 1 1 1 1 1|7 before 1\n\
 count| words Bytes|read\n\
 count| words Words|7 before 5\n\
 count||1 before 0\n\
-lookup| 1 w2|read\n\
-lookup| 3|read\n\
-overlay| x41|read\n\
-overlay||read\n\
-gate| x|2 before 1\n\
 block| 80 string /x/|read\n\
 block| 80 SF|read\n\
 block| 80|1 before 0\n\
@@ -412,6 +428,11 @@ fn kind_shown(alloc: Global, kind: &Kind) -> Result<String, Fail> {
         Kind::Reverse => named(alloc, "reverse"),
         Kind::Duplicate(times) => duplicate_shown(alloc, *times),
         Kind::Copy => named(alloc, "copy"),
+        Kind::Lookup { details, masters } => paired(alloc, "lookup", *details, *masters),
+        Kind::Collate { masters, details } => paired(alloc, "collate", *masters, *details),
+        Kind::Merge(range) => located(alloc, "merge", *range, &None),
+        Kind::Overlay(pad) => Ok(format!(in alloc; "overlay {pad}")?),
+        Kind::Synchronise => named(alloc, "synchronise"),
         _ => named(alloc, "another kind"),
     }
 }
@@ -441,6 +462,12 @@ fn located(alloc: Global, name: &str, range: Range, text: &Option<Rec>) -> Resul
         }
         None => Ok(format!(in alloc; "{name} {range}")?),
     }
+}
+
+fn paired(alloc: Global, name: &str, first: Range, second: Range) -> Result<String, Fail> {
+    let first = range_shown(alloc, first)?;
+    let second = range_shown(alloc, second)?;
+    Ok(format!(in alloc; "{name} {first} {second}")?)
 }
 
 fn fault_shown(alloc: Global, fault: KindFault) -> Result<String, Fail> {
