@@ -8,7 +8,8 @@ ghost use Rattle.gate_elastic.specs.Gate.{is_gate};
 
 use pipe_model::{Recs, Strand};
 
-/// What such a stage does by itself on these inputs, where its outputs take all: the list functions of its row say it.
+/// What COPY or BUFFER does by itself on these inputs, where its outputs take all: the list functions of its row say it. Of
+/// GATE it says nothing, since its inputs alone don't settle what it sees.
 pub fn lists(strand: &Strand, inputs: &[Recs])
     requires { is_gate strand.now.kind ≡ true }
     ensures { (h : List Event) → IsAllAlone strand.now (given_by inputs.now) h → IsListed strand.now (line_of strand.now.kind).shape (given_by inputs.now) h }

@@ -51,6 +51,32 @@ fn a_buffer_gives_its_records_at_the_end_of_input(rt: HostRuntime) -> Result<(),
     Ok(())
 }
 
+#[test]
+fn a_gate_passes_records_until_one_closes_it(rt: HostRuntime) -> Result<(), Fail> {
+    let alloc = rt.alloc();
+    let mut stage = GateStage::of_gate(alloc, &[true, true, true])?;
+    assert!(rt; !stage.looks());
+    let first = format!(in alloc; "{:?}", stage.first())?;
+    assert_eq!(rt; first.as_str(), "Commit(-1)");
+    let steps = [
+        (Seen::Up(-1, 0), "Commit(0)"),
+        (Seen::Up(0, 0), "Gate"),
+        (Seen::Saw(1), "Write(1, Same(1))"),
+        (Seen::Put(1), "Take(1)"),
+        (Seen::Took(1), "Gate"),
+        (Seen::Saw(2), "Write(2, Same(2))"),
+        (Seen::Refused(2), "Take(2)"),
+        (Seen::Took(2), "Gate"),
+        (Seen::Saw(0), "Done(0)"),
+    ];
+    for (seen, want) in steps {
+        let asked = format!(in alloc; "{:?}", stage.resume(alloc, seen, b"")?)?;
+        assert_eq!(rt; asked.as_str(), want, "after {seen:?}");
+    }
+    assert!(rt; stage.kept().is_empty());
+    Ok(())
+}
+
 // Calls for this type show that its values can be moved to another thread.
 fn is_send<T: Send>() {}
 
