@@ -88,7 +88,7 @@ fn takes_pieces_until_it_is_full(rt: HostRuntime) -> Result<(), Fail> {
 }
 
 // A fetch's answer in words: the bytes of the file, or the name of what there is in place of them.
-fn fetched_words(answer: &Fetched) -> &[u8] {
+pub(crate) fn fetched_words(answer: &Fetched) -> &[u8] {
     match answer {
         Fetched::Found(bytes) => bytes.bytes(),
         Fetched::Absent => b"(absent)",
