@@ -63,7 +63,8 @@ impl<'a, Rt: Files> Shelf for FolderShelf<'a, Rt> {
         }
     }
 
-    /// A file is replaced whole or not at all: after a fault, or want of memory, it is as it was.
+    /// A file is replaced whole or not at all: after a fault, or want of memory, it is as it was. A device, or a
+    /// pipe with a name, is written in place, and may have taken a part of the bytes.
     fn replace(&mut self, alloc: Global, name: &[u8], bytes: &[u8]) -> Replaced
         ensures files { Replaces None None name.now bytes.now result }
         ensures count { CountsReplace self.old self.new result }

@@ -171,7 +171,7 @@ fn refuse(
     first: u64,
     last: u64,
 ) -> io::Result<bool> {
-    let old = if name == "new" { "" } else { OLD };
+    let old = if name == "whole/new" { "" } else { OLD };
     let made = Cell::new(0);
     let calls = Calls {
         made: &made,
@@ -203,59 +203,66 @@ fn refuse(
         "{name} {first} {last}"
     );
     assert_eq!(rt; shelf.faults(), faults);
-    let is_stray = fs::exists(rt, ".pipe-new-0")?;
+    let is_stray = fs::exists(rt, "whole/.pipe-new-0")?;
     assert!(rt; !is_stray || first < last, "{name} {first}");
     if is_stray {
-        fs::remove_file(rt, ".pipe-new-0")?;
+        fs::remove_file(rt, "whole/.pipe-new-0")?;
     }
     Ok(is_fetch_refused || made.get() >= first)
 }
 
 // Names, and how many calls the replacement of each makes.
-const REPLACED: [(&str, u64); 3] = [("new", 9), ("old", 11), ("link", 13)];
+const REPLACED: [(&str, u64); 3] = [("whole/new", 9), ("whole/old", 11), ("whole/link", 13)];
 
 #[test]
 fn a_refused_call_leaves_each_file_whole(rt: HostRuntime) -> Result<(), Fail> {
-    fs::write(&rt, "old", OLD)?;
-    symlink(&rt, "old", "link")?;
+    let _ = fs::remove_dir_all(&rt, "whole");
+    fs::create_dir(&rt, "whole")?;
+    symlink(&rt, "old", "whole/link")?;
     for (name, calls) in REPLACED {
         for first in 1..=calls + 1 {
             for last in [first, u64::MAX] {
-                fs::write(&rt, "old", OLD)?;
-                if name == "new" && fs::exists(&rt, "new")? {
-                    fs::remove_file(&rt, "new")?;
-                }
+                fs::write(&rt, "whole/old", OLD)?;
+                let _ = fs::remove_file(&rt, "whole/new");
                 let is_refused = refuse(&rt, name, first, last)?;
                 assert_eq!(rt; is_refused, first <= calls, "{name} {first}");
             }
         }
     }
+    fs::remove_dir_all(&rt, "whole")?;
     Ok(())
 }
 
 // Names with what a fetch finds, and what a replacement by `NEW` gives and leaves.
 const NAMES: [(&[u8], &str, Replaced, &str); 12] = [
-    (b"file", "old bytes", Replaced::Stored, NEW),
-    (b"link", NEW, Replaced::Stored, NEW),
-    (b"folder/new", "(absent)", Replaced::Stored, NEW),
-    (b"folder/none/new", "(absent)", Replaced::Failed, "(absent)"),
-    (b"file/new", "(absent)", Replaced::Failed, "(absent)"),
+    (b"told/file", "old bytes", Replaced::Stored, NEW),
+    (b"told/link", NEW, Replaced::Stored, NEW),
+    (b"told/folder/new", "(absent)", Replaced::Stored, NEW),
+    (
+        b"told/folder/none/new",
+        "(absent)",
+        Replaced::Failed,
+        "(absent)",
+    ),
+    (b"told/file/new", "(absent)", Replaced::Failed, "(absent)"),
     (b"", "(absent)", Replaced::Failed, "(absent)"),
-    (b"folder", "(failed)", Replaced::Failed, "(failed)"),
-    (b"folder/", "(failed)", Replaced::Failed, "(failed)"),
-    (b"nowhere", "(failed)", Replaced::Failed, "(failed)"),
-    (b"file\0", "(failed)", Replaced::Failed, "(failed)"),
+    (b"told/folder", "(failed)", Replaced::Failed, "(failed)"),
+    (b"told/folder/", "(failed)", Replaced::Failed, "(failed)"),
+    (b"told/nowhere", "(failed)", Replaced::Failed, "(failed)"),
+    (b"told/file\0", "(failed)", Replaced::Failed, "(failed)"),
     (b"\xff", "(failed)", Replaced::Failed, "(failed)"),
     (b"/dev/null", "", Replaced::Stored, ""),
 ];
 
 #[test]
 fn tells_a_file_from_what_is_none(rt: HostRuntime) -> Result<(), Fail> {
-    fs::write(&rt, "file", OLD)?;
-    fs::set_permissions(&rt, "file", Permissions::from_mode(0o640))?;
-    fs::create_dir(&rt, "folder")?;
-    symlink(&rt, "file", "link")?;
-    symlink(&rt, "none", "nowhere")?;
+    let _ = fs::remove_dir_all(&rt, "told");
+    fs::create_dir(&rt, "told")?;
+    fs::write(&rt, "told/file", OLD)?;
+    fs::set_permissions(&rt, "told/file", Permissions::from_mode(0o640))?;
+    fs::create_dir(&rt, "told/folder")?;
+    symlink(&rt, "file", "told/link")?;
+    symlink(&rt, "none", "told/nowhere")?;
     let mut shelf = FolderShelf::new(&rt);
     for (name, found, replaced, left) in NAMES {
         assert_eq!(rt;
@@ -279,11 +286,12 @@ fn tells_a_file_from_what_is_none(rt: HostRuntime) -> Result<(), Fail> {
         shelf.replace(rt.alloc(), b"/dev/full", NEW.as_bytes()),
         Replaced::Failed
     );
-    let file = fs::metadata(&rt, "file")?;
+    let file = fs::metadata(&rt, "told/file")?;
     assert_eq!(rt; file.permissions().mode() & 0o777, 0o640);
-    let link = fs::symlink_metadata(&rt, "link")?;
+    let link = fs::symlink_metadata(&rt, "told/link")?;
     assert!(rt; link.is_symlink());
-    assert!(rt; !fs::exists(&rt, ".pipe-new-0")?);
-    assert!(rt; !fs::exists(&rt, "folder/.pipe-new-0")?);
+    assert!(rt; !fs::exists(&rt, "told/.pipe-new-0")?);
+    assert!(rt; !fs::exists(&rt, "told/folder/.pipe-new-0")?);
+    fs::remove_dir_all(&rt, "told")?;
     Ok(())
 }
