@@ -7,3 +7,4 @@ pub mod Shelf
 pub mod Calls
 pub mod InMemory
 pub mod Streams
+pub mod Folder

@@ -1,8 +1,15 @@
 //! The outside of a run as traits: a source of bytes, a sink of bytes, a shelf of files and a gate before the
-//! work on a record. Each counts its faults. Beside them stand forms in memory and adapters over std's streams.
+//! work on a record. Each counts its faults. Beside them stand forms in memory,
+//! and adapters over std's streams and files.
 #![tactic(auto)]
 
 mod calls;
+mod fault;
+mod folder_fetch;
+mod folder_replace;
+mod folder_shelf;
+#[cfg(test)]
+mod folder_tests;
 mod gate;
 mod mem_shelf;
 mod mem_sink;
@@ -13,7 +20,9 @@ mod source;
 mod streams;
 #[cfg(test)]
 mod tests;
+mod whole;
 
+pub use folder_shelf::FolderShelf;
 pub use gate::{Gate, OpenGate};
 pub use mem_shelf::MemShelf;
 pub use mem_sink::MemSink;

@@ -53,6 +53,30 @@ impl MemShelf {
         }
     }
 
+    /// Puts these bytes in the place of what the file of this name held, or makes the file, without a call that is
+    /// counted. After want of memory all files are as they were.
+    ///
+    /// # Errors
+    ///
+    /// `NoMemory` where there is no memory for the copies.
+    pub fn preset(&mut self, name: &[u8], bytes: &[u8]) -> Result<(), NoMemory>
+        ensures ok { OnOk result (self.new ≡ record self.old { files = put_file self.old.files (record { name = name.now; bytes = bytes.now }) }) }
+        ensures err { OnErr result (self.new ≡ self.old) }
+    {
+        let alloc = *self.files.allocator();
+        put(&mut self.files, alloc, name, bytes)
+    }
+
+    /// The bytes of the file of this name, if there is one, without a call that is counted.
+    pub fn content(&self, name: &[u8]) -> Option<&[u8]>
+        ensures { option_copied result ≡ files_of self.now.files name.now }
+    {
+        match file_named(&self.files, name) {
+            Some(file) => Some(file.bytes.bytes()),
+            None => None,
+        }
+    }
+
     // Counts a call, and a fault where the call is to fail. Answers whether it is.
     fn count_call(&mut self) -> bool
         ensures fails { result ≡ call_fails self.old }

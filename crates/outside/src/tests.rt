@@ -88,7 +88,7 @@ fn takes_pieces_until_it_is_full(rt: HostRuntime) -> Result<(), Fail> {
 }
 
 // A fetch's answer in words: the bytes of the file, or the name of what there is in place of them.
-fn fetched_words(answer: &Fetched) -> &[u8] {
+pub(crate) fn fetched_words(answer: &Fetched) -> &[u8] {
     match answer {
         Fetched::Found(bytes) => bytes.bytes(),
         Fetched::Absent => b"(absent)",
@@ -213,6 +213,7 @@ fn reads_a_file_and_tells_a_fault_from_the_end(rt: HostRuntime) -> Result<(), Fa
     assert_eq!(rt; read_from(&mut file, &mut room), (ReadAnswer::Bytes(3), 0));
     assert_eq!(rt; room.as_slice(), b"ab\n.".as_slice());
     assert_eq!(rt; read_from(&mut file, &mut room), (ReadAnswer::End, 0));
+    fs::remove_file(&rt, "lines")?;
 
     let mut device = StdSource::new(Device { calls: 0 });
     for answer in [
@@ -232,6 +233,7 @@ fn writes_a_file_and_counts_what_is_not_taken(rt: HostRuntime) -> Result<(), Fai
     assert_eq!(rt; write_to(&mut file, b"ab\n"), (WriteAnswer::Took(3), 0));
     let written = fs::read(&rt, "lines")?;
     assert_eq!(rt; written.as_slice(), b"ab\n".as_slice());
+    fs::remove_file(&rt, "lines")?;
 
     let mut device = StdSink::new(Device { calls: 0 });
     for answer in [
