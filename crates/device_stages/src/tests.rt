@@ -1,4 +1,4 @@
-use crate::console::console;
+use crate::sink::sink;
 use crate::source::source;
 use crate::{DeviceStage, Holes, Literals};
 use pipe_model::{Rec, Seen};
@@ -44,7 +44,7 @@ fn a_console_writes_its_lines(rt: HostRuntime) -> Result<(), Fail> {
 #[test]
 fn a_console_keeps_what_it_takes(rt: HostRuntime) -> Result<(), Fail> {
     let alloc = rt.alloc();
-    let mut stage = console(alloc, &[true])?;
+    let mut stage = sink(alloc, &[true])?;
     assert!(rt; stage.looks());
     let steps: [(Seen, &[u8], &str, &[u8]); 8] = [
         (Seen::Up(-1, 0), b"", "Commit(0)", b""),
