@@ -1,2 +1,3 @@
+pub mod Absent
 pub mod Device
 pub mod DeviceLists

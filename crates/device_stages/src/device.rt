@@ -1,6 +1,7 @@
-use crate::console::console;
+use crate::absent::Absent;
 use crate::hole::Holes;
 use crate::literal::Literals;
+use crate::sink::sink;
 use crate::source::source;
 use pipe_model::{Kind, NoMemory, Seen, Strand, Want};
 use stage_steps::{Copies, Each, Listed, Stage, TextLines};
@@ -9,10 +10,12 @@ use std::alloc::Global;
 /// A stage of a device.
 #[derive(Drop)]
 pub enum DeviceStage {
-    /// CONSOLE, first in its pipeline.
+    /// CONSOLE, first in its pipeline, and `<` of a file that is there.
     Source(Listed<TextLines>),
-    /// CONSOLE, not first in its pipeline.
-    Console(Listed<Each<Copies>>),
+    /// `<` of a file that isn't there.
+    Absent(Absent),
+    /// CONSOLE, not first in its pipeline, and `>`.
+    Sink(Listed<Each<Copies>>),
     Literal(Listed<Literals>),
     Hole(Listed<Each<Holes>>),
 }
@@ -29,7 +32,13 @@ impl DeviceStage {
         let outputs = strand.ports.has_output.as_slice();
         match &strand.kind {
             Kind::ConsoleIn { bytes } => Ok(DeviceStage::Source(source(alloc, bytes, outputs)?)),
-            Kind::ConsoleOut => Ok(DeviceStage::Console(console(alloc, outputs)?)),
+            Kind::ConsoleOut => Ok(DeviceStage::Sink(sink(alloc, outputs)?)),
+            Kind::FileIn {
+                bytes: Some(bytes),
+                ..
+            } => Ok(DeviceStage::Source(source(alloc, bytes, outputs)?)),
+            Kind::FileIn { bytes: None, .. } => Ok(DeviceStage::Absent(Absent {})),
+            Kind::FileOut { .. } => Ok(DeviceStage::Sink(sink(alloc, outputs)?)),
             Kind::Literal { text } => Ok(DeviceStage::Literal(Literals::stage(
                 alloc, text, outputs,
             )?)),
@@ -49,7 +58,8 @@ impl Stage for DeviceStage {
     fn first(&self) -> Want {
         match self {
             DeviceStage::Source(stage) => stage.first(),
-            DeviceStage::Console(stage) => stage.first(),
+            DeviceStage::Absent(stage) => stage.first(),
+            DeviceStage::Sink(stage) => stage.first(),
             DeviceStage::Literal(stage) => stage.first(),
             DeviceStage::Hole(stage) => stage.first(),
         }
@@ -61,7 +71,8 @@ impl Stage for DeviceStage {
     {
         match self {
             DeviceStage::Source(stage) => stage.resume(alloc, seen, bytes),
-            DeviceStage::Console(stage) => stage.resume(alloc, seen, bytes),
+            DeviceStage::Absent(stage) => stage.resume(alloc, seen, bytes),
+            DeviceStage::Sink(stage) => stage.resume(alloc, seen, bytes),
             DeviceStage::Literal(stage) => stage.resume(alloc, seen, bytes),
             DeviceStage::Hole(stage) => stage.resume(alloc, seen, bytes),
         }
@@ -70,7 +81,8 @@ impl Stage for DeviceStage {
     fn looks(&self) -> bool {
         match self {
             DeviceStage::Source(stage) => stage.looks(),
-            DeviceStage::Console(stage) => stage.looks(),
+            DeviceStage::Absent(stage) => stage.looks(),
+            DeviceStage::Sink(stage) => stage.looks(),
             DeviceStage::Literal(stage) => stage.looks(),
             DeviceStage::Hole(stage) => stage.looks(),
         }
@@ -79,7 +91,8 @@ impl Stage for DeviceStage {
     fn kept(&self) -> &[u8] {
         match self {
             DeviceStage::Source(stage) => stage.kept(),
-            DeviceStage::Console(stage) => stage.kept(),
+            DeviceStage::Absent(stage) => stage.kept(),
+            DeviceStage::Sink(stage) => stage.kept(),
             DeviceStage::Literal(stage) => stage.kept(),
             DeviceStage::Hole(stage) => stage.kept(),
         }

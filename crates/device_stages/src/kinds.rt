@@ -9,6 +9,11 @@ pub fn is_device(kind: &Kind) -> bool
 {
     matches!(
         kind,
-        Kind::ConsoleIn { .. } | Kind::ConsoleOut | Kind::Literal { .. } | Kind::Hole
+        Kind::ConsoleIn { .. }
+            | Kind::ConsoleOut
+            | Kind::FileIn { .. }
+            | Kind::FileOut { .. }
+            | Kind::Literal { .. }
+            | Kind::Hole
     )
 }
