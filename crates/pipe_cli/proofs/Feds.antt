@@ -20,18 +20,18 @@ use Rattle.pipe_cli.specs.Meaning.{fed_size, file_size}
 
 -- the CONSOLE that reads is built, whatever its bytes
 reader_built : (bytes : List ℕ) → IsBuilt (ConsoleIn bytes)
-reader_built bytes = record { stage = refl; whole = refl; fileless = refl }
+reader_built bytes = record { stage = refl; whole = refl; unread = refl; fileless = refl }
 
 -- a kind that is fed is built as before
 kind_built : (input : List ℕ) (files : Files) (kind : Kind) → IsBuilt kind → IsBuilt (fed_kind input files kind)
 kind_built input files (ConsoleIn bytes) built = reader_built input
-kind_built input files (FileIn name bytes) built = (let no = built.stage in cc)
+kind_built input files (FileIn name bytes) built = (let no = built.unread in cc)
 kind_built input files _ built = built
 
 -- what doesn't read the input isn't changed
 pub kind_unread : (input : List ℕ) (files : Files) (kind : Kind) → IsBuilt kind → reads_input kind ≡ false → fed_kind input files kind ≡ kind
 kind_unread input files (ConsoleIn bytes) built reads = cc
-kind_unread input files (FileIn name bytes) built reads = (let no = built.stage in cc)
+kind_unread input files (FileIn name bytes) built reads = (let no = built.unread in cc)
 kind_unread input files _ built reads = refl
 
 -- what does is given it
@@ -41,7 +41,7 @@ kind_read input files _ reads = cc
 
 -- no file is read yet
 no_file : (files : Files) (kind : Kind) → IsBuilt kind → file_size files (line_of kind).feed ≡ 0
-no_file files (FileIn name bytes) built = (let no = built.stage in cc)
+no_file files (FileIn name bytes) built = (let no = built.unread in cc)
 no_file files _ built = refl
 
 -- Strands
