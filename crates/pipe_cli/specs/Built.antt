@@ -1,5 +1,5 @@
 -- What is built so far of the stage table.
-use Rattle.std.specs.Prelude.{◌≡◌, true, false}
+use Rattle.std.specs.Prelude.{◌≡◌, Bool, true, false}
 use Rattle.std.specs.declared.option.Option.TheVariants.{Some}
 use Rattle.pipe_model.specs.declared.kind.Kind.{Kind}
 use Rattle.pipe_model.specs.declared.net.Net.{Net}
