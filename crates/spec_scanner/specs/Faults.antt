@@ -5,7 +5,7 @@ use Rattle.std.specs.declared.option.Option.{Option}
 use Rattle.std.specs.declared.option.Option.TheVariants.{Some, None}
 use Rattle.spec_scanner.specs.declared.fault.Fault.{Fault}
 use Rattle.spec_scanner.specs.declared.fault.SpecFaultKind.{SpecFaultKind}
-use Rattle.spec_scanner.specs.declared.fault.SpecFaultKind.TheVariants.{NoPiece, EmptyStage, BadOption, OpenOptions, BadValue, LabelTwice, UnknownLabel, BadLabel, LoneEscape, TooLong, UnknownStage, BadArguments, NoSuchStream, SecondConsole, TooManyStages, MisplacedConnector}
+use Rattle.spec_scanner.specs.declared.fault.SpecFaultKind.TheVariants.{NoPiece, EmptyStage, BadOption, OpenOptions, BadValue, LabelTwice, UnknownLabel, BadLabel, LoneEscape, TooLong, UnknownStage, BadArguments, NoSuchStream, NotFirst, SecondConsole, TooManyStages, MisplacedConnector, SecondFile}
 
 -- the number under which a fault is reported
 abbrev pub number_of : SpecFaultKind → ℕ
@@ -22,9 +22,11 @@ number_of TooLong = 10
 number_of UnknownStage = 11
 number_of BadArguments = 12
 number_of NoSuchStream = 13
+number_of NotFirst = 14
 number_of SecondConsole = 15
 number_of TooManyStages = 16
 number_of MisplacedConnector = 17
+number_of SecondFile = 18
 
 -- a fault that isn't of an argument
 abbrev pub fault : SpecFaultKind → ℕ → Fault

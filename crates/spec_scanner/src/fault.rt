@@ -33,12 +33,16 @@ pub enum SpecFaultKind {
     BadArguments,
     /// A later use of a label that is of a stream past 63, or connects one past those that the stage may have, at the label.
     NoSuchStream,
+    /// A `<` that isn't first in its pipeline, at the name.
+    NotFirst,
     /// A second CONSOLE that reads, or a second one that writes, at the name.
     SecondConsole,
     /// A 1,025th stage, at the stage.
     TooManyStages,
     /// A connector in the main specification, at the connector.
     MisplacedConnector,
+    /// A second `>` of one file, at the name of the stage.
+    SecondFile,
 }
 
 impl SpecFaultKind {
@@ -60,9 +64,11 @@ impl SpecFaultKind {
             SpecFaultKind::UnknownStage => 11,
             SpecFaultKind::BadArguments => 12,
             SpecFaultKind::NoSuchStream => 13,
+            SpecFaultKind::NotFirst => 14,
             SpecFaultKind::SecondConsole => 15,
             SpecFaultKind::TooManyStages => 16,
             SpecFaultKind::MisplacedConnector => 17,
+            SpecFaultKind::SecondFile => 18,
         }
     }
 

@@ -33,6 +33,7 @@ pub mod StringPairs
 pub mod StringParts
 pub mod TakenParts
 pub mod Typed
+pub mod TypedFiles
 pub mod TypedJoins
 pub mod TypedKinds
 pub mod TypedOrder

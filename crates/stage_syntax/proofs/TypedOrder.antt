@@ -21,7 +21,7 @@ use Rattle.pipe_model.specs.Proper.{are_totals, greatest, is_cutting, is_image, 
 use Rattle.pipe_model.specs.Straight.{all_columns}
 use Rattle.pipe_model.proofs.Truths.{both}
 use Rattle.stage_syntax.proofs.ReadValues.{AreOfRow, IsOfOne, range_of_one, right_of_row, string_of_one}
-use Rattle.stage_syntax.proofs.Typed.{IsTyped, known}
+use Rattle.stage_syntax.proofs.Typed.{IsOther, known}
 use Rattle.stage_syntax.specs.Forms.{row}
 use Rattle.stage_syntax.specs.OrderForms.{before_unique, of_unique, wrong_unique, keep_of, is_last, before_sort, of_sort, sort_of, key_of, keys_of, is_range_value, ranges_in, ends_with_range, before_count, count_of, totals_of, before_fblock, of_fblock, before_block, of_block, before_deblock, of_deblock}
 use Rattle.stage_syntax.specs.Rows.{Makes, Row}
@@ -95,10 +95,10 @@ keys_are _ = tt
 module _ (first : Bool) where
   -- UNIQUE
 
-  unique_known : (count : Bool) (range : Range) (keep : Keep) → is_range range ≡ true → (not count || may_count keep) ≡ true → IsTyped first (Kinds.Unique count range keep)
+  unique_known : (count : Bool) (range : Range) (keep : Keep) → is_range range ≡ true → (not count || may_count keep) ≡ true → IsOther first (Kinds.Unique count range keep)
   unique_known count range keep proper may = known first (Kinds.Unique count range keep) refl refl (rw (proper, may) refl)
 
-  uniquing : (values : List Value) → AreOfRow unique_row [] values → (lefts : List ℕ) → length lefts ≡ length values → wrong_unique values lefts ≡ None → IfSome (of_unique values) (IsTyped first)
+  uniquing : (values : List Value) → AreOfRow unique_row [] values → (lefts : List ℕ) → length lefts ≡ length values → wrong_unique values lefts ≡ None → IfSome (of_unique values) (IsOther first)
   uniquing [] are lefts each right = unique_known false all_columns Keeps.Last refl refl
   uniquing (Read.Word Count ∷ []) are lefts each right = unique_known true all_columns Keeps.Last refl refl
   uniquing (Read.Word Count ∷ (Read.Word word ∷ [])) are (left ∷ lefts) each right = unique_known true all_columns (keep_of word) refl (may_keep word (is_right (is_last word) _ right))
@@ -112,10 +112,10 @@ module _ (first : Bool) where
   uniquing (Read.Word Count ∷ (Read.Range range ∷ (Read.Word key ∷ []))) are [] each right = absurd (omega (arith, each))
   uniquing _ are lefts each right = tt
 
-  pub of_unique_row : (text : List ℕ) (kind : Kind) → Makes unique_row [] [] text kind → IsTyped first kind
+  pub of_unique_row : (text : List ℕ) (kind : Kind) → Makes unique_row [] [] text kind → IsOther first kind
   of_unique_row text kind makes =
       let made = right_of_row unique_row text kind refl makes in
-      subst (λ (o : Option Kind). IfSome o (IsTyped first)) made.2 (uniquing made.0 made.3 made.1 made.4 made.5)
+      subst (λ (o : Option Kind). IfSome o (IsOther first)) made.2 (uniquing made.0 made.3 made.1 made.4 made.5)
 
   -- Blocks
 
@@ -123,25 +123,25 @@ module _ (first : Bool) where
   size_of n (inl is) = let value = is.1 in let same : is.0 ≡ n = cc in subst (λ (n : ℕ). is_size n ≡ true) same (rw (le-leb 1 is.0 is.2, le-leb is.0 greatest is.3) refl)
   size_of n (inr is) = absurd is
 
-  pub filling : (values : List Value) → AreOfRow (row before_fblock of_fblock) [] values → IfSome (of_fblock values) (IsTyped first)
+  pub filling : (values : List Value) → AreOfRow (row before_fblock of_fblock) [] values → IfSome (of_fblock values) (IsOther first)
   filling (Read.Number n ∷ []) are = known first (Kinds.Fblock n None) refl refl (size_of n are.0)
   filling (Read.Number n ∷ (Read.Byte byte ∷ [])) are = known first (Kinds.Fblock n (Some byte)) refl refl (size_of n are.0)
   filling _ are = tt
 
-  block_known : (n : ℕ) (image : Image) → is_size n ≡ true → is_image image ≡ true → IsTyped first (Kinds.Block n image)
+  block_known : (n : ℕ) (image : Image) → is_size n ≡ true → is_image image ≡ true → IsOther first (Kinds.Block n image)
   block_known n image size proper = known first (Kinds.Block n image) refl refl (rw (size, proper) refl)
 
-  pub blocking : (values : List Value) → AreOfRow (row before_block of_block) [] values → IfSome (of_block values) (IsTyped first)
+  pub blocking : (values : List Value) → AreOfRow (row before_block of_block) [] values → IfSome (of_block values) (IsOther first)
   blocking (Read.Number n ∷ (Read.Word Fixed ∷ [])) are = block_known n Images.Fixed (size_of n are.0) refl
   blocking (Read.Number n ∷ (Read.Word Linend ∷ [])) are = block_known n Images.Linend (size_of n are.0) refl
   blocking (Read.Number n ∷ (Read.Word Sf ∷ [])) are = block_known n Images.Sf (size_of n are.0) refl
   blocking (Read.Number n ∷ (Read.Word String ∷ (Read.String string ∷ []))) are = block_known n (Images.Text string) (size_of n are.0) (string_of_one (Asked.String ∷ []) string refl are.1.1.0)
   blocking _ are = tt
 
-  deblock_known : (cutting : Cutting) → is_cutting cutting ≡ true → IsTyped first (Kinds.Deblock cutting)
+  deblock_known : (cutting : Cutting) → is_cutting cutting ≡ true → IsOther first (Kinds.Deblock cutting)
   deblock_known cutting proper = known first (Kinds.Deblock cutting) refl refl proper
 
-  pub deblocking : (values : List Value) → AreOfRow (row before_deblock of_deblock) [] values → IfSome (of_deblock values) (IsTyped first)
+  pub deblocking : (values : List Value) → AreOfRow (row before_deblock of_deblock) [] values → IfSome (of_deblock values) (IsOther first)
   deblocking (Read.Word Fixed ∷ (Read.Number n ∷ [])) are = deblock_known (Cuttings.Fixed n) (size_of n are.1.0)
   deblocking (Read.Word Linend ∷ []) are = deblock_known Cuttings.Linend refl
   deblocking (Read.Word Sf ∷ []) are = deblock_known Cuttings.Sf refl
@@ -155,12 +155,12 @@ module _ (first : Bool) where
 
   -- whatever comes behind these arguments
   abbrev Goes : List Value → Type 0
-  Goes before = (values : List Value) → AreOfRow count_row before values → IfSome (count_of (totals_of (before ++ values))) (IsTyped first)
+  Goes before = (values : List Value) → AreOfRow count_row before values → IfSome (count_of (totals_of (before ++ values))) (IsOther first)
 
-  goes : (before : List Value) → IfSome (count_of (totals_of (before ++ []))) (IsTyped first) → ((value : Value) → IsOfOne (before_count before) value → Goes (before ++ value ∷ [])) → Goes before
+  goes : (before : List Value) → IfSome (count_of (totals_of (before ++ []))) (IsOther first) → ((value : Value) → IsOfOne (before_count before) value → Goes (before ++ value ∷ [])) → Goes before
   goes before here more [] are = here
   goes before here more (value ∷ values) are =
-      subst (λ (all : List Value). IfSome (count_of (totals_of all)) (IsTyped first)) (append_assoc before (value ∷ []) values) (more value are.0 values are.1)
+      subst (λ (all : List Value). IfSome (count_of (totals_of all)) (IsOther first)) (append_assoc before (value ∷ []) values) (more value are.0 values are.1)
 
   by_word : (before : List Value) (key : Word) (value : Value) → value ≡ Read.Word key → Goes (before ++ Read.Word key ∷ []) → Goes (before ++ value ∷ [])
   by_word before key value is then = subst (λ (value : Value). Goes (before ++ value ∷ [])) (sym is) then
@@ -168,7 +168,7 @@ module _ (first : Bool) where
   abbrev asked : Word → List Value → List Value
   asked key values = Read.Word key ∷ values
 
-  count_known : (totals : List Total) → are_totals totals ≡ true → IsTyped first (Kinds.Count totals)
+  count_known : (totals : List Total) → are_totals totals ≡ true → IsOther first (Kinds.Count totals)
   count_known totals proper = known first (Kinds.Count totals) refl refl proper
 
   goes_lines_words_bytes : Goes (asked Lines (asked Words (asked Bytes [])))
@@ -264,7 +264,7 @@ module _ (first : Bool) where
       next value (inr (inr (inl is))) = by_word [] Bytes value is goes_bytes
       next value (inr (inr (inr is))) = absurd is
 
-  pub counting : (values : List Value) → AreOfRow count_row [] values → IfSome (count_of (totals_of values)) (IsTyped first)
+  pub counting : (values : List Value) → AreOfRow count_row [] values → IfSome (count_of (totals_of values)) (IsOther first)
   counting values are = counting_all values are
 
   -- SORT
@@ -288,12 +288,12 @@ module _ (first : Bool) where
   right_ranges before (Read.Range range ∷ values) are = rw (range_of_one (before_sort before) range are.0, right_ranges (before ++ Read.Range range ∷ []) values are.1) refl
   right_ranges before (value ∷ values) are = right_ranges (before ++ value ∷ []) values are.1
 
-  sort_known : (values : List Value) → ranges_in values ≤ 10 → list_all is_sound values ≡ true → (keys : Option (List SortKey)) → IfSome keys (AreKeysOf values) → IfSome (option_map sort_of keys) (IsTyped first)
+  sort_known : (values : List Value) → ranges_in values ≤ 10 → list_all is_sound values ≡ true → (keys : Option (List SortKey)) → IfSome keys (AreKeysOf values) → IfSome (option_map sort_of keys) (IsOther first)
   sort_known values few right None are = tt
   sort_known values few right (Some []) are = known first (Kinds.Sort (key_of all_columns false ∷ [])) refl refl refl
   sort_known values few right (Some (key ∷ keys)) are =
       let size : length (key ∷ keys) ≤ 10 = omega (arith, are.0, few) in
       known first (Kinds.Sort (key ∷ keys)) refl refl (rw (le-leb 1 (length (key ∷ keys)) (omega arith), le-leb (length (key ∷ keys)) 10 size, are.1 right) refl)
 
-  pub sorting : (values : List Value) → AreOfRow sort_row [] values → IfSome (of_sort values) (IsTyped first)
+  pub sorting : (values : List Value) → AreOfRow sort_row [] values → IfSome (of_sort values) (IsOther first)
   sorting values are = sort_known values (few_ranges [] values (omega arith) are) (right_ranges [] values are) (keys_of values) (keys_are values)

@@ -20,7 +20,7 @@ use Rattle.pipe_model.specs.declared.kind.Kind.TheVariants as Kinds
 use Rattle.pipe_model.specs.Proper.{is_counter, is_item, is_origin, is_spot}
 use Rattle.pipe_model.specs.SpecsRows.{reads}
 use Rattle.stage_syntax.proofs.ReadValues.{AreOfRow, IsOfOne, is_proper, proper_of_one}
-use Rattle.stage_syntax.proofs.Typed.{IsTyped, known}
+use Rattle.stage_syntax.proofs.Typed.{IsOther, known}
 use Rattle.stage_syntax.specs.declared.item_lists.ItemState.{ItemState}
 use Rattle.stage_syntax.specs.declared.item_lists.ItemState.TheVariants.{Front, Between, Printing, Putting, Placing, Padding, Setting, Counting, Giving, Numbering}
 use Rattle.stage_syntax.specs.declared.item_parts.Due.TheVariants as Comes
@@ -207,13 +207,13 @@ goes before (value ∷ values) sound are =
 -- What the arguments make
 
 module _ (first : Bool) where
-  lists_typed : (before : Option (List Item)) (items : List Item) → AreProper before items → (is_some before ≡ false → 1 ≤ length items) → IsTyped first (lists_of before items)
+  lists_typed : (before : Option (List Item)) (items : List Item) → AreProper before items → (is_some before ≡ false → 1 ≤ length items) → IsOther first (lists_of before items)
   lists_typed None items are some = known first (Kinds.Specs items None) refl refl (rw (le-leb 1 (length items) (some refl), are.each) refl)
   lists_typed (Some before) items are some =
       let is = are.before_eof in
       known first (Kinds.Specs before (Some items)) refl refl (rw (le-leb 1 (length before) is.0, is.1, are.each, is.2) refl)
 
-  made_typed : (state : ItemState) (d : Draft) → AreProper d.before d.items → Stands state d.before d.items → IfSome (made_by state d) (IsTyped first)
+  made_typed : (state : ItemState) (d : Draft) → AreProper d.before d.items → Stands state d.before d.items → IfSome (made_by state d) (IsOther first)
   made_typed Between d lists stands = lists_typed d.before d.items lists stands
   made_typed (Placing origin strip convert spot) d lists stands =
       let field = Items.Field origin strip convert spot Aligns.Left in
@@ -221,7 +221,7 @@ module _ (first : Bool) where
       lists_typed d.before (d.items ++ field ∷ []) sound.lists sound.stands
   made_typed _ d lists stands = tt
 
-  pub specifying : (values : List Value) → AreOfRow specs_row [] values → IfSome (of_specs values) (IsTyped first)
+  pub specifying : (values : List Value) → AreOfRow specs_row [] values → IfSome (of_specs values) (IsOther first)
   specifying values are =
       let sound = goes [] values (record { lists = record { each = refl; before_eof = tt }; stands = refl }) are in
       made_typed (draft_of values).state (draft_of values) sound.lists sound.stands

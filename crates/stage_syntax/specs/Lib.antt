@@ -4,6 +4,7 @@ pub mod Bytes
 pub mod DeviceForms
 pub mod EditingForms
 pub mod Fault
+pub mod Files
 pub mod Forms
 pub mod ItemForms
 pub mod ItemLists

@@ -46,8 +46,8 @@ coming name arguments = record { name = name; runs = false; arguments = argument
 abbrev pub stages : Bool → List Named
 stages first =
     running (codes "console") (console first)
-    ∷ (coming (codes "<") file_in
-    ∷ (coming (codes ">") file_out
+    ∷ (running (codes "<") file_in
+    ∷ (running (codes ">") file_out
     ∷ (running (codes "literal") literal
     ∷ (running (codes "hole") (no_arguments Kinds.Hole)
     ∷ (running (codes "locate") locate

@@ -8,8 +8,8 @@ use crate::form::Form;
 /// The names of stages, whether each can be typed, and the form of its arguments.
 pub const STAGES: [(&[u8], bool, Form); 48] = [
     (b"console", true, Form::Console),
-    (b"<", false, Form::FileIn),
-    (b">", false, Form::FileOut),
+    (b"<", true, Form::FileIn),
+    (b">", true, Form::FileOut),
     (b"literal", true, Form::Literal),
     (b"hole", true, Form::Hole),
     (b"locate", true, Form::Locate),
