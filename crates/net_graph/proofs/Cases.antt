@@ -1,7 +1,7 @@
 -- Specifications whose nets and faults are as they should be, by computation.
 use Rattle.std.proofs.Common.{◌≡◌, ℕ, true, false, List, [], ◌∷◌, drop, map, slice_get, take, option_map, codes, refl, Some, None, Ok, Err, inl, inr}
 use Rattle.pipe_model.specs.declared.kind.Kind.{Kind}
-use Rattle.pipe_model.specs.declared.kind.Kind.TheVariants.{ConsoleIn, ConsoleOut, Dam, Elastic, FanIn, FanOut, Hole, Literal, Locate}
+use Rattle.pipe_model.specs.declared.kind.Kind.TheVariants.{ConsoleIn, ConsoleOut, Dam, Elastic, FanIn, FanOut, FileIn, FileOut, Hole, Literal, Locate}
 use Rattle.pipe_model.specs.declared.range.Span.TheVariants.{Columns}
 use Rattle.pipe_model.specs.declared.net.Net.{Net}
 use Rattle.pipe_model.specs.declared.net.Ports.{Ports}
@@ -11,7 +11,7 @@ use Rattle.stage_syntax.specs.Arg.{ArgText}
 use Rattle.stage_syntax.specs.declared.fault.KindFault.TheVariants.{Unknown}
 use Rattle.spec_scanner.specs.declared.piece.Piece.{Piece}
 use Rattle.spec_scanner.specs.declared.piece.PieceKind.TheVariants.{Stage, Reference, Connector}
-use Rattle.spec_scanner.specs.declared.fault.SpecFaultKind.TheVariants.{UnknownStage, NoSuchStream, SecondConsole, MisplacedConnector}
+use Rattle.spec_scanner.specs.declared.fault.SpecFaultKind.TheVariants.{UnknownStage, NoSuchStream, NotFirst, SecondConsole, MisplacedConnector, SecondFile}
 use Rattle.spec_scanner.specs.Faults.{fault}
 use Rattle.net_graph.specs.Faults.{faults_of}
 use Rattle.net_graph.specs.Nets.{net_of}
@@ -155,3 +155,17 @@ two_read = refl
 -- console | *.output.1:
 not_issued : faults_of ((console 0 ∷ (connector 10 ∷ [])) ∷ []) (Ok (ConsoleIn []) ∷ []) ≡ fault MisplacedConnector 10 ∷ []
 not_issued = refl
+
+-- locate /x/ | < f
+late_reader : faults_of ((locate 0 ∷ (stage (codes "<") 13 ∷ [])) ∷ []) (Ok (locates (codes "x")) ∷ (Ok (FileIn (codes "f") None) ∷ [])) ≡ fault NotFirst 13 ∷ []
+late_reader = refl
+
+-- < a | > b ? < c | > b
+one_file_twice : faults_of ((stage (codes "<") 0 ∷ (stage (codes ">") 6 ∷ [])) ∷ ((stage (codes "<") 12 ∷ (stage (codes ">") 18 ∷ [])) ∷ []))
+    (Ok (FileIn (codes "a") None) ∷ (Ok (FileOut (codes "b")) ∷ (Ok (FileIn (codes "c") None) ∷ (Ok (FileOut (codes "b")) ∷ [])))) ≡ fault SecondFile 18 ∷ []
+one_file_twice = refl
+
+-- < a | > b ? < a | > c
+two_files : faults_of ((stage (codes "<") 0 ∷ (stage (codes ">") 6 ∷ [])) ∷ ((stage (codes "<") 12 ∷ (stage (codes ">") 18 ∷ [])) ∷ []))
+    (Ok (FileIn (codes "a") None) ∷ (Ok (FileOut (codes "b")) ∷ (Ok (FileIn (codes "a") None) ∷ (Ok (FileOut (codes "c")) ∷ [])))) ≡ []
+two_files = refl

@@ -1,17 +1,17 @@
 -- The faults of arguments of pieces that are spread stand one after another.
-use Rattle.std.proofs.Common.{◌≡◌, ◌≢◌, ◌⊎◌, inl, inr, ℕ, suc, ◌-◌, ◌≤◌, nat_lt, Bool, true, false, if◌then◌else◌, List, [], ◌∷◌, ◌++◌, length, map, get_or, slice_get, refl, sym, ap, ◌∙◌, subst, arith, append_assoc, length-append, Option, Some, None, Ok, Err}
+use Rattle.std.proofs.Common.{◌≡◌, ◌≢◌, ◌⊎◌, inl, inr, ℕ, suc, ◌-◌, ◌≤◌, nat_lt, Bool, true, false, if◌then◌else◌, List, [], ◌∷◌, ◌++◌, length, map, take, get_or, slice_get, refl, sym, ap, ◌∙◌, subst, arith, append_assoc, length-append, Option, Some, None, Ok, Err}
 use Rattle.std.specs.Option.{option_and_then}
 use Rattle.std.specs.declared.result.Result.{Result}
 use Rattle.pipe_model.specs.declared.kind.Kind.{Kind}
 use Rattle.stage_syntax.specs.declared.fault.KindFault.{KindFault}
 use Rattle.stage_syntax.specs.declared.fault.KindFault.TheVariants.{Unknown, Argument, NoMemory}
 use Rattle.spec_scanner.specs.declared.fault.SpecFaultKind.{SpecFaultKind}
-use Rattle.spec_scanner.specs.declared.fault.SpecFaultKind.TheVariants.{BadArguments, NoSuchStream, SecondConsole, TooManyStages}
+use Rattle.spec_scanner.specs.declared.fault.SpecFaultKind.TheVariants.{BadArguments, NoSuchStream, NotFirst, SecondConsole, SecondFile, TooManyStages}
 use Rattle.spec_scanner.specs.Faults.{fault, number_of}
 use Rattle.spec_scanner.specs.declared.fault.Fault.{Fault}
 use Rattle.spec_scanner.specs.declared.piece.PieceKind.{PieceKind}
 use Rattle.spec_scanner.specs.declared.piece.PieceKind.TheVariants.{Stage, Reference, Connector}
-use Rattle.net_graph.specs.Faults.{console_faults, faults_from, faults_of_kind, kind_at, kind_faults, stage_faults, stream_faults}
+use Rattle.net_graph.specs.Faults.{console_faults, faults_from, faults_of_kind, file_faults, first_faults, kind_at, kind_faults, stage_faults, stream_faults}
 use Rattle.net_graph.specs.Nets.{AreOutcomes, IsOutcome}
 use Rattle.net_graph.specs.Stands.{Stand, is_of_stage, stage_of, stages_of}
 use Rattle.net_graph.proofs.PieceSpreads.{IsPlaced, Spread}
@@ -50,6 +50,12 @@ stage_ranked at end number stand within = by (nat_lt number 1024) where
 
 console_ranked : (at end : ℕ) (earlier : List Stand) (stand : Stand) → at ≤ end → Ranked at (console_faults earlier stand) end
 console_ranked at end earlier stand within = plain_ranked at end SecondConsole stand.piece.name_place within (λ same. absurd (omega arith)) _
+
+first_ranked : (at end : ℕ) (stand : Stand) → at ≤ end → Ranked at (first_faults stand) end
+first_ranked at end stand within = plain_ranked at end NotFirst stand.piece.name_place within (λ same. absurd (omega arith)) _
+
+file_ranked : (at end : ℕ) (earlier : List (Result Kind KindFault)) (stand : Stand) (outcome : Option (Result Kind KindFault)) → at ≤ end → Ranked at (file_faults earlier stand outcome) end
+file_ranked at end earlier stand outcome within = plain_ranked at end SecondFile stand.piece.name_place within (λ same. absurd (omega arith)) _
 
 stream_ranked : (at end : ℕ) (stand : Stand) (kind : Option Kind) → at ≤ end → Ranked at (stream_faults stand kind) end
 stream_ranked at end stand kind within = plain_ranked at end NoSuchStream stand.piece.place within (λ same. absurd (omega arith)) _
@@ -114,10 +120,17 @@ module _ (whole : List Stand) (outcomes : List (Result Kind KindFault)) where
   stand_ranked at last end earlier stand stands Stage within placed later left =
       let next = next_left earlier stand (stages_of stands) left in
       let outcome = slice_get outcomes (length earlier) in
-      ranked_joined at (stage_faults (length earlier) stand ++ (kind_faults stand outcome ++ console_faults earlier stand)) (suc last) _ end
-      (ranked_joined at (stage_faults (length earlier) stand) at (kind_faults stand outcome ++ console_faults earlier stand) (suc last) (stage_ranked at at (length earlier) stand (omega arith))
-      (ranked_joined at (kind_faults stand outcome) (suc last) (console_faults earlier stand) (suc last) (kind_ranked at last stand outcome within placed next.here)
-      (console_ranked (suc last) (suc last) earlier stand (omega arith))))
+      let end_here = suc last in
+      let of_files = file_faults (take (length earlier) outcomes) stand outcome in
+      let from_consoles = console_faults earlier stand ++ of_files in
+      let from_firsts = first_faults stand ++ from_consoles in
+      let from_kinds = kind_faults stand outcome ++ from_firsts in
+      ranked_joined at (stage_faults (length earlier) stand ++ from_kinds) end_here _ end
+      (ranked_joined at (stage_faults (length earlier) stand) at from_kinds end_here (stage_ranked at at (length earlier) stand (omega arith))
+      (ranked_joined at (kind_faults stand outcome) end_here from_firsts end_here (kind_ranked at last stand outcome within placed next.here)
+      (ranked_joined end_here (first_faults stand) end_here from_consoles end_here (first_ranked end_here end_here stand (omega arith))
+      (ranked_joined end_here (console_faults earlier stand) end_here of_files end_here (console_ranked end_here end_here earlier stand (omega arith))
+      (file_ranked end_here end_here (take (length earlier) outcomes) stand outcome (omega arith))))))
       (later (earlier ++ stand ∷ []) next.later)
   stand_ranked at last end earlier stand stands Reference within placed later left =
       ranked_joined at (stream_faults stand (option_and_then (kind_at outcomes) (stage_of whole stand.piece.label))) (suc last) _ end

@@ -14,11 +14,11 @@ use Rattle.spec_scanner.specs.declared.fault.Fault.{Fault}
 use Rattle.spec_scanner.specs.declared.piece.Piece.{Piece}
 use Rattle.spec_scanner.specs.declared.piece.PieceKind.{PieceKind}
 use Rattle.spec_scanner.specs.declared.piece.PieceKind.TheVariants.{Stage, Reference, Connector}
-use Rattle.spec_scanner.specs.declared.fault.SpecFaultKind.TheVariants.{NoSuchStream, TooManyStages}
+use Rattle.spec_scanner.specs.declared.fault.SpecFaultKind.TheVariants.{NoSuchStream, NotFirst, TooManyStages}
 use Rattle.spec_scanner.specs.Faults.{fault}
 use Rattle.net_graph.specs.Stands.{Stand, is_of_stage, is_stage, stage_of, stages_of, stands_of}
 use Rattle.net_graph.specs.Nets.{inputs_of, outputs_of}
-use Rattle.net_graph.specs.Faults.{faults_from, faults_of, faults_of_kind, is_past, kind_at, most_stages, most_streams, stage_faults, stream_faults}
+use Rattle.net_graph.specs.Faults.{faults_from, faults_of, faults_of_kind, first_faults, is_file_reader, is_past, kind_at, kind_faults, most_stages, most_streams, stage_faults, stream_faults}
 use Rattle.net_graph.proofs.FormedLists.{below_unless_not, last_counted, nothing_joined}
 
 -- each stand has no fault, after the stages before it
@@ -74,6 +74,19 @@ module _ (pipelines : List (List Piece)) (kinds : List Kind) (good : faults_of p
       where
         below : nat_lt (length (stages_of done)) 1024 ≡ true → length (stages_of done) < 1024
         below is = grind (arith, nat_tests)
+
+    -- only the first stage of a pipeline is named `<`
+    pub later_reader : stand.piece.kind ≡ Stage → stand.first ≡ false → is_file_reader stand.piece ≡ false
+    later_reader is comes =
+        let kinds_on = (nothing_joined (stage_faults (length (stages_of done)) stand) _ (good_at Stage is)).1 in
+        let firsts_on = (nothing_joined (kind_faults stand (slice_get outcomes (length (stages_of done)))) _ kinds_on).1 in
+        let none = (nothing_joined (first_faults stand) _ firsts_on).0 in
+        let neither = no_fault (is_file_reader stand.piece && not stand.first) (fault NotFirst stand.piece.name_place) none in
+        of_test (is_file_reader stand.piece) (ap (λ first. is_file_reader stand.piece && not first) (sym comes) ∙ neither)
+      where
+        of_test : (b : Bool) → (b && true) ≡ false → b ≡ false
+        of_test true is = cc
+        of_test false is = refl
 
     -- a later use of a stage
     module _ (is : stand.piece.kind ≡ Reference) (stage : ℕ) (kind : Kind) (found : stage_of whole stand.piece.label ≡ Some stage) (here : slice_get kinds stage ≡ Some kind) where

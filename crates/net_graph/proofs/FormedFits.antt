@@ -1,20 +1,24 @@
 -- The stream that a stand is for is one that its stage has.
-use Rattle.std.proofs.Common.{◌≡◌, ◌⊎◌, inl, inr, ℕ, zero, suc, ◌≤◌, ◌<◌, true, false, List, [], ◌∷◌, ◌++◌, refl, sym, ◌∙◌, ap, subst, arith, Option, Some, None, slice_get, length, map}
+use Rattle.std.proofs.Common.{◌≡◌, ◌⊎◌, inl, inr, ℕ, zero, suc, ◌≤◌, ◌<◌, Bool, true, false, List, [], ◌∷◌, ◌++◌, refl, sym, ◌∙◌, ap, subst, arith, Option, Some, None, slice_get, length, map}
 use Rattle.std.proofs.lemmas.Bool.{eqb-true}
-use Rattle.std.specs.Prelude.{Ok}
+use Rattle.std.specs.Prelude.{Ok, codes}
+use Rattle.std.specs.Str.{bytes_eq}
 use Rattle.std.specs.List.{count_by}
 use Rattle.pipe_model.specs.declared.kind.Kind.{Kind}
+use Rattle.pipe_model.specs.Table.{line_of}
 use Rattle.pipe_model.proofs.Truths.{both}
 use Rattle.pipe_model.proofs.Lists.{get_seam}
-use Rattle.stage_syntax.proofs.TypedKinds.{typed_kind}
+use Rattle.stage_syntax.proofs.TypedKinds.{reader_named, typed_kind}
+use Rattle.stage_syntax.specs.Files.{is_of_file}
+use Rattle.stage_syntax.specs.Kinds.{IsKind}
 use Rattle.spec_scanner.specs.declared.piece.Piece.{Piece}
 use Rattle.spec_scanner.specs.declared.piece.PieceKind.{PieceKind}
 use Rattle.spec_scanner.specs.declared.piece.PieceKind.TheVariants.{Stage, Reference, Connector}
 use Rattle.net_graph.specs.Stands.{Spot, Stand, is_label, is_of_reference, refers_to, stage_of, stages_of, stands_of, streams_of}
 use Rattle.net_graph.specs.Nets.{AreOutcomes, inputs_of, outputs_of}
 use Rattle.net_graph.specs.Numbered.{AreScanned, IsNumbered}
-use Rattle.net_graph.specs.Faults.{faults_of}
-use Rattle.net_graph.proofs.FormedFaults.{few_streams, input_there, output_there}
+use Rattle.net_graph.specs.Faults.{faults_of, is_file_reader}
+use Rattle.net_graph.proofs.FormedFaults.{few_streams, input_there, later_reader, output_there}
 use Rattle.net_graph.proofs.FormedKinds.{kind_here}
 use Rattle.net_graph.proofs.FormedLabels.{counted_with, numbered_at, reference_is, stage_is, stages_with, none_referred}
 use Rattle.net_graph.proofs.FormedLists.{last_counted}
@@ -30,6 +34,15 @@ reference_kind : (kind : PieceKind) → is_of_reference kind ≡ true → kind �
 reference_kind Stage is = cc
 reference_kind Reference is = refl
 reference_kind Connector is = cc
+
+-- a stage that isn't named `<` is fed no file
+fed_none : (stand : Stand) (kind : Kind) → IsKind stand.piece.name stand.piece.arg stand.first kind → is_file_reader stand.piece ≡ false → is_of_file (line_of kind).feed ≡ false
+fed_none stand kind is other = by (is_of_file (line_of kind).feed) refl where
+  by : (file : Bool) → is_of_file (line_of kind).feed ≡ file → file ≡ false
+  by false fed = refl
+  by true fed =
+      let reader : is_file_reader stand.piece ≡ true = ap (λ name. bytes_eq name (codes "<")) (reader_named stand.piece.name stand.piece.arg stand.first kind is fed) in
+      cc
 
 -- the stage of a stand's stream, and the kind of it
 pub record Fits (whole : List Stand) (kinds : List Kind) (stand : Stand) (spot : Spot) : Type 0 where
@@ -63,7 +76,7 @@ module _ (pipelines : List (List Piece)) (kinds : List Kind) (scanned : AreScann
           kind_there = kind.1;
           stream = omega (arith, here.stream);
           output = λ goes_on. omega (arith, here.stream, typed.plain.output);
-          input = λ comes. omega (arith, here.stream, typed.plain.input comes);
+          input = λ comes. omega (arith, here.stream, typed.plain.input comes (fed_none stand kind.0 kind.2 (later_reader pipelines kinds good stands.done stands.rest stand stands.cut here.kind comes)));
         }
 
     fits_used : Refers whole stands.done stand spot → Fits whole kinds stand spot

@@ -12,7 +12,7 @@ use Rattle.pipe_model.proofs.Lists.{get_seam}
 use Rattle.spec_scanner.specs.declared.piece.Piece.{Piece}
 use Rattle.net_graph.specs.Numbered.{AreScanned}
 use Rattle.net_graph.proofs.Formed.{formed}
-use Rattle.net_graph.specs.Faults.{IsGraph, console_faults, faults_from, faults_of, faults_of_kind, kind_faults, stage_faults}
+use Rattle.net_graph.specs.Faults.{IsGraph, faults_from, faults_of, faults_of_kind, kind_faults, stage_faults}
 use Rattle.net_graph.specs.Kept.{kinds_in}
 use Rattle.net_graph.specs.Nets.{AreOutcomes, IsOutcome, net_of}
 use Rattle.net_graph.specs.Stands.{Stand, is_of_stage, is_stage, stages_of, stands_of}
@@ -31,8 +31,8 @@ module _ (stands : List Stand) (outcomes : List (Result Kind KindFault)) where
   kind_here : (front left : List (Result Kind KindFault)) (earlier : List Stand) (s : Stand) (outcome : Result Kind KindFault) → outcomes ≡ front ++ outcome ∷ left → length front ≡ length earlier →
       faults_of_kind stands outcomes earlier s Stage ≡ [] → IsOutcome s outcome → (kind : Kind) × (outcome ≡ Ok kind)
   kind_here front left earlier s outcome all size none is =
-      let two = nothing_joined (stage_faults (length earlier) s) (kind_faults s (slice_get outcomes (length earlier)) ++ console_faults earlier s) none in
-      let here = nothing_joined (kind_faults s (slice_get outcomes (length earlier))) (console_faults earlier s) two.1 in
+      let two = nothing_joined (stage_faults (length earlier) s) _ none in
+      let here = nothing_joined (kind_faults s (slice_get outcomes (length earlier))) _ two.1 in
       let found : slice_get outcomes (length earlier) ≡ Some outcome = rw (← size, all) (get_seam front outcome left) in
       has_kind s outcome is (sym (ap (kind_faults s) found) ∙ here.0)
 

@@ -3,6 +3,7 @@ pub mod Assembled
 pub mod Cases
 pub mod FaultRanks
 pub mod Feeds
+pub mod Filings
 pub mod Likes
 pub mod Formed
 pub mod FormedFaults
@@ -31,6 +32,7 @@ pub mod StraightKinds
 pub mod StraightPieces
 pub mod StraightStrands
 pub mod Tables
+pub mod UnfiledGraphs
 pub mod Usages
 pub mod Walks
 pub mod WholeNets

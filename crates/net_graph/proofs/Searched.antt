@@ -1,5 +1,5 @@
 -- The search finds the least fault.
-use Rattle.std.proofs.Common.{◌≡◌, ℕ, suc, ◌+◌, ◌&&◌, ◌||◌, Bool, true, false, not, if◌then◌else◌, List, [], ◌∷◌, ◌++◌, ◌∙◌, length, length-append, slice_get, option_and_then, refl, ap, sym, arith, append_assoc, Option, Some, None}
+use Rattle.std.proofs.Common.{◌≡◌, ℕ, suc, ◌+◌, ◌&&◌, ◌||◌, Bool, true, false, not, if◌then◌else◌, List, [], ◌∷◌, ◌++◌, ◌∙◌, length, length-append, take, slice_get, option_and_then, refl, ap, sym, arith, append_assoc, Option, Some, None}
 use Rattle.std.specs.declared.result.Result.{Result}
 use Rattle.std.specs.List.{list_any, position, prefix_len}
 use Rattle.std.proofs.lemmas.Bool.Decides.{nat_tests}
@@ -15,7 +15,7 @@ use Rattle.spec_scanner.specs.declared.fault.SpecFaultKind.TheVariants.{SecondCo
 use Rattle.spec_scanner.specs.Faults.{IsLeastSo, fault, least}
 use Rattle.spec_scanner.proofs.Leasts.{least_more}
 use Rattle.net_graph.specs.declared.search.Search.{Search}
-use Rattle.net_graph.specs.Faults.{console_faults, faults_from, faults_of_kind, is_console, is_same, kind_at, kind_faults, stage_faults, stream_faults}
+use Rattle.net_graph.specs.Faults.{console_faults, faults_from, faults_of_kind, file_faults, first_faults, is_console, is_same, kind_at, kind_faults, stage_faults, stream_faults}
 use Rattle.net_graph.specs.Nets.{AreOutcomes}
 use Rattle.net_graph.proofs.Walks.{count_on}
 use Rattle.net_graph.specs.Searches.{after, after_all, noted, second_faults}
@@ -71,7 +71,16 @@ module _ (stands : List Stand) (table : List ℕ) (outcomes : List (Result Kind 
     found_is Stage =
         let a = stage_faults (length earlier) s in
         let b = kind_faults s (slice_get outcomes (length earlier)) in
-        rw (keeps.stages, second_is) (sym (noted_both search.found a (b ++ console_faults earlier s) ∙ noted_both (noted search.found a) b (console_faults earlier s)))
+        let c = first_faults s in
+        let d = console_faults earlier s in
+        let e = file_faults (take (length earlier) outcomes) s (slice_get outcomes (length earlier)) in
+        let after_b = noted (noted search.found a) b in
+        rw (keeps.stages, second_is) (sym (
+        noted_both search.found a (b ++ (c ++ (d ++ e)))
+        ∙ noted_both (noted search.found a) b (c ++ (d ++ e))
+        ∙ noted_both after_b c (d ++ e)
+        ∙ noted_both (noted after_b c) d e
+        ))
     found_is Reference = ap (λ stage. noted search.found (stream_faults s (option_and_then (kind_at outcomes) stage))) (table_is stands table labelled s.piece.label)
     found_is Connector = refl
 

@@ -1,5 +1,5 @@
 -- The pieces of a straight line are its net.
-use Rattle.std.proofs.Common.{◌≡◌, ℕ, suc, ◌+◌, ◌≤◌, true, List, [], ◌∷◌, length, map, sym, ap, ap₂, ◌∙◌, arith, append-nil, add-one, Ok, None}
+use Rattle.std.proofs.Common.{◌≡◌, ℕ, zero, suc, ◌+◌, ◌≤◌, true, List, [], ◌∷◌, length, map, refl, sym, ap, ap₂, ◌∙◌, arith, append-nil, add-one, Ok, None}
 use Rattle.pipe_model.specs.declared.kind.Kind.{Kind}
 use Rattle.pipe_model.specs.declared.kind.Kind.TheVariants.{ConsoleIn}
 use Rattle.pipe_model.specs.declared.net.Link.{Link}
@@ -20,8 +20,8 @@ use Rattle.net_graph.specs.Nets.{AreOutcomes, joins_from, joins_in}
 use Rattle.net_graph.proofs.WholeNets.{whole_net, whole_strands}
 use Rattle.net_graph.specs.Stands.{Stand, stages_of, stands_in, stands_of, streams_of}
 use Rattle.net_graph.proofs.StraightChains.{links_later}
-use Rattle.net_graph.proofs.StraightFaults.{line_faultless}
-use Rattle.net_graph.proofs.StraightKinds.{console_is, kinds_later, later_are}
+use Rattle.net_graph.proofs.StraightFaults.{ReplaceNone, line_faultless}
+use Rattle.net_graph.proofs.StraightKinds.{console_is, kinds_later, later_are, later_replace_none}
 use Rattle.net_graph.proofs.StraightPieces.{all_stages, one_stream, pieces_of, stands_of_one}
 use Rattle.net_graph.proofs.StraightStrands.{first_is, strands_later}
 use Rattle.net_graph.proofs.WholeStages.{whole_same}
@@ -29,6 +29,10 @@ use Rattle.net_graph.proofs.WholeStages.{whole_same}
 -- the kinds of the stages
 abbrev kinds_of : List (List ℕ) → List Kind
 kinds_of strings = ConsoleIn [] ∷ kinds_later strings
+
+replace_none : (strings : List (List ℕ)) → ReplaceNone (kinds_of strings)
+replace_none strings zero = refl
+replace_none strings (suc number) = later_replace_none strings number
 
 module _ (first : Spelled) (stages : List Spelled) (strings : List (List ℕ)) (console : IsConsoleStage first) (later : AreLater stages strings) where
   -- the links are a chain
@@ -78,7 +82,7 @@ module _ (first : Spelled) (stages : List Spelled) (strings : List (List ℕ)) (
       record {
         kinds = kinds_of strings;
         read = read_are;
-        good = rw one (line_faultless (stands_in true (pieces_of (first ∷ stages))) (kinds_of strings) first stages strings console later (omega arith));
+        good = rw one (line_faultless (stands_in true (pieces_of (first ∷ stages))) (kinds_of strings) (replace_none strings) first stages strings console later (omega arith));
         net_is = sym (whole_same (pieces_of (first ∷ stages) ∷ []) (kinds_of strings) read_are ∙ net_is_line);
       }
 

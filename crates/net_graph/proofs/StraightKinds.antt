@@ -1,6 +1,7 @@
 -- The kinds of the stages of a straight line.
-use Rattle.std.proofs.Common.{ℕ, Bool, false, List, [], ◌∷◌, map, refl, Some, Ok}
+use Rattle.std.proofs.Common.{◌≡◌, ℕ, zero, suc, Bool, false, List, [], ◌∷◌, map, slice_get, refl, Some, None, Ok}
 use Rattle.std.specs.Prelude.{if◌then◌else◌}
+use Rattle.std.specs.Option.{option_and_then}
 use Rattle.pipe_model.specs.declared.kind.Kind.{Kind}
 use Rattle.pipe_model.specs.declared.kind.Kind.TheVariants.{ConsoleIn, ConsoleOut, Locate}
 use Rattle.pipe_model.specs.Straight.{all_columns}
@@ -11,6 +12,7 @@ use Rattle.stage_syntax.specs.SelectionForms.{locate}
 use Rattle.stage_syntax.specs.declared.part.Value.TheVariants as Read
 use Rattle.spec_scanner.proofs.StraightStages.{AreLater, IsConsoleStage, IsLocateStage}
 use Rattle.spec_scanner.proofs.StraightWords.{Spelled}
+use Rattle.net_graph.specs.Faults.{replaced_by}
 use Rattle.net_graph.specs.Nets.{AreOutcomes}
 use Rattle.net_graph.specs.Stands.{stands_in}
 use Rattle.net_graph.proofs.StraightPieces.{pieces_of}
@@ -19,6 +21,13 @@ use Rattle.net_graph.proofs.StraightPieces.{pieces_of}
 abbrev pub kinds_later : List (List ℕ) → List Kind
 kinds_later [] = ConsoleOut ∷ []
 kinds_later (string ∷ strings) = Locate all_columns (Some string) ∷ kinds_later strings
+
+-- none of them replaces a file
+pub later_replace_none : (strings : List (List ℕ)) (number : ℕ) → option_and_then replaced_by (slice_get (map (λ kind. Ok kind) (kinds_later strings)) number) ≡ None
+later_replace_none [] zero = refl
+later_replace_none [] (suc number) = refl
+later_replace_none (string ∷ strings) zero = refl
+later_replace_none (string ∷ strings) (suc number) = later_replace_none strings number
 
 -- a CONSOLE's kind
 pub console_is : (stage : Spelled) (first : Bool) → IsConsoleStage stage → IsKind stage.name stage.arg first (if first then ConsoleIn [] else ConsoleOut)

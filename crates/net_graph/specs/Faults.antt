@@ -1,11 +1,13 @@
 -- The faults of a specification whose pieces are read.
-use Rattle.std.specs.Prelude.{◌≡◌, ℕ, ◌&&◌, ◌||◌, Bool, true, false, not, if◌then◌else◌, List, [], ◌∷◌, ◌++◌, length, map, nat_lt, codes, slice_get, option_and_then, Ok, Err, ⊤}
+use Rattle.std.specs.Prelude.{◌≡◌, ℕ, ◌&&◌, ◌||◌, Bool, true, false, not, if◌then◌else◌, List, [], ◌∷◌, ◌++◌, length, map, take, nat_lt, codes, slice_get, option_and_then, Ok, Err, ⊤}
 use Rattle.std.specs.declared.result.Result.{Result}
 use Rattle.std.specs.Str.{bytes_eq, str_to_ascii_lowercase}
 use Rattle.std.specs.List.{list_any}
+use Rattle.std.specs.Option.{option_map_or}
 use Rattle.std.specs.declared.option.Option.{Option}
 use Rattle.std.specs.declared.option.Option.TheVariants.{Some, None}
 use Rattle.pipe_model.specs.declared.kind.Kind.{Kind}
+use Rattle.pipe_model.specs.declared.kind.Kind.TheVariants as Kinds
 use Rattle.pipe_model.specs.declared.net.Net.{Net}
 use Rattle.stage_syntax.specs.Fault.{number_of}
 use Rattle.stage_syntax.specs.declared.fault.KindFault.{KindFault}
@@ -14,7 +16,7 @@ use Rattle.spec_scanner.specs.declared.piece.Piece.{Piece}
 use Rattle.spec_scanner.specs.declared.piece.PieceKind.{PieceKind}
 use Rattle.spec_scanner.specs.declared.piece.PieceKind.TheVariants.{Stage, Reference, Connector}
 use Rattle.spec_scanner.specs.declared.fault.Fault.{Fault}
-use Rattle.spec_scanner.specs.declared.fault.SpecFaultKind.TheVariants.{UnknownStage, BadArguments, NoSuchStream, SecondConsole, TooManyStages, MisplacedConnector}
+use Rattle.spec_scanner.specs.declared.fault.SpecFaultKind.TheVariants.{UnknownStage, BadArguments, NoSuchStream, NotFirst, SecondConsole, TooManyStages, MisplacedConnector, SecondFile}
 use Rattle.spec_scanner.specs.Faults.{IsLeast, fault}
 use Rattle.net_graph.specs.declared.fault.NetFault.{NetFault}
 use Rattle.net_graph.specs.declared.fault.NetFault.TheVariants as Net
@@ -53,6 +55,13 @@ console_faults earlier stand =
     if is_console stand.piece && list_any (λ other. is_console other.piece && is_same stand.first other.first) earlier
     then fault SecondConsole stand.piece.name_place ∷ [] else []
 
+-- `<` anywhere but first in its pipeline
+abbrev pub is_file_reader : Piece → Bool
+is_file_reader piece = bytes_eq piece.name (codes "<")
+
+abbrev pub first_faults : Stand → List Fault
+first_faults stand = if is_file_reader stand.piece && not stand.first then fault NotFirst stand.piece.name_place ∷ [] else []
+
 -- the kind of a stage, where it has one
 abbrev pub kind_at : List (Result Kind KindFault) → ℕ → Option Kind
 kind_at outcomes stage = option_and_then kind (slice_get outcomes stage) where
@@ -70,10 +79,31 @@ is_past stand (Some kind) =
 abbrev pub stream_faults : Stand → Option Kind → List Fault
 stream_faults stand kind = if not (nat_lt stand.piece.uses most_streams) || is_past stand kind then fault NoSuchStream stand.piece.place ∷ [] else []
 
+-- the file that a stage replaces
+abbrev pub replaced_by : Result Kind KindFault → Option (List ℕ)
+replaced_by (Ok (Kinds.FileOut name)) = Some name
+replaced_by _ = None
+
+-- the stage replaces this file
+abbrev pub replaces : List ℕ → Result Kind KindFault → Bool
+replaces name outcome = option_map_or (λ other. bytes_eq other name) (replaced_by outcome) false
+
+-- `>` of a file that one of these stages before it replaces
+abbrev pub is_second_file : List (Result Kind KindFault) → Option (List ℕ) → Bool
+is_second_file earlier None = false
+is_second_file earlier (Some name) = list_any (replaces name) earlier
+
+abbrev pub file_faults : List (Result Kind KindFault) → Stand → Option (Result Kind KindFault) → List Fault
+file_faults earlier stand outcome = if is_second_file earlier (option_and_then replaced_by outcome) then fault SecondFile stand.piece.name_place ∷ [] else []
+
 -- the faults of one stand, after these stages
 abbrev pub faults_of_kind : List Stand → List (Result Kind KindFault) → List Stand → Stand → PieceKind → List Fault
 faults_of_kind stands outcomes earlier stand Stage =
-    stage_faults (length earlier) stand ++ (kind_faults stand (slice_get outcomes (length earlier)) ++ console_faults earlier stand)
+    stage_faults (length earlier) stand
+    ++ (kind_faults stand (slice_get outcomes (length earlier))
+    ++ (first_faults stand
+    ++ (console_faults earlier stand
+    ++ file_faults (take (length earlier) outcomes) stand (slice_get outcomes (length earlier)))))
 faults_of_kind stands outcomes earlier stand Reference =
     stream_faults stand (option_and_then (kind_at outcomes) (stage_of stands stand.piece.label))
 faults_of_kind stands outcomes earlier stand Connector = fault MisplacedConnector stand.piece.place ∷ []

@@ -1,5 +1,5 @@
 -- The search for the least fault, piece by piece: what it keeps of the pieces that it passed.
-use Rattle.std.specs.Prelude.{ℕ, suc, ◌&&◌, ◌||◌, Bool, not, if◌then◌else◌, List, [], ◌∷◌, slice_get, option_and_then}
+use Rattle.std.specs.Prelude.{ℕ, suc, ◌&&◌, ◌||◌, Bool, not, if◌then◌else◌, List, [], ◌∷◌, take, slice_get, option_and_then}
 use Rattle.std.specs.declared.result.Result.{Result}
 use Rattle.std.specs.declared.option.Option.{Option}
 use Rattle.std.specs.declared.option.Option.TheVariants.{Some}
@@ -12,7 +12,7 @@ use Rattle.spec_scanner.specs.declared.piece.PieceKind.TheVariants.{Stage, Refer
 use Rattle.spec_scanner.specs.declared.fault.SpecFaultKind.TheVariants.{SecondConsole, MisplacedConnector}
 use Rattle.spec_scanner.specs.Faults.{fault, least}
 use Rattle.net_graph.specs.declared.search.Search.{Search}
-use Rattle.net_graph.specs.Faults.{is_console, kind_at, kind_faults, stage_faults, stream_faults}
+use Rattle.net_graph.specs.Faults.{file_faults, first_faults, is_console, kind_at, kind_faults, stage_faults, stream_faults}
 use Rattle.net_graph.specs.Stands.{Stand}
 
 -- the least of a fault found before, if any, and others
@@ -35,7 +35,7 @@ second_faults search stand = if is_console stand.piece && (if stand.first then s
 -- the search after one stand
 abbrev pub after : List ℕ → List (Result Kind KindFault) → Search → Stand → PieceKind → Search
 after table outcomes search stand Stage = record {
-  found = noted (noted (noted search.found (stage_faults search.stages stand)) (kind_faults stand (slice_get outcomes search.stages))) (second_faults search stand);
+  found = noted (noted (noted (noted (noted search.found (stage_faults search.stages stand)) (kind_faults stand (slice_get outcomes search.stages))) (first_faults stand)) (second_faults search stand)) (file_faults (take search.stages outcomes) stand (slice_get outcomes search.stages));
   stages = suc search.stages;
   reads = search.reads || (is_console stand.piece && stand.first);
   writes = search.writes || (is_console stand.piece && not stand.first);

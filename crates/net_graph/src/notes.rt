@@ -1,4 +1,5 @@
-ghost use Rattle.std.specs.Prelude.{◌≡◌, Some, None, slice_get, true, MatchOption};
+ghost use Rattle.std.specs.Prelude.{◌≡◌, Some, None, slice_get, take, true, MatchOption};
+ghost use Rattle.std.specs.List.{list_any};
 ghost use Rattle.net_graph.specs.Faults as Faults;
 ghost use Rattle.net_graph.specs.Searches as Searches;
 ghost use Rattle.net_graph.specs.Searches.{labelled_kind, stand};
@@ -53,6 +54,66 @@ pub(crate) fn note_kind(
             },
         )),
         _ => found,
+    }
+}
+
+// `<` anywhere but first in its pipeline.
+pub(crate) fn note_first(found: Option<Fault>, piece: &Piece, first: bool) -> Option<Fault>
+    ensures { result ≡ Searches.noted found (Faults.first_faults (stand piece.now first true)) }
+{
+    if piece.name.bytes() == b"<".as_slice() && !first {
+        noted(found, SpecFaultKind::NotFirst, piece.name_place)
+    } else {
+        found
+    }
+}
+
+// The name of the file that a stage replaces.
+fn replaced_by(outcome: &Result<Kind, KindFault>) -> Option<&[u8]>
+    ensures { MatchOption result (Faults.replaced_by outcome.now ≡ None) (λ name. Faults.replaced_by outcome.now ≡ Some name.now) }
+{
+    match outcome {
+        Ok(Kind::FileOut { name }) => Some(name.bytes()),
+        _ => None,
+    }
+}
+
+// Whether the stage replaces this file.
+fn replaces(outcome: &Result<Kind, KindFault>, name: &[u8]) -> bool
+    ensures { result ≡ Faults.replaces name.now outcome.now }
+{
+    match replaced_by(outcome) {
+        Some(other) => other == name,
+        None => false,
+    }
+}
+
+// Whether one of these stages replaces this file.
+fn any_replaces(outcomes: &[Result<Kind, KindFault>], name: &[u8]) -> bool
+    ensures { result ≡ list_any (Faults.replaces name.now) outcomes.now }
+{
+    outcomes.iter().any(|outcome| replaces(outcome, name))
+}
+
+// `>` of a file that a stage before it replaces.
+pub(crate) fn note_file(
+    found: Option<Fault>,
+    piece: &Piece,
+    outcomes: &[Result<Kind, KindFault>],
+    stages: usize,
+) -> Option<Fault>
+    ensures { result ≡ Searches.noted found (Faults.file_faults (take stages outcomes.now) (stand piece.now true true) (slice_get outcomes.now stages)) }
+{
+    let Some(outcome) = outcomes.get(stages) else {
+        return found;
+    };
+    let Some(name) = replaced_by(outcome) else {
+        return found;
+    };
+    if any_replaces(&outcomes[..stages], name) {
+        noted(found, SpecFaultKind::SecondFile, piece.name_place)
+    } else {
+        found
     }
 }
 

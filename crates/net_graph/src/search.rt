@@ -7,7 +7,9 @@ ghost use Rattle.net_graph.specs.Stands.{stage_of, stages_of, stands_in, stands_
 ghost use Rattle.spec_scanner.specs.Faults.{IsLeastSo};
 ghost use Rattle.spec_scanner.specs.declared.piece.PieceKind.TheVariants.{Stage};
 
-use crate::notes::{is_console, labelled_kind, note_kind, note_stage, note_stream, noted};
+use crate::notes::{
+    is_console, labelled_kind, note_file, note_first, note_kind, note_stage, note_stream, noted,
+};
 use pipe_model::Kind;
 use spec_scanner::{Fault, Piece, PieceKind, Pieces, SpecFaultKind};
 use stage_syntax::KindFault;
@@ -65,14 +67,16 @@ fn after_stage(
 {
     let found = note_stage(search.found, piece, search.stages);
     let found = note_kind(found, piece, outcomes, search.stages);
+    let found = note_first(found, piece, first);
     let console = is_console(piece);
     let second = console && if first { search.reads } else { search.writes };
+    let found = if second {
+        noted(found, SpecFaultKind::SecondConsole, piece.name_place)
+    } else {
+        found
+    };
     Search {
-        found: if second {
-            noted(found, SpecFaultKind::SecondConsole, piece.name_place)
-        } else {
-            found
-        },
+        found: note_file(found, piece, outcomes, search.stages),
         stages: search.stages + 1,
         reads: search.reads || console && first,
         writes: search.writes || console && !first,
