@@ -1,33 +1,43 @@
 -- From what a call decides and tells to what it answers.
-use Rattle.std.proofs.Common.{◌≡◌, ◌≢◌, ◌⊎◌, ⊎_elim, inl, inr, ℕ, ◌+◌, ◌<◌, ◌≤◌, Bool, true, false, cond, List, [], length, refl, sym, ◌∙◌, ap, subst, arith, length-append, Option, Some, None}
+use Rattle.std.proofs.Common.{◌≡◌, ◌≢◌, ◌⊎◌, ⊎_elim, inl, inr, ℕ, ◌+◌, ◌<◌, ◌≤◌, Bool, true, false, cond, List, length, refl, sym, ◌∙◌, ap, subst, arith, length-append, Option, Some, None}
 use Rattle.std.specs.Option.{IfSome}
 use Rattle.std.proofs.KnownBytes.{Consumes-whole}
 use Rattle.std.specs.Io.KnownBytes.{Consumes}
 use Rattle.outside.specs.Device.{Device}
-use Rattle.pipe_model.specs.declared.net.Net.{Net}
 use Rattle.net_graph.specs.Fed.{reads_any}
 use Rattle.pipe_cli.specs.declared.status.Status.{Status}
 use Rattle.pipe_cli.specs.declared.status.Status.TheVariants as Told
 use Rattle.pipe_cli.specs.declared.status.Outcome.{Outcome}
-use Rattle.pipe_cli.specs.declared.status.Outcome.TheVariants.{ReadFault, WriteFault}
+use Rattle.pipe_cli.specs.declared.status.Outcome.TheVariants.{ReadFault, WriteFault, ShelfFault}
 use Rattle.pipe_cli.specs.Effects.{Before, Effect}
 use Rattle.pipe_cli.specs.Status.{status_of}
 use Rattle.pipe_cli.specs.Devices.{Outside, AllSteady, NoneFailed, Steady, Failed}
 use Rattle.pipe_cli.specs.Meaning.{HasRun, IsTooLarge, Means, RunMeans, fed_size, input_limit, net_on}
 use Rattle.pipe_cli.specs.Meaning.Means.{unrun as means_unrun, too_large as means_large, ran as means_run}
-use Rattle.pipe_cli.specs.Answer.{HasCause, IsUsed, Decides, Reports, IsMeant, Answers}
-use Rattle.pipe_cli.specs.Answer.HasCause.{unrun, too_large, ran, read_failed, write_failed, no_memory}
-use Rattle.pipe_cli.proofs.Feds.{fed_none}
-use Rattle.pipe_cli.proofs.GraphKinds.{graph_built}
+use Rattle.pipe_cli.specs.Answer.{HasCause, HasDone, IsTorn, IsUsed, Decides, Reports, IsMeant, Answers}
+use Rattle.pipe_cli.specs.Answer.HasCause.{unrun, too_large, ran, fetch_failed, read_failed, write_failed, no_memory}
+use Rattle.pipe_cli.specs.Answer.HasDone.{whole, half}
+use Rattle.pipe_cli.specs.Answer.IsTorn.{torn_failed, torn_memory}
+use Rattle.pipe_cli.proofs.Unread.{fed_unread}
 
 -- an outcome that is no fault was decided without one
-unfailed : (words : List (List ℕ)) (old new : Outside) (given : Before) (effect : Effect) (decided : Outcome) → decided ≢ ReadFault → decided ≢ WriteFault → HasCause words old new given effect decided → AllSteady old new
-unfailed words old new given effect decided no_read no_write (unrun why unread done steady) = steady
-unfailed words old new given effect decided no_read no_write (too_large large is done steady) = steady
-unfailed words old new given effect decided no_read no_write (ran run used steady) = steady
-unfailed words old new given effect decided no_read no_write (read_failed reading is done failed output shelf) = absurd (no_read is)
-unfailed words old new given effect decided no_read no_write (write_failed half is input failed shelf) = absurd (no_write is)
-unfailed words old new given effect decided no_read no_write (no_memory is done steady) = steady
+module _ (words : List (List ℕ)) (old new : Outside) (given : Before) (effect : Effect) (decided : Outcome) (no_read : decided ≢ ReadFault) (no_write : decided ≢ WriteFault) (no_shelf : (name : List ℕ) → decided ≢ ShelfFault name) where
+  unfailed_cause : HasCause words old new given effect decided → AllSteady old new
+  unfailed_cause (unrun why unread done steady) = steady
+  unfailed_cause (too_large large is done steady) = steady
+  unfailed_cause (ran run used steady) = steady
+  unfailed_cause (fetch_failed name fetching unread is done input output failed) = absurd (no_shelf name is)
+  unfailed_cause (read_failed reading is done failed output shelf) = absurd (no_read is)
+  unfailed_cause (write_failed written is input failed shelf) = absurd (no_write is)
+  unfailed_cause (no_memory is done steady) = steady
+
+  unfailed_torn : (name : List ℕ) → IsTorn old new name decided → new.shelf.faults ≡ old.shelf.faults
+  unfailed_torn name (torn_failed is failed) = absurd (no_shelf name is)
+  unfailed_torn name (torn_memory is steady) = steady
+
+  unfailed : HasDone words old new given effect decided → AllSteady old new
+  unfailed (whole done cause) = unfailed_cause cause
+  unfailed (half part) = record { input = part.input; output = part.output; shelf = unfailed_torn part.name part.torn }
 
 -- what was given is no more than there was
 some_given : (given : List ℕ) (old new : Option (List ℕ)) → Consumes old new given → IfSome old (λ all. length given ≤ length all)
@@ -56,10 +66,7 @@ on_all given input = record given { input = input }
 -- a net that doesn't read the input comes to the same on any
 module _ (words : List (List ℕ)) (given : Before) (decided : Outcome) (effect : Effect) (run : HasRun words given decided effect) (leaves : reads_any run.net ≡ false) (input : List ℕ) where
   same_net : net_on given run.net ≡ net_on (on_all given input) run.net
-  same_net =
-      let graph = run.runs.net_of in
-      let built = graph_built graph.pipelines run.net graph.graph in
-      sym (fed_none given.input given.files run.net built leaves) ∙ fed_none input given.files run.net built leaves
+  same_net = fed_unread given.input input given.files run.net leaves
 
   same_size : fed_size (on_all given input) run.net ≡ fed_size given run.net
   same_size =
@@ -92,14 +99,26 @@ module _ (words : List (List ℕ)) (old new : Outside) where
     large_meant : IsTooLarge words d.given → (all : List ℕ) → length d.given.input ≤ length all → IsTooLarge words (on_all d.given all)
     large_meant large all more = record { net = large.net; steps = large.steps; runs = large.runs; large = more_fed (reads_any large.net) _ _ _ more large.large }
 
-    meant : (status : Status) → status ≡ status_of decided → NoneFailed old new → HasCause words old new d.given d.effect decided → (status ≡ Told.NoMemory) ⊎ IsMeant words old d.given d.effect decided status
-    meant status told none (unrun why unread done steady) = inr (record { same = told; means = at_some old.input.bytes (λ all. means_unrun why done) })
-    meant status told none (too_large large is done steady) =
+    abbrev Meaning : Status → Type 0
+    Meaning status = (status ≡ Told.NoMemory) ⊎ IsMeant words old d.given d.effect decided status
+
+    meant_cause : (status : Status) → status ≡ status_of decided → NoneFailed old new → HasCause words old new d.given d.effect decided → Meaning status
+    meant_cause status told none (unrun why unread done steady) = inr (record { same = told; means = at_some old.input.bytes (λ all. means_unrun why done) })
+    meant_cause status told none (too_large large is done steady) =
         inr (record { same = told; means = weaker_some old.input.bytes (λ all more. means_large (large_meant large all more) is done) (some_given d.given.input old.input.bytes new.input.bytes d.gave) })
-    meant status told none (ran run used steady) = inr (record { same = told; means = run_meant run used })
-    meant status told none (read_failed reading is done failed output shelf) = absurd (none.input failed)
-    meant status told none (write_failed half is input failed shelf) = absurd (none.output failed)
-    meant status told none (no_memory is done steady) = inl (told ∙ ap status_of is)
+    meant_cause status told none (ran run used steady) = inr (record { same = told; means = run_meant run used })
+    meant_cause status told none (fetch_failed name fetching unread is done input output failed) = absurd (none.shelf failed)
+    meant_cause status told none (read_failed reading is done failed output shelf) = absurd (none.input failed)
+    meant_cause status told none (write_failed written is input failed shelf) = absurd (none.output failed)
+    meant_cause status told none (no_memory is done steady) = inl (told ∙ ap status_of is)
+
+    meant_torn : (status : Status) → status ≡ status_of decided → NoneFailed old new → (name : List ℕ) → IsTorn old new name decided → Meaning status
+    meant_torn status told none name (torn_failed is failed) = absurd (none.shelf failed)
+    meant_torn status told none name (torn_memory is steady) = inl (told ∙ ap status_of is)
+
+    meant : (status : Status) → status ≡ status_of decided → NoneFailed old new → HasDone words old new d.given d.effect decided → Meaning status
+    meant status told none (whole done cause) = meant_cause status told none cause
+    meant status told none (half part) = meant_torn status told none part.name part.torn
 
   pub answers : (diag diag' : Device) (decided : Outcome) (status : Status) → Decides words old new decided → Reports decided status diag diag' → Answers words old new diag diag' status
   answers diag diag' decided status d reports = record {
@@ -110,16 +129,16 @@ module _ (words : List (List ℕ)) (old new : Outside) where
     complete = complete;
   }
     where
-      steady : status ≢ Told.ReadFault → status ≢ Told.WriteFault → AllSteady old new × Steady diag diag'
-      steady no_read no_write =
+      steady : status ≢ Told.ReadFault → status ≢ Told.WriteFault → status ≢ Told.ShelfFault → AllSteady old new × Steady diag diag'
+      steady no_read no_write no_shelf =
           ⊎_elim
-          (λ told. (unfailed words old new d.given d.effect decided (λ is. no_read (told.same ∙ ap status_of is)) (λ is. no_write (told.same ∙ ap status_of is)) d.cause, told.steady))
+          (λ told. (unfailed words old new d.given d.effect decided (λ is. no_read (told.same ∙ ap status_of is)) (λ is. no_write (told.same ∙ ap status_of is)) (λ name is. no_shelf (told.same ∙ ap status_of is)) d.done, told.steady))
           (λ half. absurd (no_write half.turned))
           reports
 
       complete : NoneFailed old new → ¬ Failed diag diag' → (status ≡ Told.NoMemory) ⊎ IsMeant words old d.given d.effect decided status
       complete none told_all =
           ⊎_elim
-          (λ told. meant decided d status told.same none d.cause)
+          (λ told. meant decided d status told.same none d.done)
           (λ half. absurd (told_all half.failed))
           reports

@@ -5,6 +5,7 @@ use Rattle.pipe_model.specs.declared.step.Entry.{Entry}
 use Rattle.pipe_model.specs.Licence.{licence, none_left}
 use Rattle.pipe_model.specs.Play.{play, IsLegal, IsLicensed, IsComplete}
 use Rattle.pipe_model.specs.WellFormed.{IsWellFormed, IsQueue}
+use Rattle.confluence_laws.proofs.Commits.{committed_before}
 use Rattle.core_machine.specs.declared.job.RunEnd.TheVariants as End
 use Rattle.core_machine.specs.Machine.{Machine, started, left_by, HasStopped, IsLawful}
 use Rattle.core_machine.specs.Answered.{HasRun, Ends}
@@ -60,12 +61,13 @@ module _ (net : Net) (steps : ℕ) (old new : Machine) (first : old ≡ started 
   }
 
   -- its journal was full before
-  pub run_spent : Ends End.Spent new → Exhausts net steps
-  run_spent ends =
+  pub run_spent : IsWellFormed net → Ends End.Spent new → Exhausts net steps
+  run_spent formed ends =
       let may : is_some (licence new.net (play new.net new.journal) none_left ends.1.0.0 ends.1.0.1) ≡ true = subst (λ out. is_some (licence new.net (play new.net new.journal) (left_by new.journal out) ends.1.0.0 ends.1.0.1) ≡ true) out_is ends.1.1.0 in
       record {
         journal = new.journal;
         legal = legal_is;
         full = ends.0 ∙ budget_is;
+        committed = λ k move s lt. committed_before net formed new.journal k legal_is move s lt;
         more = (record { strand = ends.1.0.0; stream = ends.1.0.1 }, subst (λ z. IsLicensed z (play z new.journal) (record { strand = ends.1.0.0; stream = ends.1.0.1 })) net_is may);
       }

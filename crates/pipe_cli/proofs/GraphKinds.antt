@@ -1,16 +1,13 @@
 -- The strands of a made net are of kinds that are built.
-use Rattle.std.proofs.Common.{◌≡◌, ℕ, zero, suc, Bool, true, false, refl, List, [], ◌∷◌, ap, subst, Some, slice_get, map}
-use Rattle.std.specs.Prelude.{Ok, is_some}
+use Rattle.std.proofs.Common.{◌≡◌, ℕ, zero, suc, Bool, List, [], ◌∷◌, ap, subst, Some, slice_get, map}
+use Rattle.std.specs.Prelude.{Ok}
 use Rattle.pipe_model.specs.declared.kind.Kind.{Kind}
-use Rattle.pipe_model.specs.declared.kind.Kind.TheVariants.{FileIn}
 use Rattle.pipe_model.specs.declared.net.Link.{Link}
 use Rattle.pipe_model.specs.declared.net.Net.{Net}
 use Rattle.pipe_model.specs.declared.net.Strand.{Strand}
 use Rattle.pipe_model.specs.State.{nothing_yet, strand_at}
-use Rattle.pipe_model.specs.Table.{line_of}
 use Rattle.stage_syntax.specs.Arg.{ArgText}
 use Rattle.stage_syntax.specs.Kinds.{IsKind}
-use Rattle.stage_syntax.specs.Names.{arguments_of}
 use Rattle.stage_syntax.proofs.TypedKinds.{typed_kind}
 use Rattle.stage_table.proofs.Names.{known_is_built}
 use Rattle.spec_scanner.specs.declared.piece.Piece.{Piece}
@@ -18,18 +15,13 @@ use Rattle.net_graph.specs.Faults.{IsGraph}
 use Rattle.net_graph.specs.Nets.{AreOutcomes, joins_of}
 use Rattle.net_graph.proofs.WholeNets.{whole_strand, whole_strands}
 use Rattle.net_graph.proofs.WholeStages.{graph_whole}
-use Rattle.pipe_cli.specs.Built.{AreBuilt, IsBuilt, is_of_file}
+use Rattle.pipe_cli.specs.Built.{AreBuilt, IsBuilt}
 use Rattle.net_graph.specs.Stands.{Stand, stages_of, stands_of}
-
--- no name that is known is that of a stage that reads a file
-reads_none : (first : Bool) (kind : Kind) → is_some (arguments_of (line_of kind).name first) ≡ true → is_of_file (line_of kind).feed ≡ false
-reads_none first (FileIn name bytes) is = cc
-reads_none first _ is = refl
 
 kind_built : (name : List ℕ) (arg : ArgText) (first : Bool) (kind : Kind) → IsKind name arg first kind → IsBuilt kind
 kind_built name arg first kind is =
     let typed = typed_kind name arg first kind is in
-    record { stage = known_is_built first kind typed.named; whole = typed.plain.whole; unread = reads_none first kind typed.named; fileless = typed.plain.fileless }
+    record { stage = known_is_built first kind typed.named; whole = typed.plain.whole }
 
 -- so are the kinds of strands
 strands_built : (stands : List Stand) (links : List Link) (stage : ℕ) (stages : List Stand) (kinds : List Kind) → AreOutcomes stages (map (λ kind. Ok kind) kinds) →

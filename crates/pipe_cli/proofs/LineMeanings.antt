@@ -1,24 +1,19 @@
 -- What the words of a straight line mean.
-use Rattle.std.proofs.Common.{◌≡◌, ℕ, ◌<◌, true, cond, List, [], length, sym, ◌∙◌, ap, subst, arith, pos, refl}
-use Rattle.pipe_model.specs.declared.net.Net.{Net}
+use Rattle.std.proofs.Common.{◌≡◌, ℕ, ◌<◌, List, [], length, sym, ◌∙◌, ap, subst, pos, refl}
 use Rattle.pipe_model.specs.Records.{lines, text}
 use Rattle.pipe_model.specs.Reply.{Reply}
 use Rattle.pipe_model.specs.Straight.{selected_by}
 use Rattle.spec_scanner.specs.Straight.{IsStraight}
-use Rattle.net_graph.specs.Fed.{reads_any}
 use Rattle.net_graph.specs.Line.{line_net}
 use Rattle.net_graph.proofs.Feeds.{fed_formed}
 use Rattle.net_graph.proofs.StraightGraphs.{straight_graph}
 use Rattle.pipe_model.specs.WellFormed.{IsWellFormed}
 use Rattle.pipe_cli.specs.declared.status.Outcome.{Outcome}
-use Rattle.pipe_cli.specs.declared.status.Outcome.TheVariants.{Done, Spent, InputTooLarge}
-use Rattle.pipe_cli.specs.Effects.{Before, Effect, no_effect, output_of, effect_of}
-use Rattle.pipe_cli.specs.Meaning.{Finishes, Exhausts, HasRun, IsLineOutcome, IsNetOf, IsRunOf, IsTooLarge, Means, RunMeans, RunsNet, fed_size, input_limit, net_on, outcome_of}
+use Rattle.pipe_cli.specs.Effects.{Before, Effect, effect_of}
+use Rattle.pipe_cli.specs.Meaning.{Finishes, IsLineOutcome, IsNetOf, IsRunOf, IsTooLarge, Means, RunMeans, RunsNet, fed_size, input_limit, net_on, outcome_of}
 use Rattle.pipe_cli.specs.Meaning.Means.{unrun, too_large, ran}
 use Rattle.pipe_cli.specs.Meaning.RunMeans.{finishes, exhausts}
-use Rattle.pipe_cli.proofs.Feds.{size_read}
-use Rattle.pipe_cli.proofs.GraphKinds.{graph_built}
-use Rattle.pipe_cli.proofs.LineFed.{line_fed, line_reads_any}
+use Rattle.pipe_cli.proofs.LineFed.{line_fed, line_size}
 use Rattle.pipe_cli.proofs.LineReply.{line_replies}
 use Rattle.pipe_cli.proofs.Meanings.{runs_or_not, same_run}
 use Rattle.pipe_cli.proofs.OneTexts.{net_formed, one_net}
@@ -54,7 +49,7 @@ module _ (words : List (List ℕ)) (spec : List ℕ) (steps : ℕ) (strings : Li
       let same = (same_run words large.runs.spec spec large.steps steps large.runs.run run).0 in
       let net = one_net spec large.net (line_net [] strings) (subst (λ z. IsNetOf z large.net) same large.runs.net_of) line in
       let past : input_limit < fed_size before (line_net [] strings) = subst (λ z. input_limit < fed_size before z) net large.large in
-      subst (λ n. input_limit < n) (size_read before (line_net [] strings) (graph_built line.pipelines (line_net [] strings) line.graph) (line_reads_any strings)) past
+      subst (λ n. input_limit < n) (line_size before strings) past
 
   pub line_means : (outcome : Outcome) (effect : Effect) → Means words before outcome effect → Told outcome effect
   line_means outcome effect (unrun why done) = absurd (runs_or_not words (line_net [] strings) steps outcome runs_line why)

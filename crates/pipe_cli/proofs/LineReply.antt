@@ -1,20 +1,18 @@
 -- What a complete journal of a straight line answers.
 use Rattle.std.proofs.Common.{◌≡◌, ◌≢◌, ℕ, suc, ◌+◌, ◌<◌, true, List, [], ◌∷◌, length, refl, ◌∙◌, ap, subst, arith, Some, is_some, pos, append-nil}
-use Rattle.std.proofs.lemmas.Option.{slice_get_within}
 use Rattle.pipe_model.specs.declared.net.Net.{Net}
 use Rattle.pipe_model.specs.declared.net.Strand.{Strand}
 use Rattle.pipe_model.specs.declared.step.Entry.{Entry}
 use Rattle.pipe_model.specs.Code.{worst_of}
 use Rattle.pipe_model.specs.Event.{Event, has_ended, code_of, taken_from}
 use Rattle.pipe_model.specs.Records.{lines, text}
-use Rattle.pipe_model.specs.State.{State, Who, past, strand_at}
+use Rattle.pipe_model.specs.State.{State, Who, past}
 use Rattle.pipe_model.specs.Straight.{selected_by}
 use Rattle.pipe_model.specs.Licence.{licence, none_left}
-use Rattle.pipe_model.specs.Play.{play, IsLegal, IsComplete, HasEnded}
+use Rattle.pipe_model.specs.Play.{play, IsLegal, IsComplete}
 use Rattle.pipe_model.specs.Reply.{reply, replied, console_from, files_from, code_from, waits_from}
 use Rattle.pipe_model.specs.WellFormed.{IsWellFormed}
 use Rattle.pipe_model.proofs.Lists.{at_some}
-use Rattle.confluence_laws.proofs.Basics.{the_event}
 use Rattle.confluence_laws.proofs.Flow.{IsFlowing, all_flows}
 use Rattle.confluence_laws.proofs.Progress.{has_ended_at, last_took}
 use Rattle.net_graph.specs.Line.{strands_from, line_net}

@@ -1,5 +1,5 @@
 -- Words mean one outcome and one effect at most.
-use Rattle.std.proofs.Common.{◌≡◌, ℕ, ◌≤◌, false, true, List, refl, sym, ◌∙◌, ap, subst, arith, Some, None}
+use Rattle.std.proofs.Common.{◌≡◌, ℕ, ◌≤◌, false, true, List, sym, ◌∙◌, ap, subst, arith, Some, None}
 use Rattle.pipe_model.specs.declared.net.Net.{Net}
 use Rattle.pipe_model.specs.Settled.{IsSettled}
 use Rattle.spec_scanner.specs.declared.fault.Fault.{Fault}

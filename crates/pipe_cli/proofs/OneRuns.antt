@@ -1,5 +1,5 @@
 -- A run of a settled net has one outcome and one effect.
-use Rattle.std.proofs.Common.{◌≡◌, ℕ, List, sym, ◌∙◌, ap, arith}
+use Rattle.std.proofs.Common.{◌≡◌, ℕ, sym, ◌∙◌, ap, arith}
 use Rattle.pipe_model.specs.declared.net.Net.{Net}
 use Rattle.pipe_model.specs.Reply.{Reply, reply}
 use Rattle.pipe_model.specs.Settled.{IsSettled}

@@ -61,6 +61,14 @@ reply_waits net st s lt waits =
     let some = waits_some st 0 s net.strands lt (subst (λ z. has_ended (past st z) ≡ false) (let e : s ≡ 0 + s = omega arith in e) waits) in
     (some.0, some.1, ap (λ z. (replied st net.strands z).waits) some.2)
 
+-- its console's text and, where all have ended, its files are those of the strands
+console_told : (st : State) (ps : List Strand) (ws : List WaitLine) → (replied st ps ws).console ≡ console_from st 0 ps
+console_told st ps [] = refl
+console_told st ps (w ∷ ws) = refl
+
+pub reply_console : (net : Net) (st : State) → (reply net st).console ≡ console_from st 0 net.strands
+reply_console net st = console_told st net.strands (waits_from st 0 net.strands)
+
 -- The console
 
 -- what is for the console is what the stage keeps

@@ -3,16 +3,17 @@ use Rattle.std.specs.Prelude.{◌≡◌, ◌≢◌, ◌⊎◌, ℕ, ◌<◌, ◌
 use Rattle.std.specs.Option.{IfSome}
 use Rattle.std.specs.Io.KnownBytes.{Consumes, Appends}
 use Rattle.outside.specs.Device.{Device}
+use Rattle.outside.specs.Faults.{Rose}
 use Rattle.pipe_model.specs.declared.net.Net.{Net}
 use Rattle.net_graph.specs.Fed.{reads_any}
 use Rattle.pipe_cli.specs.declared.status.Status.{Status}
 use Rattle.pipe_cli.specs.declared.status.Status.TheVariants as Told
 use Rattle.pipe_cli.specs.declared.status.Outcome.{Outcome}
-use Rattle.pipe_cli.specs.declared.status.Outcome.TheVariants.{ReadFault, WriteFault, NoMemory, InputTooLarge}
+use Rattle.pipe_cli.specs.declared.status.Outcome.TheVariants.{ReadFault, WriteFault, ShelfFault, NoMemory, InputTooLarge}
 use Rattle.pipe_cli.specs.Effects.{Before, Effect, no_effect, output_of}
 use Rattle.pipe_cli.specs.Status.{status_of, text_of}
-use Rattle.pipe_cli.specs.Devices.{Outside, Steady, Failed, IsRead, AllSteady, NoneFailed, IsDone}
-use Rattle.pipe_cli.specs.Meaning.{HasRun, IsTooLarge, IsUnrun, Means, RunsNet, fed_size, input_limit}
+use Rattle.pipe_cli.specs.Devices.{Outside, Steady, Failed, IsRead, AllSteady, NoneFailed, IsDone, IsPartDone}
+use Rattle.pipe_cli.specs.Meaning.{HasRun, IsFileOf, IsTooLarge, IsUnrun, Means, RunsNet, fed_size, input_limit}
 
 -- the bytes are the front of these and not all of them
 pub record IsCutShort (front whole : List ℕ) : Type 0 where
@@ -24,6 +25,13 @@ pub record IsCutShort (front whole : List ℕ) : Type 0 where
 pub record IsUsed (net : Net) (given : Before) (input : Device) : Type 0 where
   pub reads : reads_any net ≡ true → IsRead input
   pub leaves : reads_any net ≡ false → given.input ≡ []
+
+-- the words are a run that reads the file of this name
+pub record IsFetching (words : List (List ℕ)) (name : List ℕ) : Type 0 where
+  pub net : Net
+  pub steps : ℕ
+  pub runs : RunsNet words net steps
+  pub file : IsFileOf net name
 
 -- the words are a run that reads the input, of which no more was read than fits
 pub record IsReading (words : List (List ℕ)) (given : Before) : Type 0 where
@@ -43,7 +51,12 @@ pub record IsHalfWritten (words : List (List ℕ)) (given : Before) (input : Dev
   pub cut : IsCutShort wrote whole.output
   pub effect_is : effect ≡ output_of wrote
 
--- why an outcome was decided, where the call was given this and did this
+-- why a replacement ended the call: the shelf failed at this name, or memory was wanted
+pub data IsTorn (old new : Outside) (name : List ℕ) (decided : Outcome) : Type 0 where
+  torn_failed : decided ≡ ShelfFault name → Rose old.shelf.faults new.shelf.faults → IsTorn old new name decided
+  torn_memory : decided ≡ NoMemory → new.shelf.faults ≡ old.shelf.faults → IsTorn old new name decided
+
+-- why an outcome was decided, where the call was given this and its effect is this, which was carried out
 pub data HasCause (words : List (List ℕ)) (old new : Outside) (given : Before) (effect : Effect) (decided : Outcome) : Type 0 where
   -- the words aren't run: nothing is read and nothing done
   unrun : IsUnrun words decided → given.input ≡ [] → effect ≡ no_effect → AllSteady old new → HasCause words old new given effect decided
@@ -51,6 +64,9 @@ pub data HasCause (words : List (List ℕ)) (old new : Outside) (given : Before)
   too_large : IsTooLarge words given → decided ≡ InputTooLarge → effect ≡ no_effect → AllSteady old new → HasCause words old new given effect decided
   -- the words run a net, which came to this
   ran : (run : HasRun words given decided effect) → IsUsed run.net given new.input → AllSteady old new → HasCause words old new given effect decided
+  -- a file failed that a stage reads
+  fetch_failed : (name : List ℕ) → IsFetching words name → given.input ≡ [] → decided ≡ ShelfFault name → effect ≡ no_effect → Steady old.input new.input → Steady old.output new.output →
+      Rose old.shelf.faults new.shelf.faults → HasCause words old new given effect decided
   -- the input failed
   read_failed : IsReading words given → decided ≡ ReadFault → effect ≡ no_effect → Failed old.input new.input → Steady old.output new.output → new.shelf.faults ≡ old.shelf.faults →
       HasCause words old new given effect decided
@@ -60,6 +76,22 @@ pub data HasCause (words : List (List ℕ)) (old new : Outside) (given : Before)
   -- memory was wanted: nothing is done
   no_memory : decided ≡ NoMemory → effect ≡ no_effect → AllSteady old new → HasCause words old new given effect decided
 
+-- a run has an outcome and an effect, of whose files those of lesser names than this one were replaced
+pub record IsHalfReplaced (words : List (List ℕ)) (old new : Outside) (given : Before) (effect : Effect) (decided : Outcome) : Type 0 where
+  pub outcome : Outcome
+  pub run : HasRun words given outcome effect
+  pub used : IsUsed run.net given new.input
+  pub name : List ℕ
+  pub done : IsPartDone name effect old new
+  pub torn : IsTorn old new name decided
+  pub input : Steady old.input new.input
+  pub output : Steady old.output new.output
+
+-- the effect of a call was carried out, for this cause; or its last part wasn't
+pub data HasDone (words : List (List ℕ)) (old new : Outside) (given : Before) (effect : Effect) (decided : Outcome) : Type 0 where
+  whole : IsDone effect old new → HasCause words old new given effect decided → HasDone words old new given effect decided
+  half : IsHalfReplaced words old new given effect decided → HasDone words old new given effect decided
+
 -- an outcome was decided, and why
 pub record Decides (words : List (List ℕ)) (old new : Outside) (decided : Outcome) : Type 0 where
   -- the bytes that the input gave, and the files that there were
@@ -68,8 +100,7 @@ pub record Decides (words : List (List ℕ)) (old new : Outside) (decided : Outc
   pub effect : Effect
   pub gave : Consumes old.input.bytes new.input.bytes given.input
   pub found : IfSome old.shelf.files (λ files. given.files ≡ files)
-  pub done : IsDone effect old new
-  pub cause : HasCause words old new given effect decided
+  pub done : HasDone words old new given effect decided
 
 -- the text of the outcome was told, and its status answered
 pub record IsTold (decided : Outcome) (status : Status) (diag diag' : Device) : Type 0 where
@@ -100,6 +131,6 @@ pub record Answers (words : List (List ℕ)) (old new : Outside) (diag diag' : D
   pub decides : Decides words old new decided
   pub reports : Reports decided status diag diag'
   -- a status that is no fault leaves the counts of faults as they were
-  pub steady : status ≢ Told.ReadFault → status ≢ Told.WriteFault → AllSteady old new × Steady diag diag'
+  pub steady : status ≢ Told.ReadFault → status ≢ Told.WriteFault → status ≢ Told.ShelfFault → AllSteady old new × Steady diag diag'
   -- where no call failed, it answers what the words mean, or want of memory
   pub complete : NoneFailed old new → ¬ Failed diag diag' → (status ≡ Told.NoMemory) ⊎ IsMeant words old decides.given decides.effect decided status

@@ -1,33 +1,24 @@
 -- What is built so far of the stage table.
-use Rattle.std.specs.Prelude.{◌≡◌, Bool, true, false}
+use Rattle.std.specs.Prelude.{◌≡◌, true}
 use Rattle.std.specs.declared.option.Option.TheVariants.{Some}
 use Rattle.pipe_model.specs.declared.kind.Kind.{Kind}
 use Rattle.pipe_model.specs.declared.net.Net.{Net}
 use Rattle.pipe_model.specs.declared.net.Strand.{Strand}
-use Rattle.pipe_model.specs.Form.{parting_by, keeping_by, is_filed}
+use Rattle.pipe_model.specs.Form.{parting_by, keeping_by}
 use Rattle.pipe_model.specs.Form.Parting.{Whole}
 use Rattle.pipe_model.specs.Shape.{Keeping}
 use Rattle.pipe_model.specs.State.{Who, nothing_yet, strand_at}
-use Rattle.pipe_model.specs.Table.{Feed, line_of}
-use Rattle.pipe_model.specs.Table.Feed.{Unfed, Input, OfFile}
+use Rattle.pipe_model.specs.Table.{line_of}
 use Rattle.stage_table.specs.BuiltIn.{is_built_in}
 
 -- where what a stage keeps goes
 abbrev pub keeping_of : Kind → Keeping
 keeping_of kind = keeping_by (line_of kind).shape
 
--- the table feeds it a file
-abbrev pub is_of_file : Feed → Bool
-is_of_file Unfed = false
-is_of_file Input = false
-is_of_file (OfFile name) = true
-
--- there is a stage of the kind, of one strand, which reads no file and keeps none
+-- there is a stage of the kind, of one strand
 pub record IsBuilt (kind : Kind) : Type 0 where
   pub stage : is_built_in kind ≡ true
   pub whole : parting_by (line_of kind).shape ≡ Whole
-  pub unread : is_of_file (line_of kind).feed ≡ false
-  pub fileless : is_filed (keeping_of kind) ≡ false
 
 -- the strands of the net are of such kinds
 abbrev pub AreBuilt : Net → Type 0

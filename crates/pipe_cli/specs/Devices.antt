@@ -1,11 +1,11 @@
 -- What the objects of a call show, before it and after it.
-use Rattle.std.specs.Prelude.{◌≡◌, ℕ}
+use Rattle.std.specs.Prelude.{◌≡◌, ℕ, List}
 use Rattle.std.specs.Io.KnownBytes.{Appends, IsAtEnd}
 use Rattle.std.specs.declared.option.Option.{Option}
 use Rattle.outside.specs.Faults.{Rose}
 use Rattle.outside.specs.Files.{Files}
 use Rattle.outside.specs.Device.{Device}
-use Rattle.pipe_cli.specs.Effects.{Effect, AreReplaced, replaced_by}
+use Rattle.pipe_cli.specs.Effects.{Effect, AreReplaced, AreReplacedBelow, IsNameOf, replaced_by}
 
 -- no call failed
 abbrev pub Steady : Device → Device → Type 0
@@ -47,6 +47,13 @@ pub record NoneFailed (old new : Outside) : Type 0 where
   pub input : ¬ Failed old.input new.input
   pub output : ¬ Failed old.output new.output
   pub shelf : ¬ Rose old.shelf.faults new.shelf.faults
+
+-- the output of the effect was written, and of its files those of lesser names than this one were replaced, and nothing else was written: what this one
+-- holds is open
+pub record IsPartDone (name : List ℕ) (effect : Effect) (old new : Outside) : Type 0 where
+  pub output : Appends old.output.bytes new.output.bytes effect.output
+  pub among : IsNameOf (replaced_by effect) name
+  pub files : AreReplacedBelow name (replaced_by effect) old.shelf.files new.shelf.files
 
 -- the effect was carried out, and nothing else was written
 pub record IsDone (effect : Effect) (old new : Outside) : Type 0 where

@@ -1,9 +1,11 @@
 -- What a call finds, and what it does.
-use Rattle.std.specs.Prelude.{◌≡◌, ℕ, if◌then◌else◌, List, [], ◌∷◌, ◌++◌}
+use Rattle.std.specs.Prelude.{◌≡◌, ◌≢◌, ℕ, if◌then◌else◌, List, [], ◌∷◌, ◌++◌}
+use Rattle.std.specs.List.{Contains}
 use Rattle.std.specs.Str.{bytes_eq}
 use Rattle.std.specs.declared.option.Option.{Option}
 use Rattle.std.specs.declared.option.Option.TheVariants.{Some, None}
 use Rattle.outside.specs.Files.{Files}
+use Rattle.pipe_model.specs.Keys.{is_less}
 use Rattle.pipe_model.specs.Reply.{FileText, Reply}
 
 -- the bytes of standard input, and the files by their names
@@ -40,6 +42,28 @@ replaced_by effect = effect.files ++ as_list effect.trace where
 abbrev pub files_after : List FileText → Files → Files
 files_after [] files = files
 files_after (file ∷ later) files = files_after later (λ name. if bytes_eq name file.0 then Some file.1 else files name)
+
+-- files in the order of their names, of two of one name the earlier one first
+abbrev pub inserted : FileText → List FileText → List FileText
+inserted file [] = file ∷ []
+inserted file (other ∷ rest) = if is_less file.0 other.0 then file ∷ (other ∷ rest) else other ∷ inserted file rest
+
+abbrev pub in_order_after : List FileText → List FileText → List FileText
+in_order_after sorted [] = sorted
+in_order_after sorted (file ∷ files) = in_order_after (inserted file sorted) files
+
+abbrev pub in_order : List FileText → List FileText
+in_order files = in_order_after [] files
+
+-- one of the files has this name
+abbrev pub IsNameOf : List FileText → List ℕ → Type 0
+IsNameOf files name = (text : List ℕ) × Contains files (name, text)
+
+-- of these files those of lesser names than this one were replaced and no others, where the files are told: what this one holds is open
+abbrev pub AreReplacedBelow : List ℕ → List FileText → Option Files → Option Files → Type 0
+AreReplacedBelow name replaced None new = new ≡ None
+AreReplacedBelow name replaced (Some old) None = ⊥
+AreReplacedBelow name replaced (Some old) (Some new) = (other : List ℕ) → other ≢ name → new other ≡ (if is_less other name then files_after replaced old other else old other)
 
 -- these files were replaced and no others, where the files are told
 abbrev pub AreReplaced : List FileText → Option Files → Option Files → Type 0

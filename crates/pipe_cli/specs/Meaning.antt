@@ -1,6 +1,6 @@
 -- What words mean, where nothing fails.
-use Rattle.std.specs.Prelude.{◌≡◌, ℕ, ◌+◌, ◌<◌, ◌≤◌, Bool, true, if◌then◌else◌, List, [], ◌∷◌, length, is_some, ℤ, pos, zero}
-use Rattle.std.specs.List.{sum_by}
+use Rattle.std.specs.Prelude.{◌≡◌, ℕ, ◌+◌, ◌<◌, ◌≤◌, Bool, true, if◌then◌else◌, List, [], ◌∷◌, length, take, is_some, ℤ, pos, zero}
+use Rattle.std.specs.List.{sum_by, Contains}
 use Rattle.std.specs.Option.{option_map_or}
 use Rattle.std.specs.declared.option.Option.TheVariants.{Some, None}
 use Rattle.outside.specs.Files.{Files}
@@ -10,6 +10,7 @@ use Rattle.pipe_model.specs.declared.net.Strand.{Strand}
 use Rattle.pipe_model.specs.declared.step.Entry.{Entry}
 use Rattle.pipe_model.specs.Play.{play, HasEnded, IsLegal, IsLicensed, IsComplete}
 use Rattle.pipe_model.specs.Alone.{IsPlainReading}
+use Rattle.pipe_model.specs.Committed.{IsCommitted, IsMove, event_at}
 use Rattle.pipe_model.specs.Plain.{IsPlain}
 use Rattle.pipe_model.specs.Reply.{Reply, WaitLine, reply}
 use Rattle.pipe_model.specs.Straight.{selected_by}
@@ -83,15 +84,29 @@ file_size files Unfed = 0
 file_size files Input = 0
 file_size files (OfFile name) = option_map_or (λ (bytes : List ℕ). length bytes) (files name) 0
 
+-- how many bytes files give to the stages of a net
+abbrev pub files_size : Files → Net → ℕ
+files_size files net = sum_by (λ (p : Strand). file_size files (line_of p.kind).feed) net.strands
+
+-- a stage of the net is fed the file of this name
+pub record IsFileOf (net : Net) (name : List ℕ) : Type 0 where
+  pub strand : Strand
+  pub among : Contains net.strands strand
+  pub fed_is : (line_of strand.kind).feed ≡ OfFile name
+
 -- how many bytes all stages are fed: those of the input, if a stage reads it, and those of the files
 abbrev pub fed_size : Before → Net → ℕ
-fed_size before net = (if reads_any net then length before.input else 0) + sum_by (λ (p : Strand). file_size before.files (line_of p.kind).feed) net.strands
+fed_size before net = (if reads_any net then length before.input else 0) + files_size before.files net
 
 -- the net with what its stages are fed
 abbrev pub net_on : Before → Net → Net
 net_on before net = fed before.input before.files net
 
 -- ---- a run of a net whose stages are fed
+
+-- no record moves before every stage has reached commit level 0 with code 0
+abbrev pub IsCommittedFirst : Net → List Entry → Type 0
+IsCommittedFirst net journal = (k : ℕ) → IsMove (event_at net journal k) → (s : ℕ) → s < length net.strands → IsCommitted net (play net (take k journal)) s
 
 -- a legal journal within the steps is complete, and has this reply
 pub record Finishes (net : Net) (steps : ℕ) (answer : Reply) : Type 0 where
@@ -100,6 +115,7 @@ pub record Finishes (net : Net) (steps : ℕ) (answer : Reply) : Type 0 where
   pub complete : IsComplete net journal
   pub within : length journal ≤ steps
   pub replies : reply net (play net journal) ≡ answer
+  pub committed : IsCommittedFirst net journal
   -- where the net is plain and all its strands have ended, the histories are those of its stages read as functions on streams
   pub plainly : IsPlain net → HasEnded net (play net journal) → IsPlainReading net (play net journal)
 
@@ -108,6 +124,7 @@ pub record Exhausts (net : Net) (steps : ℕ) : Type 0 where
   pub journal : List Entry
   pub legal : IsLegal net journal
   pub full : length journal ≡ steps
+  pub committed : IsCommittedFirst net journal
   pub more : (e : Entry) × IsLicensed net (play net journal) e
 
 -- the outcome that a reply tells: strands wait, or the worst code is 0, or another one

@@ -2,7 +2,7 @@
 use Rattle.std.specs.Prelude.{ℕ, ◌==◌, if◌then◌else◌, List, [], ◌∷◌, ◌++◌, codes, decimal}
 use Rattle.std.specs.Fmt.{signed_decimal}
 use Rattle.pipe_cli.specs.declared.status.Status.{Status}
-use Rattle.pipe_cli.specs.declared.status.Status.TheVariants.{Zero, Coded, SpecRefused, Stalled, Spent, ReadFault, WriteFault, NoMemory, Usage, InputTooLarge, NotYet}
+use Rattle.pipe_cli.specs.declared.status.Status.TheVariants.{Zero, Coded, SpecRefused, Stalled, Spent, ReadFault, WriteFault, ShelfFault, NoMemory, Usage, InputTooLarge, NotYet}
 use Rattle.pipe_cli.specs.declared.status.Outcome.{Outcome}
 use Rattle.pipe_cli.specs.declared.status.Outcome.TheVariants as Was
 use Rattle.spec_scanner.specs.declared.fault.SpecFaultKind.TheVariants.{BadArguments}
@@ -17,6 +17,7 @@ number_of Stalled = 3
 number_of Spent = 4
 number_of ReadFault = 5
 number_of WriteFault = 6
+number_of ShelfFault = 7
 number_of NoMemory = 8
 number_of Usage = 9
 number_of InputTooLarge = 10
@@ -50,6 +51,7 @@ facts_of (Was.Stalled lines) = facts Stalled (line (codes "stall") ++ (lines ++ 
 facts_of (Was.Spent steps) = facts Spent (line (codes "spent " ++ decimal steps))
 facts_of Was.ReadFault = facts ReadFault (line (codes "read fault"))
 facts_of Was.WriteFault = facts WriteFault (line (codes "write fault"))
+facts_of (Was.ShelfFault name) = facts ShelfFault (line (codes "shelf fault " ++ name))
 facts_of Was.NoMemory = facts NoMemory (line (codes "out of memory"))
 facts_of Was.Usage = facts Usage (line usage)
 facts_of Was.InputTooLarge = facts InputTooLarge (line (codes "input too large"))

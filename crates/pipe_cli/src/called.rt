@@ -1,6 +1,7 @@
 ghost use Rattle.std.specs.Prelude.{◌≡◌, ◌≤◌, ℕ, map, MatchResult, IfOk, Some};
 ghost use Rattle.std.specs.String.{string_bytes};
 ghost use Rattle.pipe_model.specs.WellFormed.{IsWellFormed};
+ghost use Rattle.net_graph.specs.Fed.{AreUnfiled};
 ghost use Rattle.pipe_cli.specs.Built.{AreBuilt};
 ghost use Rattle.pipe_cli.specs.Meaning.{IsNetOf, IsRunOf, RunsNet};
 ghost use Rattle.pipe_cli.specs.Refusals.{IsTextOutcome};
@@ -14,7 +15,7 @@ use pipe_model::{Net, Rec};
 use spec_scanner::{SpecFault, scan};
 use std::alloc::Global;
 
-/// What a call runs: a net, whose reading CONSOLE has no bytes yet, in so many steps at most.
+/// What a call runs: a net, whose stages are fed nothing yet, in so many steps at most.
 #[derive(Drop)]
 pub(crate) struct Call {
     pub net: Net,
@@ -26,6 +27,7 @@ pub(crate) fn called(alloc: Global, words: &[String]) -> Result<Call, Outcome>
     ensures called { MatchResult result (λ call. RunsNet (map (λ word. string_bytes word) words.now) call.net call.steps) (λ outcome. StopsWords (map (λ word. string_bytes word) words.now) outcome) }
     ensures whole { IfOk result (λ call. IsWellFormed call.net) }
     ensures built { IfOk result (λ call. AreBuilt call.net) }
+    ensures unfiled { IfOk result (λ call. AreUnfiled call.net) }
     ensures few { IfOk result (λ call. call.steps ≤ 50000000) }
 {
     let (spec, steps) = spec_of(alloc, words)?;

@@ -1,7 +1,6 @@
 ghost use Rattle.std.specs.Prelude.{◌≡◌, ℕ, List, MatchResult, IfOk, OnOk};
-ghost use Rattle.outside.specs.Files.{Files};
 ghost use Rattle.pipe_model.specs.WellFormed.{IsWellFormed};
-ghost use Rattle.net_graph.specs.Fed.{fed, reads_any, reads_input};
+ghost use Rattle.net_graph.specs.Fed.{reads_any, reads_input, with_input};
 ghost use Rattle.pipe_cli.specs.Built.{AreBuilt};
 ghost use Rattle.outside.specs.Device.{device};
 ghost use Rattle.pipe_cli.specs.Steps.{IsTaken, IsTakenPart};
@@ -13,20 +12,25 @@ use outside::Source;
 use pipe_model::{Net, NoMemory, Rec, Strand, reads_input};
 use std::alloc::Global;
 
-// Reads the input to its end, where a CONSOLE of the net reads it, and gives it to that, which will hold it together with
-// its stage. An error is a read fault, too much input or want of memory.
-pub(crate) fn take_input<I: Source>(alloc: Global, net: Net, input: &mut I) -> Result<Net, Outcome>
+// Reads the input to its end, `limit` bytes at most, where a CONSOLE of the net reads it, and gives it to that, which will hold it together
+// with its stage. An error is a read fault, too much input or want of memory.
+pub(crate) fn take_input<I: Source>(
+    alloc: Global,
+    net: Net,
+    input: &mut I,
+    limit: usize,
+) -> Result<Net, Outcome>
     requires whole { IsWellFormed net }
     requires built { AreBuilt net }
     ensures taken { let old = device (I.left input.old) (I.faults input.old) in let new = device (I.left input.new) (I.faults input.new) in
-        MatchResult result (λ after. (bytes : List ℕ) × IsTaken net old new bytes × ((files : Files) → after ≡ fed bytes files net)) (λ outcome. IsTakenPart net old new outcome) }
+        MatchResult result (λ after. (bytes : List ℕ) × IsTaken limit net old new bytes × (after ≡ with_input bytes net)) (λ outcome. IsTakenPart limit net old new outcome) }
     ensures whole { IfOk result IsWellFormed }
     ensures built { IfOk result AreBuilt }
 {
     if !net.strands.as_slice().iter().any(reads) {
         return Ok(net);
     }
-    let bytes = read_all(alloc, input)?;
+    let bytes = read_all(alloc, input, limit)?;
     let mut net = net;
     match feed_input(alloc, &mut net, bytes) {
         Ok(()) => Ok(net),
@@ -36,9 +40,9 @@ pub(crate) fn take_input<I: Source>(alloc: Global, net: Net, input: &mut I) -> R
 
 // Gives the bytes of the input to all that read it, which hold them once among them.
 fn feed_input(alloc: Global, net: &mut Net, bytes: Vec<u8>) -> Result<(), NoMemory>
-    requires whole { IsWellFormed net.old }
-    requires built { AreBuilt net.old }
-    ensures { OnOk result ((files : Files) → net.new ≡ fed bytes.items files net.old) }
+    requires { IsWellFormed net.old }
+    ensures fed { OnOk result (net.new ≡ with_input bytes.items net.old) }
+    ensures whole { OnOk result (IsWellFormed net.new) }
 {
     let input = Rec::shared(alloc, bytes)?;
     for strand in 0..net.strands.as_slice().len() {

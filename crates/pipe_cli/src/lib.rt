@@ -4,12 +4,14 @@
 mod called;
 mod command;
 mod demands;
+mod fetch;
 mod grammar;
 mod input;
 mod main_call;
 mod meaning;
 mod net_run;
 mod read;
+mod replace;
 mod status;
 mod text;
 mod values;

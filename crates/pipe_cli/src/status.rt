@@ -20,11 +20,13 @@ pub enum Status {
     ReadFault = 5,
     /// Standard output or standard error failed.
     WriteFault = 6,
+    /// A file couldn't be read or replaced.
+    ShelfFault = 7,
     /// An allocation was refused.
     NoMemory = 8,
     /// The words are no command.
     Usage = 9,
-    /// Standard input gave more than 67,108,864 bytes.
+    /// Standard input and the files that are read gave more than 67,108,864 bytes.
     InputTooLarge = 10,
     /// The command is of a form that isn't built yet.
     NotYet = 12,
@@ -54,6 +56,8 @@ pub enum Outcome {
     Spent(u64),
     ReadFault,
     WriteFault,
+    /// The name of the file.
+    ShelfFault(Rec),
     NoMemory,
     Usage,
     InputTooLarge,
@@ -73,6 +77,7 @@ impl Outcome {
             Outcome::Spent(_) => Status::Spent,
             Outcome::ReadFault => Status::ReadFault,
             Outcome::WriteFault => Status::WriteFault,
+            Outcome::ShelfFault(_) => Status::ShelfFault,
             Outcome::NoMemory => Status::NoMemory,
             Outcome::Usage => Status::Usage,
             Outcome::InputTooLarge => Status::InputTooLarge,

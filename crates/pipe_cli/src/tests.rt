@@ -48,7 +48,7 @@ pub(crate) fn strings(alloc: Global, words: &[&str]) -> Result<Vec<String>, Fail
     Ok(owned)
 }
 
-// The call's status, as a number.
+// The call's status, as a number, with no file.
 pub(crate) fn call<R: Threads + Wait + Sync, G: Gate + Sync>(
     rt: &R,
     alloc: Global,
@@ -57,6 +57,18 @@ pub(crate) fn call<R: Threads + Wait + Sync, G: Gate + Sync>(
     gate: &G,
 ) -> u8 {
     let mut shelf = MemShelf::new(alloc, Vec::new(alloc));
+    call_with(rt, alloc, words, streams, &mut shelf, gate)
+}
+
+// The same with the files of a shelf.
+fn call_with<R: Threads + Wait + Sync, G: Gate + Sync>(
+    rt: &R,
+    alloc: Global,
+    words: &[String],
+    streams: &mut Streams,
+    shelf: &mut MemShelf,
+    gate: &G,
+) -> u8 {
     pipe_main(
         rt,
         alloc,
@@ -64,7 +76,7 @@ pub(crate) fn call<R: Threads + Wait + Sync, G: Gate + Sync>(
         &mut streams.input,
         &mut streams.output,
         &mut streams.diag,
-        &mut shelf,
+        shelf,
         gate,
     )
     .number()
@@ -152,6 +164,41 @@ fn a_fault_in_mid_stream_is_told(rt: HostRuntime) -> Result<(), Fail> {
     expect(&rt, alloc, &[LINE], read, 5, b"", b"read fault\n")?;
     let written = in_memory(alloc, TEXT, 2, &[], &[2], 64)?;
     expect(&rt, alloc, &[LINE], written, 6, b"ab", b"write fault\n")
+}
+
+// A shelf with these two files, whose calls of these numbers fail.
+fn shelf_of(alloc: Global, fails: &[u32]) -> Result<MemShelf, Fail> {
+    let mut shelf = MemShelf::new(alloc, fails.to_vec(alloc)?);
+    shelf.preset(b"a", b"x\ny")?;
+    shelf.preset(b"b", b"old\n")?;
+    Ok(shelf)
+}
+
+const BOTH: &str = "(endchar ?) < a | > c ? < a | > b | console";
+
+#[test]
+fn files_are_read_before_the_run_and_replaced_after_it(rt: HostRuntime) -> Result<(), Fail> {
+    let alloc = rt.alloc();
+    let (old, new): (&[u8], &[u8]) = (b"old\n", b"x\ny\n");
+    let cases: [(&str, &[u32], u8, &[u8], &[u8], &[u8], Option<&[u8]>); 5] = [
+        (BOTH, &[], 0, new, b"", new, Some(new)),
+        (BOTH, &[1], 7, b"", b"shelf fault a\n", old, None),
+        (BOTH, &[2], 7, new, b"shelf fault b\n", old, None),
+        (BOTH, &[3], 7, new, b"shelf fault c\n", new, None),
+        ("< d | > b", &[], 1, b"", b"code 28\n", old, None),
+    ];
+    for (spec, fails, status, output, diag, b, c) in cases {
+        let words = strings(alloc, &[spec])?;
+        let mut streams = in_memory(alloc, b"", 2, &[], &[], 64)?;
+        let mut shelf = shelf_of(alloc, fails)?;
+        let answered = call_with(&rt, alloc, &words, &mut streams, &mut shelf, &OpenGate);
+        assert_eq!(rt; answered, status);
+        assert_eq!(rt; streams.output.written(), output);
+        assert_eq!(rt; streams.diag.written(), diag);
+        assert_eq!(rt; shelf.content(b"b"), Some(b));
+        assert_eq!(rt; shelf.content(b"c"), c);
+    }
+    Ok(())
 }
 
 #[test]

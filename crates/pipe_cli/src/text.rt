@@ -84,7 +84,7 @@ pub(crate) fn write_fault() -> Told
     }
 }
 
-// The text of an outcome. Only one that tells numbers or lines wants memory.
+// The text of an outcome. Only one that tells numbers, lines or a name wants memory.
 fn text_of(alloc: Global, outcome: &Outcome) -> Result<Text, NoMemory>
     ensures text { IfOk result (λ text. bytes_in text ≡ text_of outcome.now) }
     ensures lacks { IfErr result (λ _. wants_memory outcome.now ≡ true) }
@@ -98,6 +98,7 @@ fn text_of(alloc: Global, outcome: &Outcome) -> Result<Text, NoMemory>
         } => refusal(alloc, *number, *argument, *place)?,
         Outcome::Stalled(lines) => stall(alloc, lines.bytes())?,
         Outcome::Spent(steps) => numbered(alloc, "spent ", *steps)?,
+        Outcome::ShelfFault(name) => shelf_fault(alloc, name.bytes())?,
         Outcome::Done => return Ok(Text::Fixed("")),
         Outcome::ReadFault => return Ok(Text::Fixed("read fault\n")),
         Outcome::WriteFault => return Ok(Text::Fixed(WRITE_FAULT)),
@@ -145,6 +146,17 @@ fn stall(alloc: Global, lines: &[u8]) -> Result<Vec<u8>, NoMemory>
     add(&mut text, "stall\n")?;
     text.extend_from_slice(lines)?;
     add(&mut text, "code -4095\n")?;
+    Ok(text)
+}
+
+// The line of a file that failed.
+pub(crate) fn shelf_fault(alloc: Global, name: &[u8]) -> Result<Vec<u8>, NoMemory>
+    ensures { IfOk result (λ text. text.items ≡ line (codes "shelf fault " ++ name.now)) }
+{
+    let mut text = Vec::new(alloc);
+    add(&mut text, "shelf fault ")?;
+    text.extend_from_slice(name)?;
+    add(&mut text, "\n")?;
     Ok(text)
 }
 

@@ -10,6 +10,8 @@ use Rattle.stage_table.specs.BuiltIn.{is_built_in}
 pub known_is_built : (first : Bool) (kind : Kind) → is_some (arguments_of (line_of kind).name first) ≡ true → is_built_in kind ≡ true
 known_is_built first (Kinds.ConsoleIn bytes) is = refl
 known_is_built first Kinds.ConsoleOut is = refl
+known_is_built first (Kinds.FileIn name bytes) is = refl
+known_is_built first (Kinds.FileOut name) is = refl
 known_is_built first (Kinds.Literal text) is = refl
 known_is_built first Kinds.Hole is = refl
 known_is_built first (Kinds.Locate range text) is = refl

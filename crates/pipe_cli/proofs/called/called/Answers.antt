@@ -1,5 +1,6 @@
 use Rattle.std.proofs.Common.{subst}
 use Rattle.std.proofs.lemmas.Result.{err_from_is_err_and}
+use Rattle.net_graph.proofs.UnfiledGraphs.{graph_unfiled}
 use Rattle.pipe_cli.specs.Refusals.{IsTextOutcome}
 use Rattle.pipe_cli.proofs.Commands.{stops_text}
 use Rattle.pipe_cli.proofs.GraphKinds.{graph_built}
@@ -12,3 +13,6 @@ returns-in_err-net-clause-called c =
 
 pub returns-clause-built : goal.returns-clause-built
 returns-clause-built c = let made = c.in_ok-net.ensures.made in graph_built made.pipelines c.in_ok-net.net made.graph
+
+pub returns-clause-unfiled : goal.returns-clause-unfiled
+returns-clause-unfiled c = let made = c.in_ok-net.ensures.made in graph_unfiled made.pipelines c.in_ok-net.net made.graph

@@ -1,11 +1,13 @@
 use Rattle.std.proofs.Common.{◌≡◌, ◌≤◌, length}
-use Rattle.outside.specs.Files.{Files}
-use Rattle.pipe_cli.proofs.Feds.{fed_front}
+use Rattle.pipe_model.specs.WellFormed.{IsWellFormed}
+use Rattle.net_graph.specs.Fed.{input_kind}
+use Rattle.pipe_cli.proofs.Feds.{net_with}
 use Rattle.pipe_cli.proofs.input.feed_input.Given as goal
 
 abbrev pub invariant-loop-strand : goal.invariant-loop-strand
 invariant-loop-strand l = record {
   within : l.strand ≤ length l.fn.net.strands;
   end : l.strand-end ≡ length l.fn.net.strands;
-  fed : (files : Files) → l.net ≡ fed_front l.fn.bytes.items files l.strand l.fn.net;
+  fed : l.net ≡ net_with (input_kind l.fn.bytes.items) l.strand l.fn.net;
+  whole : IsWellFormed l.net;
 }

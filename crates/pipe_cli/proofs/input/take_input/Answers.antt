@@ -1,12 +1,10 @@
-use Rattle.std.proofs.Common.{rules, tests, ◌≡◌, false, [], refl, sym, ◌∙◌, subst, arith, None}
+use Rattle.std.proofs.Common.{rules, tests, ◌≡◌, false, [], refl, sym, ◌∙◌, subst, arith}
 use Rattle.std.proofs.lemmas.Iterator.{YieldsList-from_slice}
 use Rattle.std.proofs.lemmas.Iterator.Search.{any_from_yields_List}
 use Rattle.pipe_model.specs.declared.net.Strand.{Strand}
-use Rattle.pipe_model.specs.WellFormed.{IsWellFormed}
 use Rattle.net_graph.specs.Fed.{reads_any, reads_input}
-use Rattle.net_graph.proofs.Feeds.{fed_formed}
 use Rattle.pipe_cli.specs.Built.{AreBuilt}
-use Rattle.pipe_cli.proofs.Feds.{fed_built, fed_none}
+use Rattle.pipe_cli.proofs.Feds.{input_built, input_none}
 use Rattle.std.proofs.KnownBytes.{Consumes-nil}
 use Rattle.pipe_cli.proofs.input.take_input.Goals as goal
 
@@ -14,12 +12,8 @@ pub returns-then-not-any-clause-taken : goal.returns-then-not-any-clause-taken
 returns-then-not-any-clause-taken g c =
     let is = any_from_yields_List (λ (p : Strand). reads_input p.kind) _ _ c.any.result c.any.ensures.ran (YieldsList-from_slice c.args.net.strands cc) (λ x b q k. search (rules, tests)) in
     let none : reads_any c.args.net ≡ false = sym is ∙ c.if-not-any.true in
-    ([], record { gave = Consumes-nil _; fits = omega arith; reads = λ some. (let no = sym some ∙ none in cc); leaves = λ none. refl; steady = refl }, λ files. fed_none [] files c.args.net c.requires.built none)
-
-pub returns-in-Ok-clause-whole : goal.returns-in-Ok-clause-whole
-returns-in-Ok-clause-whole g c =
-    subst IsWellFormed (sym (c.in-Ok.ensures (λ name. None))) (fed_formed c.in_ok-bytes.bytes.items (λ name. None) c.args.net c.requires.whole)
+    ([], record { gave = Consumes-nil _; fits = omega arith; reads = λ some. (let no = sym some ∙ none in cc); leaves = λ none. refl; steady = refl }, input_none [] c.args.net none)
 
 pub returns-in-Ok-clause-built : goal.returns-in-Ok-clause-built
 returns-in-Ok-clause-built g c =
-    subst AreBuilt (sym (c.in-Ok.ensures (λ name. None))) (fed_built c.in_ok-bytes.bytes.items (λ name. None) c.args.net c.requires.built)
+    subst AreBuilt (sym c.in-Ok.ensures.fed) (input_built c.in_ok-bytes.bytes.items c.args.net c.requires.built)

@@ -11,4 +11,4 @@ returns-in-Ok-Complete g c =
 pub returns-in-Ok-Spent : goal.returns-in-Ok-Spent
 returns-in-Ok-Spent g c =
     let ends = subst (λ end. Ends end c.run_one_thread.new.self) c.in-Ok-Spent.field-0-is c.in-Ok-Spent.ensures.runs.1 in
-    inr (refl, run_spent c.args.net c.args.steps c.in-Ok.core c.run_one_thread.new.self c.in-Ok.ensures c.in-Ok-Spent.ensures.runs.0 c.in-Ok-Spent.ensures.lawful ends)
+    inr (refl, run_spent c.args.net c.args.steps c.in-Ok.core c.run_one_thread.new.self c.in-Ok.ensures c.in-Ok-Spent.ensures.runs.0 c.in-Ok-Spent.ensures.lawful c.requires.whole ends)

@@ -1,13 +1,12 @@
 use Rattle.std.proofs.Common.{◌∙◌, ◌++◌, ◌<◌, take, length, arith, length-append}
 use Rattle.std.proofs.KnownBytes.{Consumes-trans}
 use Rattle.std.proofs.lemmas.List.{length-take}
-use Rattle.pipe_cli.specs.Meaning.{input_limit}
 use Rattle.pipe_cli.proofs.read.read_all.Goals as goal
 
-pub returns-then-count-len : goal.returns-then-count-len
-returns-then-count-len g c =
+pub returns-then-count-limit : goal.returns-then-count-limit
+returns-then-count-limit g c =
     let read = c.in-Bytes.ensures.bytes in
-    let past : input_limit < length (c.loop-bytes.bytes.items ++ take c.in-Bytes.count c.read.new.room) =
+    let past : c.args.limit < length (c.loop-bytes.bytes.items ++ take c.in-Bytes.count c.read.new.room) =
     omega (arith, read.1, length-append c.loop-bytes.bytes.items (take c.in-Bytes.count c.read.new.room), length-take c.in-Bytes.count c.read.new.room) in
     record {
       given = _;
