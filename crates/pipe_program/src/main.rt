@@ -1,4 +1,4 @@
-//! The program `pipe`: its words and its standard streams, handed to the one call that does the work.
+//! The program `pipe`: its words, its standard streams and the files of its folder, handed to the one call that does the work.
 #![tactic(auto)]
 
 ghost use Rattle.std.specs.Prelude.{map};
@@ -8,13 +8,13 @@ ghost use Rattle.pipe_cli.specs.Devices.{Outside};
 ghost use Rattle.pipe_cli.specs.Answer.{Answers};
 ghost use Rattle.pipe_program.specs.Call.{Leaves, objects};
 
-use outside::{MemShelf, OpenGate, StdSink, StdSource};
+use outside::{FolderShelf, OpenGate, StdSink, StdSource};
 use pipe_cli::{Status, pipe_main};
 use std::alloc::{AllocError, Global};
 use std::env;
 use std::io::{ErrorKind, Read, Write};
 use std::process::ExitCode;
-use std::rt::Env;
+use std::rt::{Env, Files};
 use std::sync::Wait;
 use std::thread::Threads;
 
@@ -27,8 +27,9 @@ fn words(rt: &(impl AllocGlobal + Env)) -> Result<Vec<String>, AllocError> {
     }
 }
 
-// Does what the words say with these streams, with no file and an open gate, and gives back what is left of the streams.
-fn call<Rt: Threads + Wait + Sync, I: Read, O: Write, D: Write>(
+// Does what the words say with these streams, the files of the folder where the program runs and an open gate, and gives back what is
+// left of the streams.
+fn call<Rt: Threads + Wait + Files + Sync, I: Read, O: Write, D: Write>(
     rt: &Rt,
     alloc: Global,
     words: &[String],
@@ -43,7 +44,7 @@ fn call<Rt: Threads + Wait + Sync, I: Read, O: Write, D: Write>(
     let mut source = StdSource::new(input);
     let mut sink = StdSink::new(output);
     let mut texts = StdSink::new(diag);
-    let mut shelf = MemShelf::new(alloc, Vec::new(alloc));
+    let mut shelf = FolderShelf::new(rt);
     let status = pipe_main(
         rt,
         alloc,

@@ -1,7 +1,6 @@
 -- The objects that are made of the streams are those that the call speaks of.
-use Rattle.std.proofs.Common.{◌≡◌, ℕ, List, ap, subst, Option, Some, None}
+use Rattle.std.proofs.Common.{◌≡◌, ℕ, List, ap, subst, Option, None}
 use Rattle.outside.specs.Device.{Device, device}
-use Rattle.outside.specs.InMemory.{ShelfState, files_of}
 use Rattle.pipe_cli.specs.declared.status.Status.{Status}
 use Rattle.pipe_cli.specs.Devices.{Outside, Store, outside, store}
 use Rattle.pipe_cli.specs.Answer.{Answers}
@@ -10,12 +9,12 @@ use Rattle.pipe_program.proofs.call.Goals as goal
 
 -- an answer over objects that are equal to those of the streams
 made_of : (words : List (List ℕ)) (input output diag : Option (List ℕ)) (source sink texts : Device) (shelf : Store) (after : Outside) (told : Device) (status : Status) →
-    source ≡ device input 0 → sink ≡ device output 0 → texts ≡ device diag 0 → shelf ≡ store (Some (λ name. None)) 0 →
+    source ≡ device input 0 → sink ≡ device output 0 → texts ≡ device diag 0 → shelf ≡ store None 0 →
     Answers words (outside source sink shelf) after texts told status → Answers words (objects input output) after (device diag 0) told status
 made_of words input output diag source sink texts shelf after told status source_is sink_is texts_is shelf_is answers =
-    subst (λ (x : Device). Answers words (outside x (device output 0) (store (Some (λ name. None)) 0)) after (device diag 0) told status) source_is
-    (subst (λ (x : Device). Answers words (outside source x (store (Some (λ name. None)) 0)) after (device diag 0) told status) sink_is
-    (subst (λ (x : Device). Answers words (outside source sink (store (Some (λ name. None)) 0)) after x told status) texts_is
+    subst (λ (x : Device). Answers words (outside x (device output 0) (store None 0)) after (device diag 0) told status) source_is
+    (subst (λ (x : Device). Answers words (outside source x (store None 0)) after (device diag 0) told status) sink_is
+    (subst (λ (x : Device). Answers words (outside source sink (store None 0)) after x told status) texts_is
     (subst (λ (x : Store). Answers words (outside source sink x) after texts told status) shelf_is answers)))
 
 pub returns : goal.returns
@@ -23,6 +22,6 @@ returns g c = (
   _,
   _,
   made_of _ _ _ _ _ _ _ _ _ _ _ c.new-source.ensures c.new-sink.ensures c.new-texts.ensures
-      (ap (λ (shelf : ShelfState). store (Some (files_of shelf.files)) shelf.faults) c.new-shelf.ensures) c.pipe_main-status.ensures,
+      (ap (λ (faults : ℕ). store None faults) c.new-shelf.ensures) c.pipe_main-status.ensures,
   record { input_left = c.into_inner.ensures; output_left = c.into_inner-2.ensures; diag_left = c.into_inner-3.ensures },
 )
