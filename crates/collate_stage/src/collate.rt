@@ -175,6 +175,9 @@ impl Plans for Collate {
     // It never looks at any input.
     fn end_all(&mut self) {}
 
+    // It never waits for the first of its stage.
+    fn prime(&mut self, _primed: bool) {}
+
     fn next(&mut self, _alloc: Global) -> Result<Option<Act>, NoMemory> {
         match self.step {
             Step::WriteBoth => {

@@ -75,6 +75,13 @@ impl Plans for Collating {
         }
     }
 
+    fn prime(&mut self, primed: bool) {
+        match self {
+            Collating::Collate(plans) => plans.prime(primed),
+            Collating::Merge(plans) => plans.prime(primed),
+        }
+    }
+
     fn next(&mut self, alloc: Global) -> Result<Option<Act>, NoMemory> {
         match self {
             Collating::Collate(plans) => plans.next(alloc),

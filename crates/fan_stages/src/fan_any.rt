@@ -67,6 +67,8 @@ impl Plans for FansInAny {
         self.all_ended = true;
     }
 
+    fn prime(&mut self, _primed: bool) {}
+
     #[inline(always)]
     fn next(&mut self, _alloc: Global) -> Result<Option<Act>, NoMemory> {
         Ok(self.passing.next())
@@ -156,6 +158,8 @@ impl Plans for Juxtaposes {
         self.passing = Passing::Passed;
         self.all_ended = true;
     }
+
+    fn prime(&mut self, _primed: bool) {}
 
     #[inline(always)]
     fn next(&mut self, alloc: Global) -> Result<Option<Act>, NoMemory> {

@@ -57,6 +57,8 @@ impl Plans for FanIn {
 
     fn end_all(&mut self) {}
 
+    fn prime(&mut self, _primed: bool) {}
+
     #[inline(always)]
     fn next(&mut self, _alloc: Global) -> Result<Option<Act>, NoMemory> {
         Ok(self.passing.next())

@@ -62,6 +62,17 @@ impl Plans for FanPlans {
         }
     }
 
+    fn prime(&mut self, primed: bool) {
+        match self {
+            FanPlans::FanIn(plans) => plans.prime(primed),
+            FanPlans::FanInAny(plans) => plans.prime(primed),
+            FanPlans::Gather(plans) => plans.prime(primed),
+            FanPlans::Overlay(plans) => plans.prime(primed),
+            FanPlans::Synchronise(plans) => plans.prime(primed),
+            FanPlans::Juxtapose(plans) => plans.prime(primed),
+        }
+    }
+
     #[inline(always)]
     fn next(&mut self, alloc: Global) -> Result<Option<Act>, NoMemory> {
         match self {

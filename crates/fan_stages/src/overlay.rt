@@ -82,6 +82,8 @@ impl Plans for Overlays {
 
     fn end_all(&mut self) {}
 
+    fn prime(&mut self, _primed: bool) {}
+
     #[inline(always)]
     fn next(&mut self, alloc: Global) -> Result<Option<Act>, NoMemory> {
         if self.due {

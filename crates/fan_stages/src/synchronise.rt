@@ -70,6 +70,8 @@ impl Plans for Synchronises {
 
     fn end_all(&mut self) {}
 
+    fn prime(&mut self, _primed: bool) {}
+
     #[inline(always)]
     fn next(&mut self, _alloc: Global) -> Result<Option<Act>, NoMemory> {
         if let Some(input) = self.write() {

@@ -1,1 +1,2 @@
-mod GatesPlans
+mod Fitting
+mod Passes

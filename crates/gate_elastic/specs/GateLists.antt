@@ -1,12 +1,15 @@
--- What the lists of the stages stand for that take each record before they write.
+-- What the lists of BUFFER stand for, and those of COPY, ELASTIC and DAM's first strand.
 use Rattle.std.specs.Prelude.{◌≡◌, ℕ, Bool, false, List, []}
 use Rattle.std.specs.declared.option.Option.{Option}
-use Rattle.std.specs.declared.option.Option.TheVariants.{None}
-use Rattle.pipe_model.specs.declared.kind.Kind.{Kind}
+use Rattle.std.specs.declared.option.Option.TheVariants.{Some, None}
+use Rattle.pipe_model.specs.declared.net.Strand.{Strand}
 use Rattle.pipe_model.specs.Row.{Act}
-use Rattle.pipe_model.specs.Shape.{Records, Stream}
-use Rattle.pipe_model.specs.Table.{line_of, hold}
+use Rattle.pipe_model.specs.Shape.{Records, Stream, each_record, copied}
+use Rattle.pipe_model.specs.Table.{line_of}
+use Rattle.stage_steps.specs.declared.order.Order.{Order}
 use Rattle.stage_steps.specs.Each.{EachStand, each_look}
+use Rattle.stage_steps.specs.Listed.{lists_of}
+use Rattle.stage_steps.specs.Places.{order_of}
 use Rattle.stage_steps.specs.SharedLists.{CopiesStand, copies_look}
 use Rattle.stage_steps.specs.Waiting.{how_many}
 use Rattle.gate_elastic.specs.declared.gate_lists.GateLists.{GateLists}
@@ -31,6 +34,14 @@ abbrev pub gate_left : GateLists → ℕ
 gate_left (Copy x) = how_many x.each.waiting
 gate_left (Buffer x) = buffers_left x
 
--- the lists are those that the stage table says of the kind, before the first record
-abbrev pub AreListsOf : Kind → GateLists → Type 0
-AreListsOf kind x = (t : Stream) × ((line_of kind).shape ≡ hold t) × (gate_lists_look x ≡ (line_of kind).looks) × GateListsStand x false t [] []
+-- the stage table says of the strand that it has these lists in this order
+abbrev pub HasLists : Strand → Order → Stream → Type 0
+HasLists s order t = lists_of s (line_of s.kind).shape ≡ Some (record { order = order_of order; keeps = false; stream = t })
+
+-- these are its lists and their order, before the first record
+abbrev pub AreListsOf : Strand → Order → GateLists → Type 0
+AreListsOf s order x = (t : Stream) × HasLists s order t × (gate_lists_look x ≡ (line_of s.kind).looks) × GateListsStand x false t [] []
+
+-- it copies each record in this order, and looks at none
+abbrev pub AreCopies : Strand → Order → Type 0
+AreCopies s order = HasLists s order (each_record copied) × ((line_of s.kind).looks ≡ false)

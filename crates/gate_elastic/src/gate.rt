@@ -1,4 +1,5 @@
 use crate::buffer::Buffers;
+use crate::dam_plan::Dams;
 use crate::gate_lists::GateLists;
 use crate::gate_plan::Gates;
 use pipe_model::{Kind, NoMemory, Seen, Strand, Want};
@@ -10,25 +11,37 @@ use std::alloc::Global;
 pub enum GateStage {
     Lists(Listed<GateLists>),
     Gate(Planned<Gates>),
+    Dam(Planned<Dams>),
 }
 
 impl GateStage {
-    ghost use Rattle.std.specs.Prelude.{◌≡◌, true, [], IfOk};
-    ghost use Rattle.pipe_model.specs.declared.kind.Kind.{Kind as KindIs};
+    ghost use Rattle.std.specs.Prelude.{◌≡◌, ◌≢◌, true, [], IfOk};
     ghost use Rattle.pipe_model.specs.declared.kind.Kind.TheVariants as Kinds;
     ghost use Rattle.pipe_model.specs.declared.net.Strand.{Strand as StrandIs};
     ghost use Rattle.gate_elastic.specs.Gate.{is_gate, GateStands};
-    ghost use Rattle.gate_elastic.specs.GateLists.{AreListsOf};
+    ghost use Rattle.gate_elastic.specs.GateLists.{AreListsOf, AreCopies};
 
-    // The stage of the kind that has these lists, with these connected outputs, before its first event.
+    // The stage of the strands that have these lists in this order, with these connected outputs, before its first event.
     pub(crate) fn of_lists(
         alloc: Global,
         lists: GateLists,
+        order: Order,
         outputs: &[bool],
     ) -> Result<GateStage, NoMemory>
-        ensures { IfOk result (λ stage. (kind : KindIs) → AreListsOf kind lists → (s : StrandIs) → s.kind ≡ kind → s.ports.has_output ≡ outputs.now → GateStands stage s []) }
+        ensures { IfOk result (λ stage. (s : StrandIs) → AreListsOf s order lists → s.ports.has_output ≡ outputs.now → GateStands stage s []) }
     {
-        Ok(GateStage::Lists(Listed::new(alloc, lists, Order::TakesFirst, outputs, false)?))
+        Ok(GateStage::Lists(Listed::new(alloc, lists, order, outputs, false)?))
+    }
+
+    // The stage of the strands that copy each record in this order, with these connected outputs, before its first event.
+    pub(crate) fn of_copies(
+        alloc: Global,
+        order: Order,
+        outputs: &[bool],
+    ) -> Result<GateStage, NoMemory>
+        ensures { IfOk result (λ stage. (s : StrandIs) → AreCopies s order → s.ports.has_output ≡ outputs.now → GateStands stage s []) }
+    {
+        GateStage::of_lists(alloc, GateLists::Copy(Copies::lists(false)), order, outputs)
     }
 
     // GATE with these connected outputs, before its first event.
@@ -38,6 +51,13 @@ impl GateStage {
         Ok(GateStage::Gate(Planned::new(alloc, Gates::new(), outputs)?))
     }
 
+    // A strand of DAM that isn't the first, with these connected outputs, before its first event.
+    pub(crate) fn of_dam(alloc: Global, outputs: &[bool]) -> Result<GateStage, NoMemory>
+        ensures { IfOk result (λ stage. (s : StrandIs) → s.kind ≡ Kinds.Dam → s.part ≢ 0 → s.ports.has_output ≡ outputs.now → GateStands stage s []) }
+    {
+        Ok(GateStage::Dam(Planned::new(alloc, Dams::new(), outputs)?))
+    }
+
     /// The stage of a strand, before its first event.
     pub fn new(alloc: Global, strand: &Strand) -> Result<GateStage, NoMemory>
         requires { is_gate strand.now.kind ≡ true }
@@ -45,13 +65,17 @@ impl GateStage {
     {
         let outputs = strand.ports.has_output.as_slice();
         match &strand.kind {
-            Kind::Copy => {
-                GateStage::of_lists(alloc, GateLists::Copy(Copies::lists(false)), outputs)
-            }
+            Kind::Copy | Kind::Elastic => GateStage::of_copies(alloc, Order::TakesFirst, outputs),
             Kind::Buffer => {
-                GateStage::of_lists(alloc, GateLists::Buffer(Buffers::new(alloc)), outputs)
+                let lists = GateLists::Buffer(Buffers::new(alloc));
+                GateStage::of_lists(alloc, lists, Order::TakesFirst, outputs)
             }
             Kind::Gate => GateStage::of_gate(alloc, outputs),
+            Kind::Dam => if strand.part == 0 {
+                GateStage::of_copies(alloc, Order::WritesFirst, outputs)
+            } else {
+                GateStage::of_dam(alloc, outputs)
+            },
             _ => unreachable!(),
         }
     }
@@ -68,6 +92,7 @@ impl Stage for GateStage {
         match self {
             GateStage::Lists(stage) => stage.first(),
             GateStage::Gate(stage) => stage.first(),
+            GateStage::Dam(stage) => stage.first(),
         }
     }
 
@@ -78,6 +103,7 @@ impl Stage for GateStage {
         match self {
             GateStage::Lists(stage) => stage.resume(alloc, seen, bytes),
             GateStage::Gate(stage) => stage.resume(alloc, seen, bytes),
+            GateStage::Dam(stage) => stage.resume(alloc, seen, bytes),
         }
     }
 
@@ -85,6 +111,7 @@ impl Stage for GateStage {
         match self {
             GateStage::Lists(stage) => stage.looks(),
             GateStage::Gate(stage) => stage.looks(),
+            GateStage::Dam(stage) => stage.looks(),
         }
     }
 
@@ -92,6 +119,7 @@ impl Stage for GateStage {
         match self {
             GateStage::Lists(stage) => stage.kept(),
             GateStage::Gate(stage) => stage.kept(),
+            GateStage::Dam(stage) => stage.kept(),
         }
     }
 }

@@ -3,8 +3,8 @@ use pipe_model::{NoMemory, Rec};
 use stage_steps::{Copies, Each, Group, Lists};
 use std::alloc::Global;
 
-/// The lists of the stages that take each record before they write. They have one driver, so that none of them adds one to
-/// the loop that runs them.
+/// The lists of BUFFER, and those of COPY, ELASTIC and DAM's first strand, which are the same. They have one driver, so that
+/// none of them adds one to the loop that runs them.
 #[derive(Drop)]
 pub enum GateLists {
     Copy(Each<Copies>),

@@ -1,4 +1,5 @@
-use pipe_model::{NoMemory, Out};
+use crate::passing::Passing;
+use pipe_model::NoMemory;
 use stage_steps::{Act, Goal, Plans};
 use std::alloc::Global;
 
@@ -8,17 +9,6 @@ pub struct Gates {
     passing: Passing,
     /// It ends when nothing is left to do.
     is_shut: bool,
-}
-
-/// What is left to do with the record at hand.
-#[derive(Clone, Copy)]
-pub(crate) enum Passing {
-    /// The record of this input is written on the output of its number, and then taken.
-    Writing(u16),
-    /// The record of this input is taken.
-    Taking(u16),
-    /// Nothing is left.
-    Passed,
 }
 
 impl Gates {
@@ -38,13 +28,14 @@ impl Gates {
 
 impl Plans for Gates {
     ghost use Rattle.std.specs.Prelude.{false};
-    ghost use Rattle.gate_elastic.specs.Gates.{GatesStand, gates_left};
+    ghost use Rattle.gate_elastic.specs.Gates.{GatesStand};
+    ghost use Rattle.gate_elastic.specs.Passing.{passing_count};
 
     ghost stands = { GatesStand };
 
     ghost is_looking = { λ _. false };
 
-    ghost left = { gates_left };
+    ghost left = { λ x. passing_count x.passing };
 
     #[inline(always)]
     fn see(&mut self, _alloc: Global, input: u16, _bytes: &[u8]) -> Result<(), NoMemory> {
@@ -65,19 +56,12 @@ impl Plans for Gates {
         self.is_shut = true;
     }
 
+    // It never waits for the first of its stage.
+    fn prime(&mut self, _primed: bool) {}
+
     #[inline(always)]
     fn next(&mut self, _alloc: Global) -> Result<Option<Act>, NoMemory> {
-        match self.passing {
-            Passing::Writing(input) => {
-                self.passing = Passing::Taking(input);
-                Ok(Some(Act::Write(input, Out::Same(input))))
-            }
-            Passing::Taking(input) => {
-                self.passing = Passing::Passed;
-                Ok(Some(Act::Take(input)))
-            }
-            Passing::Passed => Ok(None),
-        }
+        Ok(self.passing.next())
     }
 
     #[inline(always)]

@@ -7,5 +7,8 @@ use pipe_model::Kind;
 pub fn is_gate(kind: &Kind) -> bool
     ensures { result ≡ is_gate kind.now }
 {
-    matches!(kind, Kind::Copy | Kind::Buffer | Kind::Gate)
+    matches!(
+        kind,
+        Kind::Copy | Kind::Buffer | Kind::Elastic | Kind::Gate | Kind::Dam
+    )
 }

@@ -108,6 +108,9 @@ impl Plans for Lookup {
     // It never asks for any input.
     fn end_all(&mut self) {}
 
+    // It never waits for the first of its stage.
+    fn prime(&mut self, _primed: bool) {}
+
     fn next(&mut self, _alloc: Global) -> Result<Option<Act>, NoMemory> {
         let (act, due) = match mem::replace(&mut self.due, Due::Nothing) {
             Due::Nothing => {

@@ -10,7 +10,7 @@ use Rattle.pipe_model.specs.declared.step.Out.{Out}
 use Rattle.pipe_model.specs.declared.step.Out.TheVariants.{Same, Fresh}
 use Rattle.pipe_model.specs.declared.step.Want.{Want as Asked}
 use Rattle.pipe_model.specs.Event.{Event, Want, answers, has_ended, last_seen_on}
-use Rattle.pipe_model.specs.Event.Event.{Up, Saw, SawEnd, SawAllEnd, Took, Put, Refused, Ended}
+use Rattle.pipe_model.specs.Event.Event.{Up, Saw, SawEnd, SawAllEnd, Took, Put, Refused, Primed, Ended}
 use Rattle.pipe_model.specs.Inputs.{records_from}
 use Rattle.pipe_model.specs.Row.{Pair, Act, Goal, Plan, Known}
 use Rattle.pipe_model.specs.Row.Goal.{Asks, Ends}
@@ -22,7 +22,7 @@ use Rattle.pipe_model.proofs.Pasts.{after, when_asked}
 use Rattle.stage_steps.specs.declared.plans.Act.{Act as Acting}
 use Rattle.stage_steps.specs.declared.plans.Act.TheVariants.{Write, Take}
 use Rattle.stage_steps.specs.declared.plans.Goal.{Goal as Following}
-use Rattle.stage_steps.specs.declared.plans.Goal.TheVariants.{Read, Any, Gate, End}
+use Rattle.stage_steps.specs.declared.plans.Goal.TheVariants.{Read, Any, Gate, Prime, End}
 use Rattle.stage_steps.specs.declared.planned.At.{At as Place}
 use Rattle.stage_steps.specs.declared.planned.At.TheVariants as At
 use Rattle.stage_steps.specs.Coroutine.{meaning, told, bytes_with, last_seen, record_seen_on, written, IsSeenBefore}
@@ -145,6 +145,11 @@ module _ {P : Type 0} (stands : P → (Known → Plan) → Known → Plan → Ty
       subst (λ b. Next SawAllEnd (when_asked (row plan) outputs p SawAllEnd b)) (sym fits)
       (record { flags_are = refl; sight_is = sight_is; seen_is = seen_is; few = one_more _ _ few; place_is = λ on. planned SawAllEnd want stood fits room heard.0 heard.1 })
 
+  primed_is : (primed : Bool) → stands x plan p.known (asks Want.Prime) → length h < 50000000 → Hears At.Asking (Primed primed) →
+      Next (Primed primed) (after (row plan) outputs p (Doing [] (Asks Want.Prime)) (Primed primed))
+  primed_is primed stood room heard =
+      record { flags_are = refl; sight_is = sight_is; seen_is = seen_is; few = one_more _ _ few; place_is = λ on. planned (Primed primed) Want.Prime stood refl room heard.0 heard.1 }
+
   looked : (want : Want) (e : Event) → IsLook want → stands x plan p.known (asks want) → answers (Some want) e ≡ true → length h < 50000000 → bytes_with looks e ≡ bytes → Hears At.Asking e →
       Next e (after (row plan) outputs p (Doing [] (Asks want)) e)
   looked (Want.Read i) (Saw j rec) look stood fits room came heard = saw (Want.Read i) j rec stood fits room (λ on. sym came ∙ ap (λ b. bytes_with b (Saw j rec)) on) heard
@@ -156,6 +161,8 @@ module _ {P : Type 0} (stands : P → (Known → Plan) → Known → Plan → Ty
   looked Want.Gate (Saw j rec) look stood fits room came heard = saw Want.Gate j rec stood fits room (λ on. sym came ∙ ap (λ b. bytes_with b (Saw j rec)) on) heard
   looked Want.Gate (SawEnd j) look stood fits room came heard = saw_end Want.Gate j stood fits room heard
   looked Want.Gate _ look stood fits room came heard = cc
+  looked Want.Prime (Primed primed) look stood fits room came heard = primed_is primed stood room heard
+  looked Want.Prime _ look stood fits room came heard = cc
   looked _ e look stood fits room came heard = absurd look
 
   -- What it asked to do
@@ -248,6 +255,7 @@ module _ {P : Type 0} (stands : P → (Known → Plan) → Known → Plan → Ty
   follows (Read i) stood place_is asked_is is = stood_at At.Asking (asked_behind (Read i)) place_is asked_is (Want.Read i, tt, is, stood) (ap want_in (sym is)) tt
   follows Any stood place_is asked_is is = stood_at At.Asking (asked_behind Any) place_is asked_is (Want.Any, tt, is, stood) (ap want_in (sym is)) tt
   follows Gate stood place_is asked_is is = stood_at At.Asking (asked_behind Gate) place_is asked_is (Want.Gate, tt, is, stood) (ap want_in (sym is)) tt
+  follows Prime stood place_is asked_is is = stood_at At.Asking (asked_behind Prime) place_is asked_is (Want.Prime, tt, is, stood) (ap want_in (sym is)) tt
   follows (End code) stood place_is asked_is is = stood_at (At.Ending code) (asked_behind (End code)) place_is asked_is is (ap want_in (sym is)) tt
 
   goes_on : (given : Option Acting) → Behind stands plan x At.Doing flags p → FetchesAct stands flags x y given → GoesOn stands y given place' asked → IsAsked

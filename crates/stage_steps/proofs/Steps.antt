@@ -45,11 +45,12 @@ module _ {P : Type 0} (stands : P → (Known → Plan) → Known → Plan → Ty
 
 -- One step
 
--- who looks isn't told of an end
+-- who looks or waits isn't told of an end
 no_end : (want : Want) (code : ℤ) → IsLook want → answers (Some want) (Ended code) ≡ true → ⊥
 no_end (Want.Read i) code look fits = cc
 no_end Want.Any code look fits = cc
 no_end Want.Gate code look fits = cc
+no_end Want.Prime code look fits = cc
 no_end _ code look fits = absurd look
 
 -- where it ends with a code, it is in the place where it is to end with it

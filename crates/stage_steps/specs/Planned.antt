@@ -20,11 +20,12 @@ use Rattle.stage_steps.specs.Coroutine.{record_seen_on}
 use Rattle.stage_steps.specs.Outputs.{open_from, live}
 use Rattle.stage_steps.specs.Plans.{act_of, known_done, last_from}
 
--- it looks at a record
+-- it looks at a record, or waits for the first of its stage
 abbrev pub IsLook : Want → Type 0
 IsLook (Want.Read i) = Unit {0}
 IsLook Want.Any = Unit {0}
 IsLook Want.Gate = Unit {0}
+IsLook Want.Prime = Unit {0}
 IsLook _ = ⊥
 
 -- where it stands: what it asked for there, and what is left

@@ -7,12 +7,12 @@ use Rattle.pipe_model.specs.declared.step.Seen.{Seen}
 use Rattle.pipe_model.specs.declared.step.Seen.TheVariants as Told
 use Rattle.pipe_model.specs.declared.step.Want.{Want as Asked}
 use Rattle.pipe_model.specs.declared.step.Want.TheVariants as Ask
-use Rattle.pipe_model.specs.Event.Event.{SawEnd, SawAllEnd}
+use Rattle.pipe_model.specs.Event.Event.{SawEnd, SawAllEnd, Primed}
 use Rattle.pipe_model.specs.Row.{Act, Plan, Known}
 use Rattle.stage_steps.specs.declared.plans.Act.{Act as Acting}
 use Rattle.stage_steps.specs.declared.plans.Act.TheVariants.{Write, Take}
 use Rattle.stage_steps.specs.declared.plans.Goal.{Goal as Following}
-use Rattle.stage_steps.specs.declared.plans.Goal.TheVariants.{Read, Any, Gate, End}
+use Rattle.stage_steps.specs.declared.plans.Goal.TheVariants.{Read, Any, Gate, Prime, End}
 use Rattle.stage_steps.specs.declared.planned.At.{At}
 use Rattle.stage_steps.specs.declared.planned.At.TheVariants.{Starting, Committing, Doing, Asking, Ending}
 use Rattle.stage_steps.specs.Outputs.{live}
@@ -28,6 +28,7 @@ HearsPlan stands looks gives_up x Doing (Told.Refused o) bytes y place = (y ≡ 
 HearsPlan stands looks gives_up x Asking (Told.Saw i) bytes y place = PlansBySight stands looks x y i bytes × (place ≡ Doing)
 HearsPlan stands looks gives_up x Asking (Told.SawEnd i) bytes y place = Plans stands x y (SawEnd i) × (place ≡ Doing)
 HearsPlan stands looks gives_up x Asking Told.SawAllEnd bytes y place = Plans stands x y SawAllEnd × (place ≡ Doing)
+HearsPlan stands looks gives_up x Asking (Told.Primed primed) bytes y place = Plans stands x y (Primed primed) × (place ≡ Doing)
 HearsPlan stands looks gives_up x (Ending code) (Told.Ended code') bytes y place = (y ≡ x) × (place ≡ Ending code)
 HearsPlan stands looks gives_up x _ _ bytes y place = Unit {0}
 
@@ -51,6 +52,7 @@ abbrev pub asked_behind : Following → Asked
 asked_behind (Read i) = Ask.Read i
 asked_behind Any = Ask.Any
 asked_behind Gate = Ask.Gate
+asked_behind Prime = Ask.Primed
 asked_behind (End code) = Ask.Done code
 
 -- an act is asked for, or where there is none what follows the plan

@@ -36,6 +36,7 @@ abbrev pub goal_of : Following → Goal
 goal_of (Follow.Read i) = Asks (Want.Read i)
 goal_of Follow.Any = Asks Want.Any
 goal_of Follow.Gate = Asks Want.Gate
+goal_of Follow.Prime = Asks Want.Prime
 goal_of (Follow.End code) = Ends code
 
 -- what the strand knows when it has done an act

@@ -75,6 +75,10 @@ fn hear<P: Plans>(
             plans.end_all();
             Ok(At::Doing)
         }
+        (At::Asking, Seen::Primed(primed)) => {
+            plans.prime(primed);
+            Ok(At::Doing)
+        }
         (At::Doing, Seen::Refused(_)) => if outputs.none_left() {
             Ok(At::Ending(0))
         } else {
@@ -123,6 +127,7 @@ fn follow(goal: Goal) -> (At, Want)
         Goal::Read(input) => (At::Asking, Want::Read(input)),
         Goal::Any => (At::Asking, Want::Any),
         Goal::Gate => (At::Asking, Want::Gate),
+        Goal::Prime => (At::Asking, Want::Primed),
         Goal::End(code) => (At::Ending(code), Want::Done(code)),
     }
 }

@@ -1,5 +1,5 @@
 ghost use Rattle.std.specs.Prelude.{◌≡◌, ◌<◌, ℕ, Bool, IfOk, IfSome};
-ghost use Rattle.pipe_model.specs.Event.Event.{SawEnd, SawAllEnd};
+ghost use Rattle.pipe_model.specs.Event.Event.{SawEnd, SawAllEnd, Primed};
 ghost use Rattle.pipe_model.specs.Row.{Plan, Known};
 ghost use Rattle.stage_steps.specs.Plans as Spec;
 
@@ -24,6 +24,8 @@ pub enum Goal {
     Any,
     /// GATE's look.
     Gate,
+    /// It waits until its stage's first strand saw a record or ended.
+    Prime,
     /// It ends with this code.
     End(i32),
 }
@@ -56,6 +58,11 @@ pub trait Plans: Sized + Drop {
     fn end_all(&mut self)
         ensures looks_same { is_looking self.new ≡ is_looking self.old }
         ensures plans { Spec.Plans stands self.old self.new SawAllEnd };
+
+    /// Plans by what it waited for: that its stage's first strand saw a record, or ended without one.
+    fn prime(&mut self, primed: bool)
+        ensures looks_same { is_looking self.new ≡ is_looking self.old }
+        ensures plans { Spec.Plans stands self.old self.new (Primed primed) };
 
     /// The next act, or None where nothing is left to do.
     fn next(&mut self, alloc: Global) -> Result<Option<Act>, NoMemory>

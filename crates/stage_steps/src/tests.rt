@@ -7,7 +7,7 @@ use std::test::Fail;
 mod in_turn;
 mod scripted;
 
-use in_turn::in_turn;
+use in_turn::{InTurn, in_turn};
 use scripted::{Script, a_script};
 
 // What a range names of a record.
@@ -182,8 +182,13 @@ fn a_bad_commit_ends_it(rt: HostRuntime) -> Result<(), Fail> {
 }
 
 // Goes through these events with plans, with both outputs connected, and looks at what is asked for after each.
-fn planned(rt: &impl Abort, alloc: Global, steps: &[(Seen, &str)]) -> Result<(), Fail> {
-    let mut stage = Planned::new(alloc, in_turn(), &[true, true])?;
+fn planned(
+    rt: &impl Abort,
+    alloc: Global,
+    plans: InTurn,
+    steps: &[(Seen, &str)],
+) -> Result<(), Fail> {
+    let mut stage = Planned::new(alloc, plans, &[true, true])?;
     let first = format!(in alloc; "{:?}", stage.first())?;
     assert_eq!(rt; first.as_str(), "Commit(-1)");
     for (seen, want) in steps {
@@ -214,7 +219,7 @@ fn plans_are_done_on_open_outputs(rt: HostRuntime) -> Result<(), Fail> {
         (Seen::Ended(8), "Done(8)"),
     ];
     let alloc = rt.alloc();
-    planned(&rt, alloc, &steps)
+    planned(&rt, alloc, in_turn(false), &steps)
 }
 
 #[test]
@@ -227,9 +232,27 @@ fn a_plan_ends_when_all_outputs_refuse(rt: HostRuntime) -> Result<(), Fail> {
         (Seen::Refused(0), "Write(1, Same(0))"),
         (Seen::Refused(1), "Done(0)"),
     ];
-    planned(&rt, alloc, &steps)?;
+    planned(&rt, alloc, in_turn(false), &steps)?;
     let steps = [(Seen::Up(-1, 0), "Commit(0)"), (Seen::Up(0, 28), "Done(0)")];
-    planned(&rt, alloc, &steps)
+    planned(&rt, alloc, in_turn(false), &steps)
+}
+
+#[test]
+fn a_plan_waits_for_the_first_of_its_stage(rt: HostRuntime) -> Result<(), Fail> {
+    let alloc = rt.alloc();
+    let steps = [
+        (Seen::Up(-1, 0), "Commit(0)"),
+        (Seen::Up(0, 0), "Primed"),
+        (Seen::Primed(true), "Read(0)"),
+        (Seen::Saw(0), "Write(0, Same(0))"),
+    ];
+    planned(&rt, alloc, in_turn(true), &steps)?;
+    let steps = [
+        (Seen::Up(-1, 0), "Commit(0)"),
+        (Seen::Up(0, 0), "Primed"),
+        (Seen::Primed(false), "Done(8)"),
+    ];
+    planned(&rt, alloc, in_turn(true), &steps)
 }
 
 #[test]

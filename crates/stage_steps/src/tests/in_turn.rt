@@ -3,17 +3,23 @@ use pipe_model::{NoMemory, Out};
 use std::alloc::Global;
 
 // Plans for trying the driver: it reads two inputs in turn, each to its end, and writes each record on outputs 0 and 1
-// before it takes it. They stand for no row, so nothing is owed of them.
+// before it takes it, or first waits for the first strand of its stage and ends where that saw no record. They stand for no
+// row, so nothing is owed of them.
 #[derive(Drop)]
 pub(crate) struct InTurn {
+    is_waiting: bool,
     input: u16,
     // The acts that are left: to write on both outputs and take, to write on output 1 and take, or to take.
     due: u8,
 }
 
 // Before the first record.
-pub(crate) fn in_turn() -> InTurn {
-    InTurn { input: 0, due: 0 }
+pub(crate) fn in_turn(is_waiting: bool) -> InTurn {
+    InTurn {
+        is_waiting,
+        input: 0,
+        due: 0,
+    }
 }
 
 impl Plans for InTurn {
@@ -37,6 +43,11 @@ impl Plans for InTurn {
 
     fn end_all(&mut self) {}
 
+    fn prime(&mut self, primed: bool) {
+        self.is_waiting = false;
+        self.input = if primed { 0 } else { 2 };
+    }
+
     fn next(&mut self, _alloc: Global) -> Result<Option<Act>, NoMemory> {
         let act = match self.due {
             0 => return Ok(None),
@@ -49,7 +60,9 @@ impl Plans for InTurn {
     }
 
     fn goal(&self) -> Goal {
-        if self.input < 2 {
+        if self.is_waiting {
+            Goal::Prime
+        } else if self.input < 2 {
             Goal::Read(self.input)
         } else {
             Goal::End(8)

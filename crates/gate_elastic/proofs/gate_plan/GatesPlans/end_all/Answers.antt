@@ -1,7 +1,11 @@
-use Rattle.std.proofs.Common.{refl}
+use Rattle.std.proofs.Common.{refl, pos}
 use Rattle.pipe_model.specs.Event.Event.{SawAllEnd}
-use Rattle.gate_elastic.proofs.GatesPlans.{shuts}
+use Rattle.pipe_model.specs.Row.Goal.{Ends}
+use Rattle.gate_elastic.specs.Gates.{gates, goal_by}
+use Rattle.gate_elastic.proofs.Passes.{goes_on}
 use Rattle.gate_elastic.proofs.gate_plan.GatesPlans.end_all.Goals as goal
 
 pub returns-clause-plans : goal.returns-clause-plans
-returns-clause-plans c = λ plan k want is fits room. shuts c.args.self.now plan k want is SawAllEnd refl
+returns-clause-plans c = λ plan k want is fits room.
+    let x = c.args.self.now in
+    goes_on gates (goal_by x.is_shut) x.passing plan k want is SawAllEnd (Ends (pos 0)) refl
