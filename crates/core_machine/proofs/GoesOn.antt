@@ -28,7 +28,7 @@ use Rattle.core_machine.specs.Machine.{left_by, without, is_among, looks_at}
 use Rattle.core_machine.specs.Sound.{IsSound}
 use Rattle.core_machine.specs.Woken.{HasReturned}
 use Rattle.core_machine.proofs.Jobs.{can_run, done_take}
-use Rattle.core_machine.proofs.Sounds.{sight_held, told_are, can_home, ended_is, came, came_early, in_use, sound_home, turned_past, goes_on, sound_turned, job_turned, job_event}
+use Rattle.core_machine.proofs.Sounds.{sight_held, told_are, can_home, ended_is, came_early, in_use, sound_home, turned_past, goes_on, sound_turned, job_turned, job_event}
 
 -- what is set twice is set once
 pub set_set : {A : Type 0} (xs : List A) (i : ℕ) (x y : A) → slice_set (slice_set xs i x) i y ≡ slice_set xs i y
@@ -147,7 +147,7 @@ module _ {S : Type 0} (stands : S → Strand → List Event → Type 0) (net : N
       went_home shown bared d2 pool2 returned =
           let new : Actor S = gone_on seen next shown a in
           let home = sound_home stands net budget longer out' (slice_set actors s off) d' pool' lost s here next asked among done d2 pool2 off (get_set_same actors s off a there)
-          (came stands net budget longer out' (slice_set actors s off) d' pool' lost s here next asked among done d2 pool2 returned) shown bared in
+          returned shown bared in
           let none : without here out' ≡ [] = ap (without here) out_is ∙ none_without here in
           subst (λ (l : List (Actor S)). IsSound stands net budget longer [] l d2 pool2) (set_set actors s off new)
           (subst (λ o. IsSound stands net budget longer o (slice_set (slice_set actors s off) s new) d2 pool2) none home)

@@ -33,7 +33,7 @@ seats_asking : (d n : DeskState) (s : ℕ) (ask : Ask) → n ≡ desk_at_home d 
 seats_asking d n s ask is = ap (λ (z : DeskState). length z.seats) is ∙ changed_length d.seats (asking ask) (Some s)
 
 pub seats_home : (d : DeskState) (pool : PoolState) (s : ℕ) (w : Want) (n : DeskState) (after : PoolState) → HasCome d pool s w n after → length n.seats ≡ length d.seats
-seats_home d pool s (want.Write o out) n after come = ap (λ (z : DeskState). length z.seats) come.2 ∙ changed_length d.seats (asking (Now.Write o)) (Some s)
+seats_home d pool s (want.Write o out) n after come = ap (λ (z : DeskState). length z.seats) come.home ∙ changed_length d.seats (asking (Now.Write o)) (Some s)
 seats_home d pool s (want.Commit level) n after come = seats_asking d n s (Now.Commit level) come.0
 seats_home d pool s (want.Read i) n after come = seats_asking d n s (Now.Read i) come.0
 seats_home d pool s want.Any n after come = seats_asking d n s Now.Any come.0
@@ -68,12 +68,12 @@ module _ (net : Net) (d n : DeskState) (s : ℕ) (new : Members) (low zero : Boo
   around_want : (pool after : PoolState) (w : Want) → HasCome d pool s w n after → IsReaderIn d net.links s w new →
       low ≡ (not (commits w) || is_some (Telling.level_code d (negsuc 0))) → zero ≡ (not (commits w) || is_some (Telling.level_code d (pos 0))) → IsAround net d n s new
   around_want pool after (want.Write o out) come reader low_is zero_is =
-      around_home (Now.Write o) (ap (λ (z : DeskState). z.seats) come.2) (ap (λ (z : DeskState). z.doors) come.2)
-      (λ u off. subst (IsStill net.links u d.wires) (sym (ap (λ (z : DeskState). z.wires) come.2))
-      (still_changed net.links u d.wires (offers come.0) (Telling.out_door d s o)
+      around_home (Now.Write o) (ap (λ (z : DeskState). z.seats) come.home) (ap (λ (z : DeskState). z.doors) come.home)
+      (λ u off. subst (IsStill net.links u d.wires) (sym (ap (λ (z : DeskState). z.wires) come.home))
+      (still_changed net.links u d.wires (offers come.grip) (Telling.out_door d s o)
       (λ j link wire door l to at. clash new u (ap (is_member new) (sym to) ∙ reader link (ap (link_through net.links) door ∙ l)) off)
       (λ j link wire door l from at. (λ p. p, λ p. p))))
-      (λ u inside off level early. same_code d n level (ap (λ (z : DeskState). z.unit) come.2))
+      (λ u inside off level early. same_code d n level (ap (λ (z : DeskState). z.unit) come.home))
   around_want pool after (want.Commit l) come reader low_is zero_is =
       around_home (Now.Commit l) (ap (λ (z : DeskState). z.seats) come.0) (ap (λ (z : DeskState). z.doors) come.0)
       (λ u off. subst (IsStill net.links u d.wires) (sym (ap (λ (z : DeskState). z.wires) come.0)) (still_same net.links u d.wires))

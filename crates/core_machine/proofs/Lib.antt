@@ -2,6 +2,7 @@ pub mod Away
 pub mod BitSets
 pub mod Fills
 pub mod Followers
+pub mod FreshStages
 pub mod Fulls
 pub mod GoesOn
 pub mod Homes

@@ -1,8 +1,5 @@
 -- Whom a turn concerns is woken by it.
-use Rattle.std.proofs.Common.{◌≡◌, ◌≢◌, ◌⊎◌, ℕ, ◌+◌, ◌<◌, Bool, true, false, cond, ◌&&◌, ◌||◌, not, ◌==◌, List, length, refl, sym, ◌∙◌, ap, subst, arith, Option, Some, None, is_some, slice_get, ℤ, pos, negsuc}
-use Rattle.std.proofs.Math.Bool.{and-false}
-use Rattle.std.proofs.lemmas.Bool.{eqb-true, ne_eqb}
-use Rattle.std.specs.Prelude.{IsSome}
+use Rattle.std.proofs.Common.{◌≡◌, ◌≢◌, ◌⊎◌, ℕ, ◌+◌, ◌<◌, Bool, true, false, cond, ◌&&◌, ◌||◌, not, ◌==◌, List, length, refl, sym, ◌∙◌, ap, subst, Option, Some, None, is_some, slice_get, ℤ, pos, negsuc}
 use Rattle.std.specs.Option.{option_map}
 use Rattle.pipe_model.specs.declared.net.Net.{Net}
 use Rattle.pipe_model.specs.declared.net.Link.{Link}
@@ -13,58 +10,43 @@ use Rattle.pipe_model.specs.State.{State, past}
 use Rattle.pipe_model.specs.Licence.{Left}
 use Rattle.pipe_model.specs.WellFormed.{IsWellFormed}
 use Rattle.record_pool.specs.PoolState.{PoolState}
-use Rattle.connectors.specs.WireState.{WireState, at_hand, taken, settled, cleared}
+use Rattle.connectors.specs.WireState.{WireState, hand_of, lined_up, taken, settled, cleared}
 use Rattle.run_desk.specs.declared.seat.Seat.{Seat}
 use Rattle.run_desk.specs.Desk.{DeskState}
 use Rattle.run_desk.specs.Standing.{DeskStands, link_through}
 use Rattle.run_desk.specs.Turns.{desk_after_turn, CanTurn, seat_after, out_shut, in_shut, ends, sees}
 use Rattle.run_desk.specs.Telling as Telling
 use Rattle.run_desk.proofs.Lists.{changed_here, changed_there}
+use Rattle.run_desk.proofs.Queues.{queues_as}
 use Rattle.core_machine.specs.Floor.{IsInUse}
 use Rattle.core_machine.specs.Members.{Members, is_member}
-use Rattle.core_machine.specs.Woken.{IsCovering, IsWhole, IsLarger, IsStageIn, AreEndsIn, may_settle}
+use Rattle.core_machine.specs.Woken.{IsCovering, IsWhole, IsLarger, IsWaitingIn, IsStageIn, AreEndsIn, may_settle}
 use Rattle.core_machine.proofs.Fulls.{reached_code, same_code}
-use Rattle.core_machine.proofs.Stills.{IsStill, Reads, still_same, still_changed, still_closed, leads_from}
+use Rattle.core_machine.proofs.Stills.{IsStill, Reads, still_same, still_changed, still_closed, leads_to, leads_from}
 use Rattle.core_machine.proofs.Wakes.{IsAround, clash, covers_on, full_levels}
 
 -- Wires
 
--- a record at hand was put as often as taken
-hand_even : (wire : WireState) → IsSome (at_hand wire) → (wire.puts == wire.tooks) ≡ true
-hand_even wire some = go (wire.puts == wire.tooks) some
-  where
-    go : (b : Bool) → is_some (cond b wire.offer None) ≡ true → b ≡ true
-    go true p = refl
-    go false p = cc
-
--- where a record was taken nobody sees it any more
-taken_reads : (wire : WireState) → IsSome (at_hand wire) → Reads (Some wire) (Some (taken wire))
-taken_reads wire some = (λ p. no_hand p, λ p. no_over p)
-  where
-    odd : (wire.puts == wire.tooks + 1) ≡ false
-    odd = ne_eqb wire.puts (wire.tooks + 1) (λ e. let same = eqb-true wire.puts wire.tooks (hand_even wire some) in absurd (omega (arith, e, same)))
-
-    no_hand : is_some (cond (wire.puts == wire.tooks + 1) wire.offer None) ≡ true → Telling.shows (Some wire) ≡ true
-    no_hand p = let z : false ≡ true = sym (ap (λ b. is_some (cond b wire.offer None)) odd) ∙ p in cc
-
-    no_over : (wire.out_closed && wire.puts == wire.tooks + 1) ≡ true → Telling.is_over (Some wire) ≡ true
-    no_over p = let z : false ≡ true = sym (ap (λ b. wire.out_closed && b) odd ∙ and-false wire.out_closed) ∙ p in cc
-
--- nor where there is no offer
+-- nobody sees a record on a rendezvous where there is no offer
 hidden : {A : Type 0} (b : Bool) → is_some (cond {A = Option ℕ} b None None) ≡ true → A
 hidden true p = cc
 hidden false p = cc
 
 -- as where it was withdrawn
-cleared_reads : (wire : WireState) → Reads (Some wire) (Some (cleared wire))
-cleared_reads wire = (λ p. hidden (wire.puts == wire.tooks) p, λ p. p)
+cleared_reads : (wire : WireState) → wire.queue ≡ None → Reads (Some wire) (Some (cleared wire))
+cleared_reads wire plain = (λ p. hidden (wire.puts == wire.tooks) (ap (λ q. is_some (hand_of (cleared wire) q)) (sym plain) ∙ p), λ p. p)
 
 -- or put by who may write more
-settled_reads : (wire : WireState) → wire.out_closed ≡ false → Reads (Some wire) (Some (settled wire))
-settled_reads wire writes = (λ p. hidden (wire.puts + 1 == wire.tooks) p, λ p. no_over p)
+settled_reads : (wire : WireState) → wire.queue ≡ None → wire.out_closed ≡ false → Reads (Some wire) (Some (settled wire))
+settled_reads wire plain writes = (λ p. hidden (wire.puts + 1 == wire.tooks) (ap (λ q. is_some (hand_of (settled wire) (lined_up q wire.offer))) (sym plain) ∙ p), λ p. no_over p)
   where
     no_over : (wire.out_closed && wire.puts + 1 == wire.tooks) ≡ true → Telling.is_over (Some wire) ≡ true
     no_over p = let z : false ≡ true = sym (ap (λ b. b && wire.puts + 1 == wire.tooks) writes) ∙ p in cc
+
+-- a wire is no queue where its link is none
+no_waiting : (q : Option (List ℕ)) (b : Bool) → is_some q ≡ b → b ≡ false → q ≡ None
+no_waiting None b same plain = refl
+no_waiting (Some waiting) b same plain = cc
 
 -- Seats
 
@@ -104,18 +86,27 @@ module _ (net : Net) (texts : ℕ → List ℕ) (st : State) (left : Left) (d : 
   still_open : (o j : ℕ) (link : Link) (wire : WireState) → Telling.out_door d s o ≡ Some j → slice_get net.links j ≡ Some link → slice_get d.wires j ≡ Some wire → wire.out_closed ≡ false
   still_open o j link wire door l at = (kept.wires j link wire l at).out_closed ∙ ap (λ z. has_ended (past st z)) (leads_from net st d kept.laid s o j link door l) ∙ going
 
+  -- who reads what it put into a queue was woken, and where it put at a rendezvous nobody sees more
+  settled_for : (new : Members) (u : ℕ) → is_member new u ≡ false → (o j : ℕ) (link : Link) (wire : WireState) → IsWaitingIn net.links new (Telling.out_door d s o) →
+      Telling.out_door d s o ≡ Some j → slice_get net.links j ≡ Some link → link.to ≡ u → slice_get d.wires j ≡ Some wire → Reads (Some wire) (Some (settled wire))
+  settled_for new u off o j link wire woken door l to at = by_link link.queue refl
+    where
+      by_link : (b : Bool) → link.queue ≡ b → Reads (Some wire) (Some (settled wire))
+      by_link true queue = clash new u (ap (is_member new) (sym to) ∙ woken link (ap (link_through net.links) door ∙ l) queue) off
+      by_link false queue = settled_reads wire (no_waiting wire.queue link.queue (queues_as net texts st left link wire (kept.wires j link wire l at)) queue) (still_open o j link wire door l at)
+
 module _ (net : Net) (texts : ℕ → List ℕ) (st : State) (left : Left) (d : DeskState) (kept : DeskStands net texts st left d) (pool : PoolState) (s : ℕ) (live : Telling.ended_at d s ≡ false) (new : Members) where
   module _ (u : ℕ) (apart : u ≢ s) (off : is_member new u ≡ false) where
     -- a strand that wasn't woken sees no more on the wires
     still_made : (seen : Seen) → CanTurn d pool s seen → AreEndsIn d net.links s seen new → IsStill net.links u d.wires (desk_after_turn d s seen).wires
     still_made (Took i) can woken = still_changed net.links u d.wires taken (Telling.in_door d s i)
-        (λ j link wire door l to at. taken_reads wire (can.0 wire (ap (Telling.through d.wires) door ∙ at)))
+        (λ j link wire door l to at. absurd (apart (sym to ∙ leads_to net st d kept.laid s i j link door l)))
         (λ j link wire door l from at. clash new u (ap (is_member new) (sym from) ∙ woken link (ap (link_through net.links) door ∙ l)) off)
     still_made (Put o) can woken = still_changed net.links u d.wires settled (Telling.out_door d s o)
-        (λ j link wire door l to at. settled_reads wire (still_open net texts st left d kept s live o j link wire door l at))
+        (λ j link wire door l to at. settled_for net texts st left d kept s live new u off o j link wire woken door l to at)
         (λ j link wire door l from at. absurd (apart (sym from ∙ leads_from net st d kept.laid s o j link door l)))
     still_made (Refused o) can woken = still_changed net.links u d.wires cleared (Telling.out_door d s o)
-        (λ j link wire door l to at. cleared_reads wire)
+        (λ j link wire door l to at. cleared_reads wire (can.0 wire (ap (Telling.through d.wires) door ∙ at)))
         (λ j link wire door l from at. (λ p. p, λ p. p))
     still_made (Ended c) can woken = still_closed net.links u d.wires out_shut in_shut (Telling.outputs_of (slice_get d.doors s)) (Telling.inputs_of (slice_get d.doors s))
         (λ x wire p. p) (λ x wire p. p)
@@ -195,7 +186,7 @@ module _ (net : Net) (texts : ℕ → List ℕ) (st : State) (left : Left) (d : 
 -- who was woken stays in a larger set
 more_ends : (d : DeskState) (links : List Link) (s : ℕ) (seen : Seen) (set more : Members) → ((t : ℕ) → is_member set t ≡ true → is_member more t ≡ true) → AreEndsIn d links s seen set → AreEndsIn d links s seen more
 more_ends d links s (Took i) set more larger woken = λ link l. larger link.from (woken link l)
-more_ends d links s (Put o) set more larger woken = woken
+more_ends d links s (Put o) set more larger woken = λ link l queue. larger link.to (woken link l queue)
 more_ends d links s (Ended c) set more larger woken = (λ place door at link l. larger link.to (woken.0 place door at link l), λ place door at link l. larger link.from (woken.1 place door at link l))
 more_ends d links s (Up l c) set more larger woken = woken
 more_ends d links s (Saw i) set more larger woken = woken

@@ -1,5 +1,5 @@
 -- A sound core stays sound through a turn and a coming home.
-use Rattle.std.proofs.Common.{◌≡◌, ◌≢◌, inl, inr, ℕ, zero, suc, ◌<◌, Bool, true, false, cond, ◌||◌, ◌==◌, List, [], ◌∷◌, ◌++◌, length, refl, sym, ◌∙◌, ap, subst, arith, Option, Some, None, slice_get, slice_set, length-set, is_some}
+use Rattle.std.proofs.Common.{◌≡◌, ◌≢◌, inl, inr, ℕ, zero, suc, ◌≤◌, ◌<◌, Bool, true, false, cond, ◌||◌, ◌==◌, List, [], ◌∷◌, ◌++◌, length, refl, sym, ◌∙◌, ap, subst, arith, Option, Some, None, slice_get, slice_set, length-set, is_some}
 use Rattle.std.proofs.lemmas.Bool.{ne_eqb}
 use Rattle.std.proofs.lemmas.Option.{slice_get_within, slice_get_read}
 use Rattle.std.specs.Prelude.{take, slice_index_or}
@@ -27,7 +27,7 @@ use Rattle.run_desk.specs.Telling.{sight_through}
 use Rattle.run_desk.specs.Standing.{left_out, left_in}
 use Rattle.run_desk.specs.Turns.{desk_after_turn, pool_after_turn, CanTurn, CanCome, bare, hand_on}
 use Rattle.connectors.specs.WireState.{IsHeldIn}
-use Rattle.run_desk.specs.Holding.{RunStands}
+use Rattle.run_desk.specs.Holding.{RunStands, waiting_of}
 use Rattle.run_desk.specs.Telling as Telling
 use Rattle.run_desk.proofs.Runs.{run_can, run_made, run_can_come, run_home, run_gone}
 use Rattle.run_desk.proofs.Acts.{goes}
@@ -36,6 +36,7 @@ use Rattle.run_desk.proofs.Limits.{sights_held}
 use Rattle.run_desk.proofs.Offers.{sight_bytes}
 use Rattle.run_desk.proofs.Shown.{shows_it}
 use Rattle.run_desk.proofs.Sees.{seen_is}
+use Rattle.run_desk.proofs.Waits.{waiting_made, waiting_home}
 use Rattle.confluence_laws.proofs.Basics.{at_same, at_other}
 use Rattle.confluence_laws.proofs.Reached.{play_reached, saw_it}
 use Rattle.confluence_laws.proofs.LeftOut.{licensed_too}
@@ -68,6 +69,9 @@ module _ {S : Type 0} (stands : S → Strand → List Event → Type 0) (net : N
 
   pub short : (t : Who) → length (past st t) < 18446744073709551615
   short t = let a = play_length net nothing_yet journal t in let b = sound.within in let c = sound.bounded in omega (arith, a, b, c)
+
+  few : waiting_of d.wires ≤ 50000000
+  few = let a = sound.waiting in let b = sound.within in let c = sound.bounded in omega (arith, a, b, c)
 
   -- Readiness
 
@@ -279,7 +283,7 @@ module _ {S : Type 0} (stands : S → Strand → List Event → Type 0) (net : N
     }
 
     pub can_turn : (seen : Seen) → told e ≡ seen → CanTurn d pool s seen
-    can_turn seen at = subst (CanTurn d pool s) at (run_can net st left d pool sound.formed own sound.run short s k e may)
+    can_turn seen at = subst (CanTurn d pool s) at (run_can net st left d pool sound.formed own sound.run few short s k e may)
 
     pub can_make : (seen : Seen) → told e ≡ seen → CanMake net d pool s seen
     can_make seen at = record { used = in_use; can = can_turn seen at; live = is_live; strand = in_range }
@@ -356,7 +360,13 @@ module _ {S : Type 0} (stands : S → Strand → List Event → Type 0) (net : N
             (subst (λ y. RunStands net (with_event st s e) (left_out left s) y pool') (sym desk_is ∙ refl)
             (subst (λ y. RunStands net (with_event st s e) (left_out left s) (desk_after_turn d s seen) y) (sym pool_is)
             (subst (λ y. RunStands net (with_event st s e) (left_out left s) (desk_after_turn d s y) (pool_after_turn d pool s y)) seen_at
-            (run_made net st left d pool sound.formed own sound.run short s k e may)))));
+            (run_made net st left d pool sound.formed own sound.run few short s k e may)))));
+        waiting =
+            let more = waiting_made d s seen in
+            let was = sound.waiting in
+            let longer = length_more journal entry in
+            let same : waiting_of d'.wires ≡ waiting_of (desk_after_turn d s seen).wires = ap (λ (z : DeskState). waiting_of z.wires) desk_is in
+            omega (arith, more, was, longer, same);
         strands = actors_turned;
       }
 
@@ -416,12 +426,19 @@ module _ {S : Type 0} (stands : S → Strand → List Event → Type 0) (net : N
     ended_is = ended_here s place
 
     pub can_home : Telling.ended_at d s ≡ false → CanCome d pool s want
-    can_home not_ended = run_can_come net st left d pool sound.formed own sound.run s strand.0 want away strand.1 (sym ended_is ∙ not_ended) (asks (sym ended_is ∙ not_ended)) seen
+    can_home not_ended = run_can_come net st left d pool sound.formed own sound.run few s strand.0 want away strand.1 (sym ended_is ∙ not_ended) (asks (sym ended_is ∙ not_ended)) seen
 
-    pub came : (d' : DeskState) (pool' : PoolState) → HasReturned d pool s want d' pool' → RunStands net st (left_in left s) d' pool'
+    came : (d' : DeskState) (pool' : PoolState) → HasReturned d pool s want d' pool' → RunStands net st (left_in left s) d' pool'
     came d' pool' returned = elim returned [
       | inl gone ↦ subst (λ x. RunStands net st (left_in left s) x pool') (sym gone.1) (subst (RunStands net st (left_in left s) d) (sym gone.2) (run_gone net st left d pool sound.formed own sound.run s (sym ended_is ∙ gone.0)))
-      | inr come ↦ run_home net st left d pool sound.formed own sound.run s strand.0 want away strand.1 (sym ended_is ∙ come.0) (asks (sym ended_is ∙ come.0)) seen d' pool' come.1
+      | inr come ↦ run_home net st left d pool sound.formed own sound.run few s strand.0 want away strand.1 (sym ended_is ∙ come.0) (asks (sym ended_is ∙ come.0)) seen d' pool' come.1
+    ]
+
+    -- no more wait then
+    came_waiting : (d' : DeskState) (pool' : PoolState) → HasReturned d pool s want d' pool' → waiting_of d'.wires ≤ length journal
+    came_waiting d' pool' returned = elim returned [
+      | inl gone ↦ subst (λ (z : DeskState). waiting_of z.wires ≤ length journal) (sym gone.1) sound.waiting
+      | inr come ↦ subst (λ n. n ≤ length journal) (sym (waiting_home d d' pool pool' s want come.1)) sound.waiting
     ]
 
     pub came_early : Telling.ended_at d s ≡ false → StaysEarly d pool s want
@@ -430,7 +447,7 @@ module _ {S : Type 0} (stands : S → Strand → List Event → Type 0) (net : N
     left_now : left_by journal (without p out) ≡ left_in left s
     left_now = left_home net journal s p its out sound.apart among
 
-    module _ (d' : DeskState) (pool' : PoolState) (a : Actor S) (there : slice_get actors s ≡ Some a) (run : RunStands net st (left_in left s) d' pool')
+    module _ (d' : DeskState) (pool' : PoolState) (a : Actor S) (there : slice_get actors s ≡ Some a) (returned : HasReturned d pool s want d' pool')
         (asked : Asked) (bared : Telling.ended_at d s ≡ false → asked ≡ bare want) where
       abbrev new : Actor S
       new = come_back stage asked a
@@ -497,6 +514,7 @@ module _ {S : Type 0} (stands : S → Strand → List Event → Type 0) (net : N
         bounded = sound.bounded;
         last = last_home net journal s p its out sound.last;
         apart = apart_home net journal s p its out sound.apart;
-        run = subst (λ l. RunStands net st l d' pool') (sym left_now) run;
+        run = subst (λ l. RunStands net st l d' pool') (sym left_now) (came d' pool' returned);
+        waiting = came_waiting d' pool' returned;
         strands = actors_home;
       }

@@ -1,8 +1,10 @@
 -- A core before the first step is sound.
-use Rattle.std.proofs.Common.{◌≡◌, ◌≢◌, inl, inr, ℕ, zero, suc, ◌≤◌, ◌<◌, Bool, true, false, cond, ◌&&◌, not, nat_lt, ◌==◌, List, [], ◌∷◌, length, refl, sym, ◌∙◌, ap, subst, arith, Option, Some, None, slice_get, slice_set, length-set, is_some, ℤ}
+use Rattle.std.proofs.Common.{◌≡◌, ◌≢◌, inl, inr, ℕ, zero, suc, ◌≤◌, ◌<◌, Bool, true, false, cond, ◌&&◌, not, nat_lt, ◌==◌, List, [], ◌∷◌, length, map, refl, sym, ◌∙◌, ap, subst, arith, Option, Some, None, slice_get, slice_set, length-set, is_some, ℤ}
 use Rattle.std.proofs.lemmas.Bool.Decides.{nat_tests}
 use Rattle.std.proofs.lemmas.Bool.{ne_eqb}
 use Rattle.std.proofs.lemmas.Option.{slice_get_within}
+use Rattle.std.proofs.lemmas.List.Sums.{sum_by-cons}
+use Rattle.std.specs.List.{sum_by}
 use Rattle.std.specs.Option.{option_map}
 use Rattle.std.specs.Prelude.{Result, Ok, Err, IfOk, OnErr}
 use Rattle.std.specs.Result.{is_err}
@@ -15,17 +17,18 @@ use Rattle.pipe_model.specs.Event.{Event, Want}
 use Rattle.pipe_model.specs.Next.{next, want_in, first_phase, IsOwn}
 use Rattle.pipe_model.specs.Table.{form}
 use Rattle.pipe_model.specs.State.{Who, past, nothing_yet, strand_at}
-use Rattle.pipe_model.specs.Licence.{none_left, want_after, want_at, answer, sight_of, licence}
+use Rattle.pipe_model.specs.Licence.{Left, none_left, want_after, want_at, answer, sight_of, licence}
 use Rattle.pipe_model.specs.WellFormed.{IsWellFormed}
 use Rattle.pipe_model.proofs.Numbers.{equal_or_not, test_same}
-use Rattle.pipe_model.proofs.Lists.{at_some, get_set_same, get_set_other}
+use Rattle.pipe_model.proofs.Lists.{at_some, beside, get_set_same, get_set_other}
 use Rattle.record_pool.specs.PoolState.{PoolState}
 use Rattle.record_pool.specs.Places.{bytes_at}
+use Rattle.connectors.specs.WireState.{WireState, waiting_in}
 use Rattle.stage_steps.specs.Coroutine.{told, meaning, last_seen, IsSeenBefore}
 use Rattle.run_desk.specs.Desk.{DeskState}
 use Rattle.run_desk.specs.Standing.{left_in}
 use Rattle.run_desk.specs.Turns.{CanCome, HasCome, bare}
-use Rattle.run_desk.specs.Holding.{RunStands, out_from}
+use Rattle.run_desk.specs.Holding.{RunStands, waiting_of, out_from}
 use Rattle.run_desk.specs.Telling as Telling
 use Rattle.run_desk.proofs.Runs.{run_can_come, run_home}
 use Rattle.run_desk.proofs.Sees.{seen_is}
@@ -125,6 +128,28 @@ module _ (net : Net) where
       let off : is_some (Telling.seen_at d t k) ≡ false = ap is_some (seen ∙ ap (option_map told) none) in
       (let no : true ≡ false = sym may ∙ off in cc)
 
+-- What waits
+
+-- where each item gives nothing, the sum is nothing
+sum_none : {A : Type 0} (h : A → ℕ) (xs : List A) → ((j : ℕ) (x : A) → slice_get xs j ≡ Some x → h x ≡ 0) → sum_by h xs ≡ 0
+sum_none h [] none = refl
+sum_none h (x ∷ xs) none = omega (arith, sum_by-cons h x xs, none 0 x refl, sum_none h xs (λ j y at. none (suc j) y at))
+
+-- before the first step no record waits in a queue
+none_waits : (net : Net) (left : Left) (d : DeskState) (pool : PoolState) → RunStands net nothing_yet left d pool → waiting_of d.wires ≡ 0
+none_waits net left d pool run = sum_none (λ (wire : WireState). length (waiting_in wire.queue)) d.wires each
+  where
+    by_queue : (q : Option (List ℕ)) (b : Bool) → option_map (map (bytes_at pool)) q ≡ cond b (Some []) None → length (waiting_in q) ≡ 0
+    by_queue None b is = refl
+    by_queue (Some []) b is = refl
+    by_queue (Some (grip ∷ more)) true is = cc
+    by_queue (Some (grip ∷ more)) false is = cc
+
+    each : (j : ℕ) (wire : WireState) → slice_get d.wires j ≡ Some wire → length (waiting_in wire.queue) ≡ 0
+    each j wire at =
+        let l = beside d.wires net.links j wire run.kept.laid.wire_count at in
+        by_queue wire.queue l.0.queue (run.kept.wires j l.0 wire l.1 at).queue
+
 module _ {S : Type 0} (stands : S → Strand → List Event → Type 0) (net : Net) (formed : IsWellFormed net) where
   abbrev n : ℕ
   n = length net.strands
@@ -154,6 +179,9 @@ module _ {S : Type 0} (stands : S → Strand → List Event → Type 0) (net : N
       early = early_on net nothing_yet formed (own_first net) (bytes_at pool) (out_from s n) d called.run.kept;
     }
 
+    called_few : waiting_of d.wires ≤ 50000000
+    called_few = let none = none_waits net (out_from s n) d pool called.run in omega (arith, none)
+
     pub called_live : false ≡ Telling.ended_at d s
     called_live =
         let a = at_some d.seats s (subst (λ n. s < n) (sym called.run.kept.laid.seat_count) within) in
@@ -169,11 +197,11 @@ module _ {S : Type 0} (stands : S → Strand → List Event → Type 0) (net : N
       seen = first_is_plain its_strand.0 want means
 
       pub can_call : CanCome d pool s want
-      can_call = run_can_come net nothing_yet (out_from s n) d pool formed (own_first net) called.run s its_strand.0 want (still_out s n within) its_strand.1 refl means seen
+      can_call = run_can_come net nothing_yet (out_from s n) d pool formed (own_first net) called.run called_few s its_strand.0 want (still_out s n within) its_strand.1 refl means seen
 
       pub called_run : (d' : DeskState) (pool' : PoolState) → HasCome d pool s want d' pool' → RunStands net nothing_yet (out_from (suc s) n) d' pool'
       called_run d' pool' come = subst (λ l. RunStands net nothing_yet l d' pool') (next_in s n)
-          (run_home net nothing_yet (out_from s n) d pool formed (own_first net) called.run s its_strand.0 want (still_out s n within) its_strand.1 refl means seen d' pool' come)
+          (run_home net nothing_yet (out_from s n) d pool formed (own_first net) called.run called_few s its_strand.0 want (still_out s n within) its_strand.1 refl means seen d' pool' come)
 
       pub called_early : StaysEarly d pool s want
       called_early d' pool' come = early_on net nothing_yet formed (own_first net) (bytes_at pool') (out_from (suc s) n) d' (called_run d' pool' come).kept
@@ -272,6 +300,7 @@ module _ {S : Type 0} (stands : S → Strand → List Event → Type 0) (net : N
     last = tt;
     apart = tt;
     run = subst (λ l. RunStands net nothing_yet l d pool) (none_out n) called.run;
+    waiting = let none = none_waits net (out_from n n) d pool called.run in omega (arith, none);
     strands = record {
       count = called.count;
       each = λ t p x is at. subst (λ l. IsActor stands [] (want_at net nothing_yet l t) p x) (none_out n) (called.each t p x is at);

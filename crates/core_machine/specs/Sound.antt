@@ -11,7 +11,7 @@ use Rattle.pipe_model.specs.Play.{play, IsLegal}
 use Rattle.pipe_model.specs.WellFormed.{IsWellFormed}
 use Rattle.record_pool.specs.PoolState.{PoolState}
 use Rattle.run_desk.specs.Desk.{DeskState}
-use Rattle.run_desk.specs.Holding.{RunStands}
+use Rattle.run_desk.specs.Holding.{RunStands, waiting_of}
 use Rattle.core_machine.specs.declared.actor.Actor.{Actor}
 use Rattle.core_machine.specs.Machine.{is_at, left_by}
 use Rattle.core_machine.specs.Answered.{Shows}
@@ -55,4 +55,6 @@ pub record IsSound {S : Type 0} (stands : S → Strand → List Event → Type 0
   pub last : AreLast net journal out
   pub apart : AreApart journal out
   pub run : RunStands net (play net journal) (left_by journal out) d pool
+  -- no more records wait in queues than there are entries
+  pub waiting : waiting_of d.wires ≤ length journal
   pub strands : AreActors stands net journal out actors

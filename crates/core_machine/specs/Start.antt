@@ -1,7 +1,6 @@
 -- What a core is started with, and how far its strands have come while it starts.
 use Rattle.std.specs.Prelude.{◌≡◌, ℕ, false, List, [], ◌∷◌, length, slice_get, Some}
 use Rattle.pipe_model.specs.declared.net.Net.{Net}
-use Rattle.pipe_model.specs.declared.net.Link.{Link}
 use Rattle.pipe_model.specs.declared.net.Strand.{Strand}
 use Rattle.pipe_model.specs.Event.{Event}
 use Rattle.pipe_model.specs.State.{Who, nothing_yet, strand_at}
@@ -12,10 +11,6 @@ use Rattle.run_desk.specs.Desk.{DeskState}
 use Rattle.run_desk.specs.Holding.{RunStands, out_from}
 use Rattle.core_machine.specs.declared.actor.Actor.{Actor}
 use Rattle.core_machine.specs.Sound.{IsActor}
-
--- no link is a queue
-abbrev pub HasNoQueue : Net → Type 0
-HasNoQueue net = (j : ℕ) (link : Link) → slice_get net.links j ≡ Some link → link.queue ≡ false
 
 -- each strand has its coroutine, which stands for the empty history
 pub record AreFresh {S : Type 0} (stands : S → Strand → List Event → Type 0) (strands : List Strand) (stages : List S) : Type 0 where

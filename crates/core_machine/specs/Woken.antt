@@ -2,7 +2,7 @@
 use Rattle.std.specs.Prelude.{◌≡◌, ◌<◌, ◌≤◌, ◌⊎◌, ℕ, ℤ, pos, negsuc, Bool, true, false, ◌&&◌, ◌||◌, not, List, Option, Some, None, slice_get, is_some}
 use Rattle.pipe_model.specs.declared.net.Link.{Link}
 use Rattle.pipe_model.specs.declared.step.Seen.{Seen}
-use Rattle.pipe_model.specs.declared.step.Seen.TheVariants.{Took, Ended}
+use Rattle.pipe_model.specs.declared.step.Seen.TheVariants.{Took, Put, Ended}
 use Rattle.pipe_model.specs.declared.step.Want.{Want}
 use Rattle.pipe_model.specs.declared.step.Want.TheVariants as want
 use Rattle.run_desk.specs.declared.seat.Ask.TheVariants as Ask
@@ -57,6 +57,10 @@ IsProducerIn links set door = (link : Link) → link_through links door ≡ Some
 abbrev pub IsConsumerIn : List Link → Members → Option ℕ → Type 0
 IsConsumerIn links set door = (link : Link) → link_through links door ≡ Some link → is_member set link.to ≡ true
 
+-- where the link is a queue, the one that reads there is in the set
+abbrev pub IsWaitingIn : List Link → Members → Option ℕ → Type 0
+IsWaitingIn links set door = (link : Link) → link_through links door ≡ Some link → link.queue ≡ true → is_member set link.to ≡ true
+
 -- it holds of each door
 abbrev pub OfDoors : (Option ℕ → Type 0) → List (Option ℕ) → Type 0
 OfDoors P doors = (place : ℕ) (door : Option ℕ) → slice_get doors place ≡ Some door → P door
@@ -64,6 +68,7 @@ OfDoors P doors = (place : ℕ) (door : Option ℕ) → slice_get doors place �
 -- the strands at the other ends of a strand's links are in the set, where what it was told concerns them
 abbrev pub AreEndsIn : DeskState → List Link → ℕ → Seen → Members → Type 0
 AreEndsIn d links s (Took i) set = IsProducerIn links set (Telling.in_door d s i)
+AreEndsIn d links s (Put o) set = IsWaitingIn links set (Telling.out_door d s o)
 AreEndsIn d links s (Ended code) set =
     OfDoors (IsConsumerIn links set) (Telling.outputs_of (slice_get d.doors s)) × OfDoors (IsProducerIn links set) (Telling.inputs_of (slice_get d.doors s))
 AreEndsIn d links s _ set = Unit {0}

@@ -46,13 +46,11 @@ impl Floor {
     ghost use Rattle.core_machine.specs.Actors.{bytes_told};
     ghost use Rattle.core_machine.specs.Floor.{IsInUse, CanMake, StaysEarly};
     ghost use Rattle.core_machine.specs.Members.{is_member};
-    ghost use Rattle.core_machine.specs.Start.{HasNoQueue};
     ghost use Rattle.core_machine.specs.Woken.{HasReturned, LeastEventAwake, commits};
 
     /// The floor of a net before the first step, where every strand is out and no record is held.
     pub(crate) fn new(alloc: Global, net: Net) -> Result<Floor, NoMemory>
         requires formed { IsWellFormed net }
-        requires rendezvous { HasNoQueue net }
         ensures net { IfOk result (λ floor. floor.net ≡ net) }
         ensures run { IfOk result (λ floor. RunStands net nothing_yet (out_from 0 (length net.strands)) floor.desk floor.pool) }
     {

@@ -10,6 +10,8 @@ mod gate_tests;
 mod job;
 #[cfg(test)]
 mod passing;
+#[cfg(test)]
+mod queueing;
 mod ready;
 #[cfg(test)]
 mod ready_tests;

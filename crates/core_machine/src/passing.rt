@@ -14,7 +14,7 @@ use stage_steps::{Copies, Each, Listed, Order, Stage, TextLines};
 use std::alloc::Global;
 use std::cell::RefCell;
 
-// The stage of a CONSOLE, first in its pipeline or not.
+// The stage of a CONSOLE, first in its pipeline or not, or one that passes records on as CONSOLE does.
 #[derive(Drop)]
 pub(crate) enum Console {
     Reads(Listed<TextLines>),
@@ -132,16 +132,16 @@ impl<S: Stage> Stage for Noting<'_, S> {
     }
 }
 
-// The stage of a CONSOLE that is first, with its bytes, before its first event. Its output is connected.
-fn reading(alloc: Global, bytes: &[u8]) -> Result<Listed<TextLines>, NoMemory>
+/// The stage of a CONSOLE that is first, with its bytes, before its first event. Its output is connected.
+pub(crate) fn reading(alloc: Global, bytes: &[u8]) -> Result<Listed<TextLines>, NoMemory>
     ensures { IfOk result (IsStageOf LinesStand lines_look (ConsoleIn bytes.now) (true ∷ [])) }
 {
     let lines = TextLines::new(Rec::from_slice(alloc, bytes)?);
     Listed::new(alloc, lines, Order::WritesFirst, &[true], false)
 }
 
-// The stage of a CONSOLE that isn't first, before its first event, with its output connected or not.
-fn writing(alloc: Global, is_linked: bool) -> Result<Listed<Each<Copies>>, NoMemory>
+/// The stage of a CONSOLE that isn't first, before its first event, with its output connected or not.
+pub(crate) fn writing(alloc: Global, is_linked: bool) -> Result<Listed<Each<Copies>>, NoMemory>
     ensures { IfOk result (IsStageOf (EachStand CopiesStand) (each_look copies_look) ConsoleOut (is_linked ∷ [])) }
 {
     let copies = Copies::lists(true);

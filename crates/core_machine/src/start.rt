@@ -20,13 +20,12 @@ impl<S: Stage> Core<S> {
     ghost use Rattle.std.specs.Prelude.{◌≡◌, ◌≤◌, IfOk};
     ghost use Rattle.pipe_model.specs.WellFormed.{IsWellFormed};
     ghost use Rattle.core_machine.specs.Machine.{started};
-    ghost use Rattle.core_machine.specs.Start.{AreFresh, HasNoQueue};
+    ghost use Rattle.core_machine.specs.Start.{AreFresh};
 
     /// A core before the first step: each strand asks for what its fresh coroutine asks for first. The journal is
     /// reserved to the budget, which is at most fifty million entries.
     pub fn start(alloc: Global, net: Net, stages: Vec<S>, budget: u64) -> Result<Core<S>, NoMemory>
         requires formed { IsWellFormed net }
-        requires rendezvous { HasNoQueue net }
         requires fresh { AreFresh S.stands net.strands stages.items }
         requires bounded { budget ≤ 50000000 }
         ensures { IfOk result (λ core. core ≡ started net budget) }

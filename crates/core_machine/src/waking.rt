@@ -2,14 +2,15 @@
 ghost use Rattle.std.specs.Prelude.{◌≡◌, ◌<◌, length};
 ghost use Rattle.run_desk.specs.Standing.{link_through};
 ghost use Rattle.run_desk.specs.Telling.{LeadsBelow, LeadBelow};
-ghost use Rattle.core_machine.specs.Woken.{AreInside, IsLarger, IsProducerIn, IsConsumerIn, OfDoors, AreEndsIn};
+ghost use Rattle.core_machine.specs.Woken.{AreInside, IsLarger, IsProducerIn, IsConsumerIn, IsWaitingIn, OfDoors, AreEndsIn};
 
 use crate::ready::Ready;
 use pipe_model::{Link, Seen};
 use run_desk::Desk;
 
 /// Wakes the strands at the other ends of the links that what was told concerns: of a record that was taken its
-/// producer, and at an end all. Where one was put its consumer took it before, and sees nothing new.
+/// producer, of one that was put into a queue its consumer, and at an end all. Where one was put at a rendezvous its
+/// consumer took it before, and sees nothing new.
 #[inline(always)]
 pub(crate) fn wake_ends(ready: &mut Ready, desk: &Desk, links: &[Link], strand: u32, seen: Seen)
     requires strand { strand < length desk.now.seats }
@@ -20,6 +21,7 @@ pub(crate) fn wake_ends(ready: &mut Ready, desk: &Desk, links: &[Link], strand: 
 {
     match seen {
         Seen::Took(i) => wake_producer(ready, links, desk.in_door(strand, i)),
+        Seen::Put(o) => wake_waiting(ready, links, desk.out_door(strand, o)),
         Seen::Ended(_) => {
             wake_consumers(ready, links, desk.outputs(strand));
             wake_producers(ready, links, desk.inputs(strand));
@@ -36,6 +38,20 @@ fn wake_producer(ready: &mut Ready, links: &[Link], door: Option<u32>)
 {
     if let Some(link) = link_at(links, door) {
         ready.insert(link.from);
+    }
+}
+
+// Wakes the strand that reads a queue behind a door.
+fn wake_waiting(ready: &mut Ready, links: &[Link], door: Option<u32>)
+    requires there { LeadsBelow (length links.now) door }
+    requires inside { AreInside links.now ready.old.size }
+    ensures larger { IsLarger ready.old ready.new }
+    ensures end { IsWaitingIn links.now ready.new door }
+{
+    if let Some(link) = link_at(links, door) {
+        if link.queue {
+            ready.insert(link.to);
+        }
     }
 }
 

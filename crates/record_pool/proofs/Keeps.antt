@@ -172,8 +172,8 @@ blocks_changed places p now held =
     let sums : blocks_of_all (with_place places p now) + blocks_at (place_at places p) ≡ blocks_of_all places + blocks_at now = sum_by-with_place blocks_at refl places p now in
     subst (λ (xs : List (Option Held)). blocks_of_all xs + blocks_at (place_at places p) ≡ blocks_of_all places + blocks_at now) (with_place-set places p now (place_at-within places p held)) sums
 
-held_here : (places : List (Option Held)) (value : PoolState) (p q : ℕ) → pool_of places ≡ value → p ≡ q → IsHeld value q → IsSome (place_at places p)
-held_here places value p q same_places same_place held =
+held_here : (places : List (Option Held)) (nodes : ℕ) (value : PoolState) (p q : ℕ) → pool_of places nodes ≡ value → p ≡ q → IsHeld value q → IsSome (place_at places p)
+held_here places nodes value p q same_places same_place held =
     subst (λ (pool : PoolState). IsHeld pool p) (sym same_places) (subst (IsHeld value) (sym same_place) held)
 
 pub one_more-blocks : (place : Option Held) → blocks_at (one_more place) ≡ blocks_at place
@@ -185,29 +185,29 @@ one_more-held None held = held
 one_more-held (Some now) held = refl
 
 -- a held place was read, one holder more counted, and the place written
-pub keeps_shared : (places : List (Option Held)) (value : PoolState) (free : List ℕ) (room blocks p q : ℕ) (was now : Option Held) → IsKept places free room × (blocks ≡ blocks_of_all places) → pool_of places ≡ value → p ≡ q → IsHeld value q
-    → was ≡ get_or places p was → now ≡ one_more was → IsKept (set places p now) free room × (blocks ≡ blocks_of_all (set places p now))
-keeps_shared places value free room blocks p q was now kept same_places same_place held read more =
-    let here : IsSome (place_at places p) = held_here places value p q same_places same_place held in
+pub keeps_shared : (places : List (Option Held)) (nodes : ℕ) (value : PoolState) (free : List ℕ) (room blocks p q : ℕ) (was now : Option Held) → IsKept places free room × (blocks ≡ blocks_of_all places + nodes) → pool_of places nodes ≡ value → p ≡ q → IsHeld value q
+    → was ≡ get_or places p was → now ≡ one_more was → IsKept (set places p now) free room × (blocks ≡ blocks_of_all (set places p now) + nodes)
+keeps_shared places nodes value free room blocks p q was now kept same_places same_place held read more =
+    let here : IsSome (place_at places p) = held_here places nodes value p q same_places same_place held in
     let is : was ≡ place_at places p = read_held places p was here read in
     let stays : IsSome now = subst IsSome (sym more) (one_more-held was (subst IsSome (sym is) here)) in
     (kept_held places free room p now kept.0 here stays, omega (arith, kept.1, blocks_changed places p now here, ap blocks_at is, ap blocks_at more, one_more-blocks was))
 
 -- a held place was read, one holder less counted, and the place written: no blocks were freed
-pub keeps_given : (places : List (Option Held)) (value : PoolState) (free : List ℕ) (room blocks p q freed : ℕ) (was now : Option Held) → IsKept places free room × (blocks ≡ blocks_of_all places) → pool_of places ≡ value → p ≡ q → IsHeld value q
-    → was ≡ get_or places p was → freed + blocks_at now ≡ blocks_at was → freed ≤ 0 → IsKept (set places p now) free room × (blocks ≡ blocks_of_all (set places p now))
-keeps_given places value free room blocks p q freed was now kept same_places same_place held read counts none_freed =
-    let here : IsSome (place_at places p) = held_here places value p q same_places same_place held in
+pub keeps_given : (places : List (Option Held)) (nodes : ℕ) (value : PoolState) (free : List ℕ) (room blocks p q freed : ℕ) (was now : Option Held) → IsKept places free room × (blocks ≡ blocks_of_all places + nodes) → pool_of places nodes ≡ value → p ≡ q → IsHeld value q
+    → was ≡ get_or places p was → freed + blocks_at now ≡ blocks_at was → freed ≤ 0 → IsKept (set places p now) free room × (blocks ≡ blocks_of_all (set places p now) + nodes)
+keeps_given places nodes value free room blocks p q freed was now kept same_places same_place held read counts none_freed =
+    let here : IsSome (place_at places p) = held_here places nodes value p q same_places same_place held in
     let is : was ≡ place_at places p = read_held places p was here read in
     let stays : IsSome now = kept_is_held was now freed (subst IsSome (sym is) here) counts none_freed in
     (kept_held places free room p now kept.0 here stays, omega (arith, kept.1, blocks_changed places p now here, ap blocks_at is))
 
 -- the same, where blocks were freed and the place was listed
-pub keeps_freed : (places : List (Option Held)) (value : PoolState) (free next : List ℕ) (room more blocks p q freed : ℕ) (was now : Option Held) → IsKept places free room × (blocks ≡ blocks_of_all places) → pool_of places ≡ value → p ≡ q → IsHeld value q
+pub keeps_freed : (places : List (Option Held)) (nodes : ℕ) (value : PoolState) (free next : List ℕ) (room more blocks p q freed : ℕ) (was now : Option Held) → IsKept places free room × (blocks ≡ blocks_of_all places + nodes) → pool_of places nodes ≡ value → p ≡ q → IsHeld value q
     → was ≡ get_or places p was → now ≡ one_less was → freed + blocks_at now ≡ blocks_at was → 0 < freed → next ≡ free ++ p ∷ [] → more ≡ room
-    → IsKept (set places p now) next more × (blocks - freed ≡ blocks_of_all (set places p now))
-keeps_freed places value free next room more blocks p q freed was now kept same_places same_place held read less counts some_freed listed same_room =
-    let here : IsSome (place_at places p) = held_here places value p q same_places same_place held in
+    → IsKept (set places p now) next more × (blocks - freed ≡ blocks_of_all (set places p now) + nodes)
+keeps_freed places nodes value free next room more blocks p q freed was now kept same_places same_place held read less counts some_freed listed same_room =
+    let here : IsSome (place_at places p) = held_here places nodes value p q same_places same_place held in
     let is : was ≡ place_at places p = read_held places p was here read in
     let empty : now ≡ None = freed_is_empty was now freed less counts some_freed in
     let kept_so : IsKept (set places p now) next room = subst (λ (xs : List ℕ). IsKept (set places p now) xs room) (sym listed)

@@ -16,6 +16,6 @@ blocks_at (Some held) = blocks_of (length held.bytes)
 abbrev pub blocks_of_all : List (Option Held) → ℕ
 blocks_of_all places = sum_by blocks_at places
 
--- the blocks of all records of the pool
+-- the blocks of all records and nodes of the pool: a node has one
 abbrev pub blocks_in : PoolState → ℕ
-blocks_in pool = blocks_of_all pool.records
+blocks_in pool = blocks_of_all pool.records + pool.nodes

@@ -2,3 +2,4 @@ pub mod PoolState
 pub mod Places
 pub mod Blocks
 pub mod Kept
+pub mod Queues

@@ -1,8 +1,10 @@
-//! Record memory: a pool that keeps the bytes of records and counts the holders of each.
+//! Record memory: a pool that keeps the bytes of records and counts the holders of each, and queues of records.
 #![tactic(auto)]
 
 mod pool;
+mod queue;
 #[cfg(test)]
 mod tests;
 
 pub use pool::{Grip, Pool};
+pub use queue::{Node, Queue};

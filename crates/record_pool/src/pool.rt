@@ -30,7 +30,9 @@ pub struct Pool {
     places: Vec<Option<Stored>>,
     // The empty places, with room for all of them, so that `give` takes no memory.
     free: Vec<usize>,
-    blocks: u64,
+    // The blocks of the records and nodes, and how many of them are nodes.
+    pub(crate) blocks: u64,
+    pub(crate) nodes: u64,
 }
 
 // A record and the number of grips on it.
@@ -49,16 +51,16 @@ impl Model for Stored {
 }
 
 impl Model for Pool {
-    ghost use Rattle.std.specs.Prelude.{◌≡◌, vec_capacity};
+    ghost use Rattle.std.specs.Prelude.{◌≡◌, ◌+◌, vec_capacity};
     ghost use Rattle.record_pool.specs.PoolState.{PoolState};
     ghost use Rattle.record_pool.specs.Blocks.{blocks_of_all};
     ghost use Rattle.record_pool.specs.Kept.{IsKept};
 
     ghost Value = { PoolState };
 
-    ghost view = { λ pool. record { records = pool.places.items } };
+    ghost view = { λ pool. record { records = pool.places.items; nodes = pool.nodes } };
 
-    ghost invariant = { λ pool. IsKept pool.places.items pool.free.items (vec_capacity pool.free) × (pool.blocks ≡ blocks_of_all pool.places.items) };
+    ghost invariant = { λ pool. IsKept pool.places.items pool.free.items (vec_capacity pool.free) × (pool.blocks ≡ blocks_of_all pool.places.items + pool.nodes) };
 }
 
 impl Pool {
@@ -71,6 +73,7 @@ impl Pool {
             places: Vec::new(alloc),
             free: Vec::new(alloc),
             blocks: 0,
+            nodes: 0,
         }
     }
 
@@ -169,14 +172,14 @@ impl Pool {
         room.extend_from_slice(self.bytes_of(grip)).unwrap();
     }
 
-    /// The blocks of 256 bytes that the records hold, each at least one.
+    /// The blocks of 256 bytes that the records hold, each at least one, and the nodes, each one.
     pub fn in_use(&self) -> u64
         ensures { result ≡ blocks_in self.now }
     {
         self.blocks
     }
 
-    /// Ends a pool in which no record is left.
+    /// Ends a pool in which no record and no node is left.
     pub fn close(self)
         requires { blocks_in self ≡ 0 }
     {
@@ -185,6 +188,7 @@ impl Pool {
             places: _,
             free: _,
             blocks: _,
+            nodes: _,
         } = self;
     }
 }

@@ -1,4 +1,6 @@
-use crate::{Grip, Pool};
+ghost use Rattle.std.specs.Prelude.{◌≡◌, []};
+
+use crate::{Grip, Node, Pool, Queue};
 use pipe_model::{NoMemory, Rec};
 use std::alloc::Global;
 use std::test::Fail;
@@ -84,11 +86,77 @@ fn keeps_the_bytes_of_each(rt: HostRuntime) -> Result<(), Fail> {
     Ok(())
 }
 
+// Two records go through a queue. Tells the blocks in use when a place is reserved for each, when both wait, and after
+// each has left with its place, and the lengths of the two in the order in which they left.
+fn go_through(
+    pool: &mut Pool,
+    queue: &mut Queue,
+    first: &[u8],
+    second: &[u8],
+) -> Result<([u64; 4], [usize; 2]), NoMemory>
+    requires { queue.old.waiting ≡ [] }
+    ensures { queue.new.waiting ≡ [] }
+{
+    let grip = pool.put(first)?;
+    let Ok(other) = pool.put(second) else {
+        pool.give(grip);
+        return Err(NoMemory);
+    };
+    let Ok(node) = pool.reserve_node(queue) else {
+        pool.give(grip);
+        pool.give(other);
+        return Err(NoMemory);
+    };
+    let Ok(other_node) = pool.reserve_node(queue) else {
+        pool.give_node(queue, node);
+        pool.give(grip);
+        pool.give(other);
+        return Err(NoMemory);
+    };
+    let reserved = pool.in_use();
+    pool.push_back(queue, node, grip);
+    pool.push_back(queue, other_node, other);
+    let waiting = pool.in_use();
+    let Some((node, grip)) = pool.pop_front(queue) else {
+        unreachable!()
+    };
+    let oldest = pool.len_of(&grip);
+    pool.give(grip);
+    pool.give_node(queue, node);
+    let left = pool.in_use();
+    let Some((node, grip)) = pool.pop_front(queue) else {
+        unreachable!()
+    };
+    let youngest = pool.len_of(&grip);
+    pool.give(grip);
+    pool.give_node(queue, node);
+    Ok(([reserved, waiting, left, pool.in_use()], [oldest, youngest]))
+}
+
+// Records leave a queue in the order in which they were put, and a place in it counts as one block until it is given
+// back.
+#[test]
+fn a_queue_keeps_the_order(rt: HostRuntime) -> Result<(), Fail> {
+    for (len, blocks) in [(0, [4, 4, 2, 0]), (256, [4, 4, 2, 0]), (257, [5, 5, 2, 0])] {
+        let bytes = vec![in rt.alloc(); 7; len]?;
+        let mut pool = Pool::new(rt.alloc());
+        let mut queue = Queue::new(rt.alloc());
+        let told = go_through(&mut pool, &mut queue, &bytes, b"two");
+        queue.close();
+        assert_eq!(rt; pool.in_use(), 0);
+        pool.close();
+        assert_eq!(rt; told?, (blocks, [len, 3]), "at {len}");
+    }
+    Ok(())
+}
+
 fn is_send<T: Send>() {}
 
 #[test]
 fn types_are_sent_between_threads(_rt: HostRuntime) -> Result<(), Fail> {
     is_send::<Grip>();
+    is_send::<Node>();
     is_send::<Pool>();
+    is_send::<Queue>();
     Ok(())
 }

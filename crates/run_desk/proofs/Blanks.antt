@@ -1,10 +1,12 @@
 -- The desk of a net before the first step stands for the state in which nothing has happened, where every strand is out.
-use Rattle.std.proofs.Common.{◌≡◌, inl, ℕ, zero, suc, ◌≤◌, ◌*◌, Bool, true, false, cond, ◌&&◌, not, nat_lt, List, [], length, replicate, refl, sym, ◌∙◌, ap, subst, arith, Option, Some, None, slice_get}
+use Rattle.std.proofs.Common.{◌≡◌, inl, ℕ, zero, suc, ◌≤◌, ◌*◌, Bool, true, false, cond, ◌&&◌, not, nat_lt, List, [], ◌∷◌, length, map, replicate, refl, sym, ◌∙◌, ap, subst, arith, Option, Some, None, slice_get}
 use Rattle.std.specs.Prelude.{count_by}
+use Rattle.std.specs.List.{sum_by}
 use Rattle.std.specs.Option.{option_map}
 use Rattle.std.proofs.lemmas.Bool.Decides.{nat_tests}
-use Rattle.std.proofs.lemmas.Option.{slice_get_past}
-use Rattle.std.proofs.lemmas.List.{length-replicate}
+use Rattle.std.proofs.lemmas.Option.{slice_get_past, slice_get-map}
+use Rattle.std.proofs.lemmas.List.{length-map, length-replicate}
+use Rattle.std.proofs.lemmas.List.Sums.{sum_by-cons}
 use Rattle.pipe_model.specs.declared.net.Net.{Net}
 use Rattle.pipe_model.specs.declared.net.Link.{Link}
 use Rattle.pipe_model.specs.State.{Who, nothing_yet, strand_at}
@@ -13,17 +15,19 @@ use Rattle.pipe_model.specs.WellFormed.{IsWellFormed}
 use Rattle.pipe_model.proofs.Lists.{get_copy, read_copy}
 use Rattle.record_pool.specs.PoolState.{empty_pool}
 use Rattle.record_pool.specs.Places.{bytes_at}
-use Rattle.connectors.specs.WireState.{WireState, new_wire}
+use Rattle.connectors.specs.WireState.{WireState, IsPaced, new_wire}
 use Rattle.commit_levels.specs.UnitState.{level_count, place_of, new_member, Member}
 use Rattle.commit_levels.specs.Licensed.{IsStrand}
 use Rattle.commit_levels.specs.declared.member.Progress.TheVariants.{NotAsked}
 use Rattle.run_desk.specs.declared.seat.Seat.{Seat}
 use Rattle.run_desk.specs.Standing.{asked, IsSeat, IsWire, IsSight, IsLaid, DeskStands}
-use Rattle.run_desk.specs.Holding.{holds, offer_holds, IsPooled, RunStands, out_from}
+use Rattle.run_desk.specs.Holding.{holds, IsPooled, RunStands, out_from}
 use Rattle.run_desk.specs.Blank.{new_seat, doors_from, inputs_in, blank_desk}
 use Rattle.run_desk.specs.Telling.{joined, sights_of, sight_door, sight_through}
-use Rattle.run_desk.proofs.Counts.{one, count_first}
+use Rattle.run_desk.proofs.Counts.{one, wire_holds, places_in, count_first, wires_hold}
 use Rattle.run_desk.proofs.Laying.{leads_nowhere, leads_in, leads_out, knows_first}
+use Rattle.run_desk.proofs.Lists.{map_back}
+use Rattle.run_desk.proofs.Pooled.{IsRoomy}
 use Rattle.run_desk.proofs.Spots.{links_still, spot, spots_apart, few_inputs}
 
 -- Lists
@@ -43,14 +47,28 @@ new_strand = record {
 
 -- The pool
 
+-- what a new wire gives nothing to, no new wires do
+sum_new : (h : WireState → ℕ) → ((queue : Bool) → h (new_wire queue) ≡ 0) → (links : List Link) → sum_by h (map (λ (link : Link). new_wire link.queue) links) ≡ 0
+sum_new h none [] = refl
+sum_new h none (link ∷ links) = omega (arith, sum_by-cons h (new_wire link.queue) (map (λ (l : Link). new_wire l.queue) links), none link.queue, sum_new h none links)
+
+new_holds : (grip : ℕ) (queue : Bool) → wire_holds grip (new_wire queue) ≡ 0
+new_holds grip true = refl
+new_holds grip false = refl
+
+new_places : (queue : Bool) → places_in (new_wire queue) ≡ 0
+new_places true = refl
+new_places false = refl
+
 -- nothing is held
-pub blank_pooled : (m n : ℕ) → IsPooled (replicate m new_wire) (replicate n None) empty_pool
-blank_pooled m n = record {
-  counted = λ grip. omega (arith, count_copy (offer_holds grip) m new_wire refl, count_copy (holds grip) n None refl);
+pub blank_pooled : (links : List Link) (n : ℕ) → IsPooled (map (λ (link : Link). new_wire link.queue) links) (replicate n None) empty_pool
+blank_pooled links n = record {
+  counted = λ grip. omega (arith, wires_hold grip (map (λ (link : Link). new_wire link.queue) links), sum_new (wire_holds grip) (new_holds grip) links, count_copy (holds grip) n None refl);
   alive = λ grip held at. cc;
+  nodes = sym (sum_new places_in new_places links);
 }
 
-module _ (net : Net) (formed : IsWellFormed net) (rendezvous : (j : ℕ) (link : Link) → slice_get net.links j ≡ Some link → link.queue ≡ false) where
+module _ (net : Net) (formed : IsWellFormed net) where
   -- nobody is home to want anything
   none_wants : (s : Who) → want_at net nothing_yet (out_from 0 (length net.strands)) s ≡ None
   none_wants s = go (nat_lt s (length net.strands)) refl
@@ -71,7 +89,7 @@ module _ (net : Net) (formed : IsWellFormed net) (rendezvous : (j : ℕ) (link :
   blank_laid : IsLaid net nothing_yet (blank_desk net)
   blank_laid = record {
     seat_count = length-replicate (length net.strands) new_seat;
-    wire_count = length-replicate (length net.links) new_wire;
+    wire_count = length-map net.links (λ (link : Link). new_wire link.queue);
     sight_count = subst (λ n. n ≤ 64 * length net.strands) (sym (length-replicate {A = Option ℕ} (inputs_in net.strands) None)) (few_inputs net formed);
     sights_there = λ s i n at.
         let in_all = spot net.strands 0 0 s i n (its_sight s i at) in
@@ -80,15 +98,29 @@ module _ (net : Net) (formed : IsWellFormed net) (rendezvous : (j : ℕ) (link :
     in_doors = leads_in net formed;
     out_doors = leads_out net formed;
     firsts = knows_first net formed;
-    rendezvous = rendezvous;
   }
 
   blank_seat : (s : Who) (seat : Seat) → seat ≡ new_seat → IsSeat net nothing_yet (out_from 0 (length net.strands)) s seat
   blank_seat s seat is = subst (IsSeat net nothing_yet (out_from 0 (length net.strands)) s) (sym is) (record { ask = ap asked (sym (none_wants s)); ended = refl; seen = refl })
 
-  blank_wire : (texts : ℕ → List ℕ) (link : Link) (wire : WireState) → wire ≡ new_wire → IsWire net texts nothing_yet (out_from 0 (length net.strands)) link wire
+  blank_wire : (texts : ℕ → List ℕ) (link : Link) (wire : WireState) → wire ≡ new_wire link.queue → IsWire net texts nothing_yet (out_from 0 (length net.strands)) link wire
   blank_wire texts link wire is = subst (IsWire net texts nothing_yet (out_from 0 (length net.strands)) link) (sym is)
-      (record { puts = refl; tooks = refl; offer = ap (offered link.output) (sym (none_wants link.from)); out_closed = refl; in_closed = refl })
+      (record { puts = refl; tooks = refl; offer = ap (offered link.output) (sym (none_wants link.from)); out_closed = refl; in_closed = refl; queue = none_waits link.queue })
+    where
+      none_waits : (b : Bool) → option_map (map texts) (cond b (Some []) None) ≡ cond b (Some []) None
+      none_waits true = refl
+      none_waits false = refl
+
+  -- each link has a new wire
+  wire_at : (j : ℕ) (wire : WireState) → slice_get (blank_desk net).wires j ≡ Some wire → (link : Link) × (slice_get net.links j ≡ Some link) × (wire ≡ new_wire link.queue)
+  wire_at j wire at = map_back (λ (link : Link). new_wire link.queue) (slice_get net.links j) wire (sym (slice_get-map (λ (link : Link). new_wire link.queue) net.links j) ∙ at)
+
+  wire_of : (j : ℕ) (link : Link) (wire : WireState) → slice_get net.links j ≡ Some link → slice_get (blank_desk net).wires j ≡ Some wire → wire ≡ new_wire link.queue
+  wire_of j link wire there at =
+      let w = wire_at j wire at in
+      let both_are : Some w.0 ≡ Some link = sym w.1 ∙ there in
+      let it : w.0 ≡ link = cc in
+      w.2 ∙ ap (λ (l : Link). new_wire l.queue) it
 
   blank_sight : (texts : ℕ → List ℕ) (s : Who) (i : ℕ) (door : Option ℕ) → IsSight texts nothing_yet s i (sight_through (replicate (inputs_in net.strands) None) door)
   blank_sight texts s i None going = refl
@@ -103,7 +135,7 @@ module _ (net : Net) (formed : IsWellFormed net) (rendezvous : (j : ℕ) (link :
     laid = blank_laid;
     seats = λ s seat at. blank_seat s seat (get_copy (length net.strands) new_seat seat s at);
     nobody = λ s at. refl;
-    wires = λ j link wire there at. blank_wire texts link wire (get_copy (length net.links) new_wire wire j at);
+    wires = λ j link wire there at. blank_wire texts link wire (wire_of j link wire there at);
     sights = λ s i. blank_sight texts s i (sight_door (blank_desk net) s i);
     member_count = length-replicate (length net.strands) new_member;
     members = λ s m at. blank_member s m (get_copy (length net.strands) new_member m s at);
@@ -114,9 +146,18 @@ module _ (net : Net) (formed : IsWellFormed net) (rendezvous : (j : ℕ) (link :
   pub blank_run : RunStands net nothing_yet (out_from 0 (length net.strands)) (blank_desk net) empty_pool
   blank_run = record {
     kept = blank_kept (bytes_at empty_pool);
-    pooled = blank_pooled (length net.links) (inputs_in net.strands);
+    pooled = blank_pooled net.links (inputs_in net.strands);
     pacing = record {
-      paced = λ j wire at. let is = get_copy (length net.links) new_wire wire j at in inl (rw is refl);
+      paced = λ j wire at. let w = wire_at j wire at in subst (λ (z : WireState). IsPaced z.offer z.puts z.tooks z.queue) (sym w.2) (new_paced w.0.queue);
+      roomy = λ j wire at. let w = wire_at j wire at in subst IsRoomy (sym w.2) (new_roomy w.0.queue);
       shown = λ s i wire going sight at. cc;
     };
   }
+    where
+      new_paced : (b : Bool) → IsPaced None 0 0 (cond b (Some []) None)
+      new_paced true = refl
+      new_paced false = inl refl
+
+      new_roomy : (b : Bool) → IsRoomy (new_wire b)
+      new_roomy true = refl
+      new_roomy false = refl

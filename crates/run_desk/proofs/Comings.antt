@@ -1,5 +1,5 @@
 -- What a run keeps suffices for a strand to come home with what it wants.
-use Rattle.std.proofs.Common.{◌≡◌, inl, inr, ℕ, true, false, cond, not, List, refl, sym, ◌∙◌, ap, subst, arith, Option, Some, None, is_some, slice_get, ℤ}
+use Rattle.std.proofs.Common.{◌≡◌, inl, inr, ℕ, ◌≤◌, true, false, cond, not, List, refl, sym, ◌∙◌, ap, subst, arith, Option, Some, None, is_some, slice_get, ℤ}
 use Rattle.std.specs.Prelude.{IsSome}
 use Rattle.std.specs.Option.{option_map}
 use Rattle.std.proofs.lemmas.Option.{slice_get_within}
@@ -21,7 +21,7 @@ use Rattle.pipe_model.specs.Table.{line_of}
 use Rattle.pipe_model.specs.State.{Who, State, past, strand_at, link_out}
 use Rattle.pipe_model.specs.Licence.{Left, want_after, want_at, offered}
 use Rattle.pipe_model.specs.WellFormed.{IsWellFormed}
-use Rattle.pipe_model.proofs.Truths.{both}
+use Rattle.pipe_model.proofs.Truths.{both, not_second}
 use Rattle.pipe_model.proofs.Lists.{at_some}
 use Rattle.stage_steps.specs.Coroutine.{last_seen, written, meaning, IsSeenBefore}
 use Rattle.record_pool.specs.PoolState.{PoolState}
@@ -34,7 +34,7 @@ use Rattle.run_desk.specs.declared.seat.Ask.TheVariants as Now
 use Rattle.run_desk.specs.Desk.{DeskState}
 use Rattle.run_desk.specs.Telling.{out_door, sight_door, through, wire_out}
 use Rattle.run_desk.specs.Standing.{link_through}
-use Rattle.run_desk.specs.Holding.{RunStands}
+use Rattle.run_desk.specs.Holding.{waiting_of, RunStands}
 use Rattle.run_desk.specs.Turns.{Behind, CanAsk, CanHold, CanCome}
 use Rattle.run_desk.proofs.Begins.{not_reached}
 use Rattle.run_desk.proofs.Conditions.{sight_held, few_held, within, live, not_asked_at, out_linked}
@@ -86,7 +86,7 @@ module _ (net : Net) (st : State) (left : Left) (d : DeskState) (pool : PoolStat
 
   -- where nothing is offered yet
   come_writing : (o : ℕ) (rec : List ℕ) → next strand (past st s) ≡ Some (Write o rec) → CanAsk d s (Now.Write o)
-  come_writing o rec wants = (has_wire o (writes_link o rec wants), free, goes_on)
+  come_writing o rec wants = (has_wire o (writes_link o rec wants), free, goes_on, unreserved)
     where
       free : Behind (λ wire. wire.offer ≡ None) d.wires (out_door d s o)
       free wire at =
@@ -95,6 +95,12 @@ module _ (net : Net) (st : State) (left : Left) (d : DeskState) (pool : PoolStat
           no_offer (bytes_at pool) wire.offer
           (l.is.offer ∙ ap (λ z. offered l.link.output (want_at net st left z)) is.0 ∙ ap (λ b. offered l.link.output (cond b None (want_after (strand_at net st s) (past st s)))) out)
 
+      -- so no place is reserved for it
+      unreserved : Behind (λ wire. wire.reserved ≡ false) d.wires (out_door d s o)
+      unreserved wire at =
+          let l = out_linked net st left d pool formed run s o wire at in
+          run.pacing.roomy l.place wire l.at_wire ∙ not_second (is_some wire.queue) (is_some wire.offer) (ap is_some (free wire at))
+
       goes_on : Behind (λ wire. wire.out_closed ≡ false) d.wires (out_door d s o)
       goes_on wire at =
           let l = out_linked net st left d pool formed run s o wire at in
@@ -102,20 +108,20 @@ module _ (net : Net) (st : State) (left : Left) (d : DeskState) (pool : PoolStat
           l.is.out_closed ∙ ap (λ z. has_ended (past st z)) is.0 ∙ going
 
   -- and what it writes can be held
-  can_hold : (o : ℕ) (rec : Out) → IsSeenBefore (want.Write o rec) (past st s) → CanHold d pool s rec
-  can_hold o (Same i) seen =
+  can_hold : waiting_of d.wires ≤ 50000000 → (o : ℕ) (rec : Out) → IsSeenBefore (want.Write o rec) (past st s) → CanHold d pool s rec
+  can_hold few o (Same i) seen =
       let there = sight_there net (bytes_at pool) st left d run.kept s going i seen in
-      (there.0, there.1, subst (IsHeldIn pool) there.1 (sight_held net st left d pool formed run (sight_door d s i)), few_held net st left d pool formed run there.0)
-  can_hold o (Fresh bytes) seen = tt
+      (there.0, there.1, subst (IsHeldIn pool) there.1 (sight_held net st left d pool formed run (sight_door d s i)), few_held net st left d pool formed run few there.0)
+  can_hold few o (Fresh bytes) seen = tt
 
 -- whoever was out can come home with what it wants
 pub can_come : (net : Net) (st : State) (left : Left) (d : DeskState) (pool : PoolState) (s : Who) (strand : Strand) (w : Asking) → IsWellFormed net →
-    ((t : Who) (q : Strand) → strand_at net st t ≡ Some q → IsOwn q (past st t)) → RunStands net st left d pool → left s ≡ true → strand_at net st s ≡ Some strand →
+    ((t : Who) (q : Strand) → strand_at net st t ≡ Some q → IsOwn q (past st t)) → RunStands net st left d pool → waiting_of d.wires ≤ 50000000 → left s ≡ true → strand_at net st s ≡ Some strand →
     has_ended (past st s) ≡ false → Some (meaning w (last_seen (past st s))) ≡ next strand (past st s) → IsSeenBefore w (past st s) → CanCome d pool s w
-can_come net st left d pool s strand (want.Commit level) formed own run out there going wants seen =
+can_come net st left d pool s strand (want.Commit level) formed own run few out there going wants seen =
     come_to net st left d pool formed run s strand there (own s strand there) out going level (sym wants)
-can_come net st left d pool s strand (want.Write o rec) formed own run out there going wants seen = (
+can_come net st left d pool s strand (want.Write o rec) formed own run few out there going wants seen = (
   come_writing net st left d pool formed run s strand there (own s strand there) out going o (written rec (last_seen (past st s))) (sym wants),
-  can_hold net st left d pool formed run s strand there (own s strand there) out going o rec seen,
+  can_hold net st left d pool formed run s strand there (own s strand there) out going few o rec seen,
 )
-can_come net st left d pool s strand _ formed own run out there going wants seen = tt
+can_come net st left d pool s strand _ formed own run few out there going wants seen = tt

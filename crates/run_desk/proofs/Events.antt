@@ -1,8 +1,8 @@
 -- What one event does to counts and facts of a history, and to a want that it answers.
-use Rattle.std.proofs.Common.{◌≡◌, ℕ, Bool, true, false, cond, ◌||◌, ◌==◌, List, ◌∷◌, refl, sym, ◌∙◌, ap, Option, Some, None}
+use Rattle.std.proofs.Common.{◌≡◌, ℕ, Bool, true, false, cond, ◌||◌, ◌==◌, List, [], ◌∷◌, ◌++◌, refl, sym, ◌∙◌, ap, Option, Some, None}
 use Rattle.std.proofs.lemmas.Bool.{eqb-true}
 use Rattle.std.proofs.Math.Bool.{or-false, or-true}
-use Rattle.pipe_model.specs.Event.{Event, Want, answers, is_put, has_ended, has_seen}
+use Rattle.pipe_model.specs.Event.{Event, Want, answers, is_put, records_on, has_ended, has_seen}
 use Rattle.pipe_model.specs.Event.Event.{Up, Saw, SawEnd, SawAllEnd, Took, Put, Refused, Primed, Opened, Joined, Severed, Ended}
 use Rattle.pipe_model.specs.Event.Want.{Commit, Write}
 use Rattle.pipe_model.specs.Licence.{offered}
@@ -30,6 +30,11 @@ rises _ = false
 pub no_put : (o : ℕ) (e : Event) → writes_on o e ≡ false → is_put o e ≡ false
 no_put o (Put o' rec) off = off
 no_put o _ off = refl
+
+-- so the records there stay
+pub no_record : (o : ℕ) (e : Event) (h : List Event) → writes_on o e ≡ false → records_on o (e ∷ h) ≡ records_on o h
+no_record o (Put o' rec) h off = ap (λ b. cond b (records_on o h ++ rec ∷ []) (records_on o h)) off
+no_record o _ h off = refl
 
 -- one that doesn't look at an input leaves what was seen there last
 pub last_stays : (i : ℕ) (e : Event) (h : List Event) → looks_at i e ≡ false → record_seen_on i (e ∷ h) ≡ record_seen_on i h

@@ -77,6 +77,11 @@ holders_given pool (Some g) grip = elim (equal_or_not grip g) [
       omega (arith, there, held_same grip g apart)
 ]
 
+-- no place in a queue is
+pub nodes_given : (pool : PoolState) (x : Option ℕ) → (given_in pool x).nodes ≡ pool.nodes
+nodes_given pool None = refl
+nodes_given pool (Some g) = refl
+
 -- and leaves no record without a holder
 pub alive_given : (pool : PoolState) (x : Option ℕ) → AreAlive pool → AreAlive (given_in pool x)
 alive_given pool None alive grip held at = alive grip held at

@@ -22,8 +22,8 @@ use Rattle.commit_levels.specs.declared.member.Progress.TheVariants.{NotAsked, A
 use Rattle.commit_levels.specs.Licensed.{IsStrand, WantsNoLevel}
 use Rattle.commit_levels.proofs.Agreement.{asks_as}
 use Rattle.connectors.specs.WireState.{WireState}
-use Rattle.record_pool.specs.PoolState.{PoolState}
-use Rattle.record_pool.specs.Places.{bytes_at}
+use Rattle.record_pool.specs.PoolState.{Held, PoolState}
+use Rattle.record_pool.specs.Places.{place_at, bytes_of, bytes_at, holders_of, holders_at}
 use Rattle.stage_steps.specs.Coroutine.{written, meaning, last_seen}
 use Rattle.run_desk.specs.declared.seat.Ask.{Ask}
 use Rattle.run_desk.specs.declared.seat.Ask.TheVariants as Now
@@ -31,12 +31,13 @@ use Rattle.run_desk.specs.declared.seat.Seat.{Seat}
 use Rattle.run_desk.specs.Desk.{DeskState}
 use Rattle.run_desk.specs.Telling as Telling
 use Rattle.run_desk.specs.Standing.{asked, left_in, IsSeat, IsWire, DeskStands}
-use Rattle.run_desk.specs.Turns.{list_changed_at, list_changed_behind, offers, asking, unit_at_home, ask_for, desk_at_home_writing, IsHold, CanAsk, CanCome, HasCome}
+use Rattle.run_desk.specs.Turns.{list_changed_at, list_changed_behind, offers, asking, unit_at_home, ask_for, desk_at_home_writing, pool_with_room, CanAsk, CanCome, HasWritten, HasCome}
 use Rattle.run_desk.specs.Turns.{desk_at_home as coming}
-use Rattle.run_desk.specs.Holding.{IsPooled}
+use Rattle.run_desk.specs.Holding.{holds_of, IsPooled}
 use Rattle.run_desk.proofs.Behind.{as_long, now_behind, none_before, behind_out, door_out}
 use Rattle.run_desk.proofs.Early.{wants_early, early_level}
 use Rattle.run_desk.proofs.Offers.{hold_stay, hold_text}
+use Rattle.run_desk.proofs.Pooled.{room_records}
 use Rattle.run_desk.proofs.Texts.{retext}
 
 -- a want for another output offers nothing here
@@ -73,6 +74,7 @@ module _ (net : Net) (texts : ℕ → List ℕ) (st : State) (left : Left) (d : 
     ]);
     out_closed = is.out_closed;
     in_closed = is.in_closed;
+    queue = is.queue;
   }
 
   -- and the one that it writes on
@@ -85,6 +87,7 @@ module _ (net : Net) (texts : ℕ → List ℕ) (st : State) (left : Left) (d : 
         ∙ ap (λ b. cond b (Some rec) None) (test_same link.output));
     out_closed = is.out_closed;
     in_closed = is.in_closed;
+    queue = is.queue;
   }
 
   -- the wires of a strand that writes nothing
@@ -190,7 +193,6 @@ module _ (net : Net) (texts : ℕ → List ℕ) (st : State) (left : Left) (d : 
       in_doors = kept.laid.in_doors;
       out_doors = kept.laid.out_doors;
       firsts = kept.laid.firsts;
-      rendezvous = kept.laid.rendezvous;
     };
     seats = seats_home ask same;
     nobody = λ t none. kept.nobody t (none_before d.seats (asking ask) (Some s) t none);
@@ -250,16 +252,22 @@ module _ (net : Net) (st : State) (left : Left) (d new : DeskState) (pool after 
 
   -- it writes
   home_offering : (o : ℕ) (out : Out) → Some (Write o (written out (last_seen (past st s)))) ≡ next strand (past st s) →
-      (grip : ℕ) → IsHold d pool s out grip after → new ≡ desk_at_home_writing d s o grip → DeskStands net (bytes_at after) st (left_in left s) new
-  home_offering o out wants grip hold came =
+      HasWritten d pool s o out new after → DeskStands net (bytes_at after) st (left_in left s) new
+  home_offering o out wants came =
       let rec = written out (last_seen (past st s)) in
-      let held = retext net (bytes_at pool) (bytes_at after) st left d kept (hold_stay pool after d pooled s out grip hold) in
+      let grip = came.grip in
+      -- a place that is reserved leaves the records as they were
+      let room = pool_with_room pool (Telling.wire_out d s o) in
+      let same = room_records pool (Telling.wire_out d s o) in
+      let stands : DeskStands net (bytes_at room) st left d = subst (λ (places : List (Option Held)). DeskStands net (λ g. bytes_of (place_at places g)) st left d) (sym same) kept in
+      let counted : (g : ℕ) → holders_at room g ≡ holds_of d.wires d.sights g = subst (λ (places : List (Option Held)). (g : ℕ) → holders_of (place_at places g) ≡ holds_of d.wires d.sights g) (sym same) pooled.counted in
+      let held = retext net (bytes_at room) (bytes_at after) st left d stands (hold_stay room after d counted s out grip came.hold) in
       let here : DeskStands net (bytes_at after) st (left_in left s) (desk_at_home_writing d s o grip) =
       comes_home net (bytes_at after) st left d held s strand away at (Write o rec) wants (Now.Write o) refl (list_changed_behind d.wires (offers grip) (Telling.out_door d s o)) d.unit
       (as_long d.wires (offers grip) (Telling.out_door d s o))
-      (wires_writing net (bytes_at after) st left d held s strand away at (Write o rec) wants formed o rec grip refl (hold_text pool after net st left d s kept going out grip hold))
+      (wires_writing net (bytes_at after) st left d held s strand away at (Write o rec) wants formed o rec grip refl (hold_text room after net st left d s stands going out grip came.hold))
       refl (members_plain net (bytes_at after) st left d held s strand away at (Write o rec) wants (λ level. refl)) early_home in
-      subst (DeskStands net (bytes_at after) st (left_in left s)) (sym came) here
+      subst (DeskStands net (bytes_at after) st (left_in left s)) (sym came.home) here
 
 -- where a strand comes home, the desk stands for the same state with its want
 pub kept_home : (net : Net) (st : State) (left : Left) (d new : DeskState) (pool after : PoolState) (s : Who) (strand : Strand) (w : Coming) → IsWellFormed net →
@@ -267,7 +275,7 @@ pub kept_home : (net : Net) (st : State) (left : Left) (d new : DeskState) (pool
     strand_at net st s ≡ Some strand → has_ended (past st s) ≡ false → Some (meaning w (last_seen (past st s))) ≡ next strand (past st s) →
     CanCome d pool s w → HasCome d pool s w new after → DeskStands net (bytes_at after) st (left_in left s) new
 kept_home net st left d new pool after s strand (come.Commit level) formed own kept pooled away at going wants can came = home_asking net st left d new pool after s strand formed own kept pooled away at going level wants can came
-kept_home net st left d new pool after s strand (come.Write o out) formed own kept pooled away at going wants can came = home_offering net st left d new pool after s strand formed own kept pooled away at going o out wants came.0 came.1 came.2
+kept_home net st left d new pool after s strand (come.Write o out) formed own kept pooled away at going wants can came = home_offering net st left d new pool after s strand formed own kept pooled away at going o out wants came
 kept_home net st left d new pool after s strand (come.Read i) formed own kept pooled away at going wants can came = home_plain net st left d new pool after s strand formed own kept pooled away at going (come.Read i) wants (λ o. refl) (λ l. refl) refl came
 kept_home net st left d new pool after s strand come.Any formed own kept pooled away at going wants can came = home_plain net st left d new pool after s strand formed own kept pooled away at going come.Any wants (λ o. refl) (λ l. refl) refl came
 kept_home net st left d new pool after s strand come.Gate formed own kept pooled away at going wants can came = home_plain net st left d new pool after s strand formed own kept pooled away at going come.Gate wants (λ o. refl) (λ l. refl) refl came
@@ -305,7 +313,7 @@ module _ (net : Net) (texts : ℕ → List ℕ) (st : State) (left : Left) (d : 
     nobody = kept.nobody;
     wires = λ j link wire at got.
         let is = kept.wires j link wire at got in
-        record { puts = is.puts; tooks = is.tooks; offer = is.offer ∙ ap (offered link.output) (sym (same_want link.from)); out_closed = is.out_closed; in_closed = is.in_closed };
+        record { puts = is.puts; tooks = is.tooks; offer = is.offer ∙ ap (offered link.output) (sym (same_want link.from)); out_closed = is.out_closed; in_closed = is.in_closed; queue = is.queue };
     sights = kept.sights;
     member_count = kept.member_count;
     members = λ t m got. subst (λ w. IsStrand (past st t) w m) (sym (same_want t)) (kept.members t m got);

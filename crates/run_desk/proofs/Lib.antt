@@ -20,6 +20,8 @@ pub mod Members
 pub mod Offers
 pub mod Pacing
 pub mod Pooled
+pub mod Queues
+pub mod Reserves
 pub mod Runs
 pub mod Sees
 pub mod Shown
@@ -28,4 +30,5 @@ pub mod Spots
 pub mod Streams
 pub mod Tells
 pub mod Texts
+pub mod Waits
 pub mod Wants

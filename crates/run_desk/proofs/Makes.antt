@@ -16,7 +16,7 @@ use Rattle.commit_levels.specs.UnitState.{IsLevel, place_of}
 use Rattle.commit_levels.specs.UnitState as units
 use Rattle.commit_levels.specs.declared.member.Progress.TheVariants.{Reached}
 use Rattle.stage_steps.specs.Coroutine.{told}
-use Rattle.connectors.specs.WireState.{taken, settled, cleared}
+use Rattle.connectors.specs.WireState.{WireState, IsPaced, taken, settled, cleared}
 use Rattle.run_desk.specs.declared.seat.Seat.{Seat}
 use Rattle.run_desk.specs.Desk.{DeskState}
 use Rattle.run_desk.specs.Telling.{joined, inputs_of, outputs_of, first_of, in_door, out_door, sights_of, sight_door, sight_through, wire_in}
@@ -114,7 +114,6 @@ laid_made net st after d s seen laid = record {
   in_doors = λ u i. laid.in_doors u i ∙ ap (λ z. link_through net.links (joined (slice_get (inputs_of (slice_get z u)) i))) (sym (doors_moved d s seen));
   out_doors = λ u o. laid.out_doors u o ∙ ap (λ z. link_through net.links (joined (slice_get (outputs_of (slice_get z u)) o))) (sym (doors_moved d s seen));
   firsts = λ u. ap (λ z. first_of u (slice_get z u)) (doors_moved d s seen) ∙ laid.firsts u;
-  rendezvous = laid.rendezvous;
 }
 
 module _ (net : Net) (texts : ℕ → List ℕ) (st : State) (left : Left) (d : DeskState) (s : Who) (k : ℕ) (e : Event) (kept : DeskStands net texts st left d) (may : licence net st left s k ≡ Some e) where
@@ -167,12 +166,12 @@ module _ (net : Net) (texts : ℕ → List ℕ) (st : State) (left : Left) (d : 
 
 -- a turn keeps the relation of desk and state, where the strand is out after it
 pub kept_made : (net : Net) (texts : ℕ → List ℕ) (st : State) (left : Left) (d : DeskState) (s : Who) (k : ℕ) (e : Event) → IsWellFormed net → DeskStands net texts st left d →
-    licence net st left s k ≡ Some e → DeskStands net texts (with_event st s e) (left_out left s) (desk_after_turn d s (told e))
-kept_made net texts st left d s k e formed kept may = record {
+    ((j : ℕ) (w : WireState) → slice_get d.wires j ≡ Some w → IsPaced w.offer w.puts w.tooks w.queue) → licence net st left s k ≡ Some e → DeskStands net texts (with_event st s e) (left_out left s) (desk_after_turn d s (told e))
+kept_made net texts st left d s k e formed kept paced may = record {
   laid = laid_made net st (with_event st s e) d s (told e) kept.laid;
   seats = seats_made net texts st left d s k e kept may;
   nobody = nobody_made net texts st left d s k e kept may;
-  wires = wires_made net texts st left s k e may formed d kept;
+  wires = wires_made net texts st left s k e may formed d kept paced;
   sights = λ u i. subst (λ z. IsSight texts (with_event st s e) u i (sight_through (rest_after_turn d s (told e)).sights z)) (sym (same_sight d s (told e) u i)) (sights_made net texts st left s k e may d kept u i);
   member_count = unit_moved d s (told e) ∙ kept.member_count;
   members = members_made net texts st left s k e may d kept;

@@ -12,14 +12,14 @@ use Rattle.pipe_model.proofs.Numbers.{equal_or_not}
 use Rattle.stage_steps.specs.Coroutine.{written, last_seen, record_seen_on}
 use Rattle.stage_steps.proofs.Lasts.{last_is}
 use Rattle.record_pool.specs.PoolState.{Held, PoolState}
-use Rattle.record_pool.specs.Places.{record_at, bytes_of, bytes_at, holders_of, fresh, one_more, shared}
+use Rattle.record_pool.specs.Places.{record_at, bytes_of, bytes_at, holders_of, holders_at, fresh, one_more, shared}
 use Rattle.record_pool.proofs.Records.{changed_here, others_stay}
 use Rattle.run_desk.specs.Desk.{DeskState}
 use Rattle.run_desk.specs.Telling.{sight_through}
 use Rattle.run_desk.specs.Telling as Telling
 use Rattle.run_desk.specs.Standing.{DeskStands}
 use Rattle.run_desk.specs.Turns.{IsFresh, IsHold}
-use Rattle.run_desk.specs.Holding.{holds_of, IsPooled}
+use Rattle.run_desk.specs.Holding.{holds_of}
 
 -- a share keeps the bytes
 shared_bytes : (place : Option Held) → bytes_of (one_more place) ≡ bytes_of place
@@ -61,13 +61,13 @@ module _ (pool after : PoolState) where
     | inr apart ↦ ap bytes_of (others_stay pool after seen (one_more (record_at pool seen)) is other apart)
   ]
 
-  module _ (d : DeskState) (pooled : IsPooled d.wires d.sights pool) where
+  module _ (d : DeskState) (counted : (grip : ℕ) → holders_at pool grip ≡ holds_of d.wires d.sights grip) where
     -- a new record takes no place of one that is held
     fresh_stay : (bytes : List ℕ) (grip : ℕ) → IsFresh pool bytes grip after → (other : ℕ) → 0 < holds_of d.wires d.sights other → bytes_at after other ≡ bytes_at pool other
     fresh_stay bytes grip is other held = elim (equal_or_not other grip) [
       | inl e ↦
           let none : holders_of (record_at pool other) ≡ 0 = ap (λ z. holders_of (record_at pool z)) e ∙ ap holders_of is.0 in
-          absurd (omega (arith, held, none, pooled.counted other))
+          absurd (omega (arith, held, none, counted other))
       | inr apart ↦ ap bytes_of (others_stay pool after grip (Some (fresh bytes)) is.1 other apart)
     ]
 

@@ -1,5 +1,5 @@
 -- The pace of the wires is kept by a turn and by a strand that comes home.
-use Rattle.std.proofs.Common.{◌≡◌, ◌≢◌, ◌⊎◌, inl, inr, ℕ, ◌+◌, ◌<◌, Bool, true, false, cond, ◌&&◌, not, ◌==◌, ℤ, List, [], ◌∷◌, refl, sym, ◌∙◌, ap, subst, arith, Option, Some, None, is_some, slice_get}
+use Rattle.std.proofs.Common.{◌≡◌, ◌≢◌, ◌⊎◌, inl, inr, ℕ, ◌+◌, ◌<◌, nat_lt, Bool, true, false, cond, ◌&&◌, ◌||◌, not, ◌==◌, ℤ, List, [], ◌∷◌, length, drop, refl, sym, ◌∙◌, ap, subst, arith, Option, Some, None, is_some, slice_get}
 use Rattle.std.specs.Prelude.{IsSome}
 use Rattle.std.specs.Option.{option_map}
 use Rattle.std.proofs.lemmas.Bool.{eqb-true, ltb-true}
@@ -15,61 +15,170 @@ use Rattle.pipe_model.specs.Next.{IsOwn}
 use Rattle.pipe_model.specs.State.{Who, State, past, strand_at, with_event}
 use Rattle.pipe_model.specs.Licence.{Left, want_after, want_at, licence, sight_of}
 use Rattle.pipe_model.specs.WellFormed.{IsWellFormed}
-use Rattle.pipe_model.proofs.Truths.{both}
+use Rattle.pipe_model.proofs.Truths.{both, not_second}
 use Rattle.pipe_model.proofs.Numbers.{equal_or_not, test_same}
-use Rattle.pipe_model.proofs.Lists.{beside}
+use Rattle.pipe_model.proofs.Lists.{beside, length_more}
 use Rattle.stage_steps.specs.Coroutine.{told}
 use Rattle.confluence_laws.proofs.Basics.{at_same, at_other, not_ended, took_asked}
 use Rattle.confluence_laws.proofs.Owns.{answer_fits, sight_before}
 use Rattle.confluence_laws.proofs.Fitting.{wants_take}
 use Rattle.record_pool.specs.PoolState.{PoolState}
-use Rattle.connectors.specs.WireState.{WireState, IsPaced, at_hand, taken, settled, cleared}
+use Rattle.connectors.specs.WireState.{WireState, IsPaced, at_hand, hand_of, taken, settled, cleared, lined_up}
 use Rattle.run_desk.specs.declared.seat.Ask.TheVariants as Now
 use Rattle.run_desk.specs.Desk.{DeskState}
 use Rattle.run_desk.specs.Telling as Telling
 use Rattle.run_desk.specs.Standing.{DeskStands}
 use Rattle.run_desk.specs.Turns.{list_changed_behind, wires_changed, in_shut, out_shut, desk_after_turn, offers, desk_at_home, desk_at_home_writing, ask_for, CanAsk, CanCome, HasCome}
 use Rattle.run_desk.specs.Holding.{IsPacing}
-use Rattle.run_desk.proofs.Behind.{now_behind, behind_in}
+use Rattle.run_desk.proofs.Behind.{now_behind, behind_in, behind_out}
+use Rattle.run_desk.proofs.Pooled.{IsRoomy}
 use Rattle.run_desk.proofs.Sees.{seen_is}
 use Rattle.run_desk.proofs.Tells.{Fact, tells}
+use Rattle.run_desk.proofs.Wants.{put_wanted, offer_there}
 
 -- Wires
 
--- the wires have the same offer and are as far
+-- a wire is as far as its kind allows, and has a place reserved exactly for what is offered on a queue
+record IsSteady (wire : WireState) : Type 0 where
+  paced : IsPaced wire.offer wire.puts wire.tooks wire.queue
+  roomy : IsRoomy wire
+
+-- the wires have the same offer and queue, and are as far
 record IsLike (wire old : WireState) : Type 0 where
   offer : wire.offer ≡ old.offer
   puts : wire.puts ≡ old.puts
   tooks : wire.tooks ≡ old.tooks
+  queue : wire.queue ≡ old.queue
+  reserved : wire.reserved ≡ old.reserved
 
-like_paced : (wire old : WireState) → IsLike wire old → IsPaced old.offer old.puts old.tooks → IsPaced wire.offer wire.puts wire.tooks
-like_paced wire old is (inl e) = inl (is.tooks ∙ e ∙ sym is.puts)
-like_paced wire old is (inr p) = inr (is.tooks ∙ p.0 ∙ ap (λ z. z + 1) (sym is.puts), subst IsSome (sym is.offer) p.1)
+like_steady : (wire old : WireState) → IsLike wire old → IsSteady old → IsSteady wire
+like_steady wire old is was = record {
+  paced = subst (IsPaced wire.offer wire.puts wire.tooks) (sym is.queue)
+      (subst (λ n. IsPaced wire.offer wire.puts n old.queue) (sym is.tooks) (subst (λ n. IsPaced wire.offer n old.tooks old.queue) (sym is.puts)
+      (subst (λ x. IsPaced x old.puts old.tooks old.queue) (sym is.offer) was.paced)));
+  roomy = is.reserved ∙ was.roomy ∙ ap (λ q. is_some q && is_some old.offer) (sym is.queue) ∙ ap (λ x. is_some wire.queue && is_some x) (sym is.offer);
+}
 
 like_hand : (wire old : WireState) → IsLike wire old → IsSome (at_hand old) → IsSome (at_hand wire)
-like_hand wire old is hand =
-    subst IsSome (sym (ap (λ z. cond (z == wire.tooks) wire.offer None) is.puts ∙ ap (λ z. cond (old.puts == z) wire.offer None) is.tooks ∙ ap (λ z. cond (old.puts == old.tooks) z None) is.offer)) hand
+like_hand wire old is hand = subst IsSome (sym (ap (hand_of wire) is.queue ∙ by_queue old.queue)) hand
+  where
+    by_queue : (q : Option (List ℕ)) → hand_of wire q ≡ hand_of old q
+    by_queue None = ap (λ z. cond (z == wire.tooks) wire.offer None) is.puts ∙ ap (λ z. cond (old.puts == z) wire.offer None) is.tooks ∙ ap (λ z. cond (old.puts == old.tooks) z None) is.offer
+    by_queue (Some waiting) = refl
+
+both_like : (wire mid old : WireState) → IsLike wire mid → IsLike mid old → IsLike wire old
+both_like wire mid old a b = record { offer = a.offer ∙ b.offer; puts = a.puts ∙ b.puts; tooks = a.tooks ∙ b.tooks; queue = a.queue ∙ b.queue; reserved = a.reserved ∙ b.reserved }
 
 -- a change that leaves a wire so leaves all of them so
 all_like : (f : WireState → WireState) → ((wire : WireState) → IsLike (f wire) wire) → (doors : List (Option ℕ)) (wires : List WireState) (j : ℕ) (wire : WireState) →
     slice_get (wires_changed f doors wires) j ≡ Some wire → (old : WireState) × (slice_get wires j ≡ Some old) × IsLike wire old
-all_like f like [] wires j wire at = (wire, at, record { offer = refl; puts = refl; tooks = refl })
+all_like f like [] wires j wire at = (wire, at, record { offer = refl; puts = refl; tooks = refl; queue = refl; reserved = refl })
 all_like f like (door ∷ doors) wires j wire at =
     let r = all_like f like doors (list_changed_behind wires f door) j wire at in
     elim (now_behind wires f door j r.0 r.1) [
       | inl before ↦ (r.0, before.0, r.2)
       | inr now ↦
           let one : IsLike r.0 now.0 = subst (λ z. IsLike z now.0) (sym now.2) (like now.0) in
-          (now.0, now.1, record { offer = r.2.offer ∙ one.offer; puts = r.2.puts ∙ one.puts; tooks = r.2.tooks ∙ one.tooks })
+          (now.0, now.1, both_like wire r.0 now.0 r.2 one)
     ]
 
--- a record at hand is an offer on a wire with as many puts as takes
-hand_is : (wire : WireState) → IsSome (at_hand wire) → (wire.puts ≡ wire.tooks) × IsSome wire.offer
-hand_is wire hand = go (wire.puts == wire.tooks) refl hand
+-- a record at hand at a rendezvous is an offer on a wire with as many puts as takes
+even_hand : (wire : WireState) → IsSome (hand_of wire None) → (wire.puts ≡ wire.tooks) × IsSome wire.offer
+even_hand wire hand = go (wire.puts == wire.tooks) refl hand
   where
     go : (b : Bool) → (wire.puts == wire.tooks) ≡ b → IsSome (cond b wire.offer None) → (wire.puts ≡ wire.tooks) × IsSome wire.offer
     go true e p = (eqb-true _ _ e, p)
     go false e p = cc
+
+-- Changes of a wire
+
+-- the record at hand is taken
+steady_taken : (wire : WireState) → IsSome (at_hand wire) → IsSteady wire → IsSteady (taken wire)
+steady_taken wire hand was = record { paced = by_queue wire.queue hand was.paced; roomy = was.roomy ∙ ap (λ b. b && is_some wire.offer) (still wire.queue) }
+  where
+    still : (q : Option (List ℕ)) → is_some q ≡ is_some (option_map (drop 1) q)
+    still None = refl
+    still (Some waiting) = refl
+
+    by_queue : (q : Option (List ℕ)) → IsSome (hand_of wire q) → IsPaced wire.offer wire.puts wire.tooks q → IsPaced wire.offer wire.puts (wire.tooks + 1) (option_map (drop 1) q)
+    by_queue None shown pace = let h = even_hand wire shown in inr (ap (λ z. z + 1) (sym h.0), h.1)
+    by_queue (Some []) shown pace = cc
+    by_queue (Some (grip ∷ more)) shown pace = omega (arith, pace)
+
+-- what is put on a rendezvous was taken
+was_ahead : (wire : WireState) → wire.queue ≡ None → Telling.can_put (Some wire) ≡ true → wire.puts < wire.tooks
+was_ahead wire is may = ltb-true wire.puts wire.tooks (ap (λ q. is_some q || nat_lt wire.puts wire.tooks) (sym is) ∙ may)
+
+-- the record that is offered is put
+steady_settled : (wire : WireState) → Telling.can_put (Some wire) ≡ true → IsSome wire.offer → IsSteady wire → IsSteady (settled wire)
+steady_settled wire may there was = record { paced = by_queue wire.queue refl was.paced; roomy = sym (not_second (is_some (settled wire).queue) false refl) }
+  where
+    by_offer : (waiting : List ℕ) (x : Option ℕ) → IsSome x → wire.puts ≡ wire.tooks + length waiting → IsPaced None (wire.puts + 1) wire.tooks (lined_up (Some waiting) x)
+    by_offer waiting None some pace = cc
+    by_offer waiting (Some grip) some pace = omega (arith, pace, length_more waiting grip)
+
+    level : wire.puts < wire.tooks → IsPaced wire.offer wire.puts wire.tooks None → IsPaced None (wire.puts + 1) wire.tooks None
+    level less (inl e) = absurd (omega (arith, less, e))
+    level less (inr p) = inl p.0
+
+    by_queue : (q : Option (List ℕ)) → wire.queue ≡ q → IsPaced wire.offer wire.puts wire.tooks q → IsPaced None (wire.puts + 1) wire.tooks (lined_up q wire.offer)
+    by_queue None is pace = level (was_ahead wire is may) pace
+    by_queue (Some waiting) is pace = by_offer waiting wire.offer there pace
+
+-- a record at hand in a queue stays there
+settled_hand : (wire : WireState) → Telling.can_put (Some wire) ≡ true → IsSome (at_hand wire) → IsSome (at_hand (settled wire))
+settled_hand wire may hand = by_queue wire.queue refl hand
+  where
+    by_offer : (waiting : List ℕ) (x : Option ℕ) → IsSome (slice_get waiting 0) → IsSome (hand_of (settled wire) (lined_up (Some waiting) x))
+    by_offer [] x some = cc
+    by_offer (grip ∷ more) None some = refl
+    by_offer (grip ∷ more) (Some offer) some = refl
+
+    by_queue : (q : Option (List ℕ)) → wire.queue ≡ q → IsSome (hand_of wire q) → IsSome (hand_of (settled wire) (lined_up q wire.offer))
+    by_queue None is some = absurd (omega (arith, (even_hand wire some).0, was_ahead wire is may))
+    by_queue (Some waiting) is some = by_offer waiting wire.offer some
+
+-- where an offer may be refused, the wire is a rendezvous whose consumer takes no more, and all that was put was taken
+refusal_is : (wire : WireState) → Telling.can_refuse (Some wire) ≡ true → (wire.queue ≡ None) × (wire.in_closed ≡ true) × (Telling.is_even wire ≡ true)
+refusal_is wire may =
+    let b = both (not (is_some wire.queue)) (wire.in_closed && Telling.is_even wire) may in
+    let c = both wire.in_closed (Telling.is_even wire) b.1 in
+    (none wire.queue b.0, c.0, c.1)
+  where
+    none : (q : Option (List ℕ)) → not (is_some q) ≡ true → q ≡ None
+    none None e = refl
+    none (Some waiting) e = cc
+
+-- it goes
+steady_cleared : (wire : WireState) → Telling.can_refuse (Some wire) ≡ true → IsSteady wire → IsSteady (cleared wire)
+steady_cleared wire may was =
+    let is = refusal_is wire may in
+    let even : IsPaced None wire.puts wire.tooks None = inl (sym (eqb-true _ _ is.2)) in
+    record {
+      paced = subst (IsPaced None wire.puts wire.tooks) (sym is.0) even;
+      roomy = was.roomy ∙ ap (λ q. is_some q && is_some wire.offer) is.0 ∙ sym (not_second (is_some wire.queue) false refl);
+    }
+
+-- a record is offered where none was
+steady_offers : (grip : ℕ) (wire : WireState) → wire.offer ≡ None → IsSteady wire → IsSteady (offers grip wire)
+steady_offers grip wire none was = record { paced = by_queue wire.queue was.paced; roomy = both_true (is_some wire.queue) }
+  where
+    both_true : (b : Bool) → b ≡ (b && true)
+    both_true true = refl
+    both_true false = refl
+
+    by_queue : (q : Option (List ℕ)) → IsPaced wire.offer wire.puts wire.tooks q → IsPaced (Some grip) wire.puts wire.tooks q
+    by_queue None (inl e) = inl e
+    by_queue None (inr p) = let no : false ≡ true = sym (ap is_some none) ∙ p.1 in cc
+    by_queue (Some waiting) pace = pace
+
+-- and only in a queue was one at hand
+offered_hand : (grip : ℕ) (wire : WireState) → wire.offer ≡ None → IsSome (at_hand wire) → IsSome (at_hand (offers grip wire))
+offered_hand grip wire none hand = by_queue wire.queue hand
+  where
+    by_queue : (q : Option (List ℕ)) → IsSome (hand_of wire q) → IsSome (hand_of (offers grip wire) q)
+    by_queue None some = let no : false ≡ true = sym (ap is_some none) ∙ (even_hand wire some).1 in cc
+    by_queue (Some waiting) some = some
 
 -- A turn
 
@@ -89,11 +198,12 @@ module _ (net : Net) (texts : ℕ → List ℕ) (st : State) (left : Left) (d : 
 
   -- the pace of a desk with these wires
   with_wires : (now : State) (new : DeskState) (wires : List WireState) → new.wires ≡ wires → new.doors ≡ d.doors →
-      ((j : ℕ) (wire : WireState) → slice_get wires j ≡ Some wire → IsPaced wire.offer wire.puts wire.tooks) →
+      ((j : ℕ) (wire : WireState) → slice_get wires j ≡ Some wire → IsSteady wire) →
       ((t : Who) (i j : ℕ) (wire : WireState) → has_ended (past now t) ≡ false → in_sight i (past now t) ≡ true → Telling.in_door d t i ≡ Some j → slice_get wires j ≡ Some wire → IsSome (at_hand wire)) →
       IsPacing now new
-  with_wires now new wires wires_are doors_are paced shown = record {
-    paced = λ j wire at. paced j wire (sym (ap (λ z. slice_get z j) wires_are) ∙ at);
+  with_wires now new wires wires_are doors_are steady shown = record {
+    paced = λ j wire at. (steady j wire (sym (ap (λ z. slice_get z j) wires_are) ∙ at)).paced;
+    roomy = λ j wire at. (steady j wire (sym (ap (λ z. slice_get z j) wires_are) ∙ at)).roomy;
     shown = λ t i wire going sight at. by_door t i wire going sight (Telling.in_door d t i) refl
         (sym (ap (λ z. Telling.through z (Telling.in_door new t i)) wires_are ∙ ap (λ z. Telling.through wires (Telling.joined (slice_get (Telling.inputs_of (slice_get z t)) i))) doors_are) ∙ at);
   }
@@ -101,6 +211,10 @@ module _ (net : Net) (texts : ℕ → List ℕ) (st : State) (left : Left) (d : 
       by_door : (t : Who) (i : ℕ) (wire : WireState) → has_ended (past now t) ≡ false → in_sight i (past now t) ≡ true → (x : Option ℕ) → Telling.in_door d t i ≡ x → Telling.through wires x ≡ Some wire → IsSome (at_hand wire)
       by_door t i wire going sight None door at = cc
       by_door t i wire going sight (Some j) door at = shown t i j wire going sight door at
+
+  -- how far a wire was
+  was_steady : (j : ℕ) (wire : WireState) → slice_get d.wires j ≡ Some wire → IsSteady wire
+  was_steady j wire at = record { paced = pacing.paced j wire at; roomy = pacing.roomy j wire at }
 
   -- what was at hand
   was_shown : (t : Who) (i j : ℕ) (wire : WireState) → has_ended (past st t) ≡ false → in_sight i (past st t) ≡ true → Telling.in_door d t i ≡ Some j → slice_get d.wires j ≡ Some wire → IsSome (at_hand wire)
@@ -149,12 +263,12 @@ module _ (net : Net) (texts : ℕ → List ℕ) (st : State) (left : Left) (d : 
 
     -- an event that moves nothing
     pacing_still : ((i : ℕ) (rec : List ℕ) → e ≢ Saw i rec) → (new : DeskState) → new.wires ≡ d.wires → new.doors ≡ d.doors → IsPacing (with_event st s e) new
-    pacing_still none new wires_are doors_are = with_wires (with_event st s e) new d.wires wires_are doors_are pacing.paced
+    pacing_still none new wires_are doors_are = with_wires (with_event st s e) new d.wires wires_are doors_are was_steady
         (λ t i j wire going sight door at. was_shown t i j wire (went t going) (saw_before none t i sight) door at)
 
   -- a record that is seen is at hand
   pacing_saw : (i : ℕ) (rec : List ℕ) → licence net st left s k ≡ Some (Saw i rec) → IsPacing (with_event st s (Saw i rec)) (desk_after_turn d s (Told.Saw i))
-  pacing_saw i rec may = with_wires (with_event st s (Saw i rec)) (desk_after_turn d s (Told.Saw i)) d.wires refl refl pacing.paced shown
+  pacing_saw i rec may = with_wires (with_event st s (Saw i rec)) (desk_after_turn d s (Told.Saw i)) d.wires refl refl was_steady shown
     where
       shown : (t : Who) (m j : ℕ) (wire : WireState) → has_ended (past (with_event st s (Saw i rec)) t) ≡ false → in_sight m (past (with_event st s (Saw i rec)) t) ≡ true →
           Telling.in_door d t m ≡ Some j → slice_get d.wires j ≡ Some wire → IsSome (at_hand wire)
@@ -168,7 +282,7 @@ module _ (net : Net) (texts : ℕ → List ℕ) (st : State) (left : Left) (d : 
 
   -- one that is taken was at hand, and is in sight no more
   pacing_took : (i : ℕ) → licence net st left s k ≡ Some (Took i) → IsPacing (with_event st s (Took i)) (desk_after_turn d s (Told.Took i))
-  pacing_took i may = with_wires (with_event st s (Took i)) (desk_after_turn d s (Told.Took i)) (list_changed_behind d.wires taken (Telling.in_door d s i)) refl refl paced shown
+  pacing_took i may = with_wires (with_event st s (Took i)) (desk_after_turn d s (Told.Took i)) (list_changed_behind d.wires taken (Telling.in_door d s i)) refl refl steady shown
     where
       wants : want_after (strand_at net st s) (past st s) ≡ Some (Take i)
       wants = given_all (left s) (want_after (strand_at net st s) (past st s)) (Take i) (took_asked (want_at net st left s) i (answer_is (Took i) may))
@@ -180,13 +294,10 @@ module _ (net : Net) (texts : ℕ → List ℕ) (st : State) (left : Left) (d : 
           by_strand None at e = cc
           by_strand (Some strand) at e = wants_take strand (past st s) (own s strand at) i e
 
-      paced : (j : ℕ) (wire : WireState) → slice_get (list_changed_behind d.wires taken (Telling.in_door d s i)) j ≡ Some wire → IsPaced wire.offer wire.puts wire.tooks
-      paced j wire at = elim (now_behind d.wires taken (Telling.in_door d s i) j wire at) [
-        | inl before ↦ pacing.paced j wire before.0
-        | inr now ↦
-            let hand = hand_is now.0 (was_shown s i j now.0 (goes (Took i) may) in_view now.3 now.1) in
-            let here : IsPaced (taken now.0).offer (taken now.0).puts (taken now.0).tooks = inr (ap (λ z. z + 1) (sym hand.0), hand.1) in
-            subst (λ z. IsPaced z.offer z.puts z.tooks) (sym now.2) here
+      steady : (j : ℕ) (wire : WireState) → slice_get (list_changed_behind d.wires taken (Telling.in_door d s i)) j ≡ Some wire → IsSteady wire
+      steady j wire at = elim (now_behind d.wires taken (Telling.in_door d s i) j wire at) [
+        | inl before ↦ was_steady j wire before.0
+        | inr now ↦ subst IsSteady (sym now.2) (steady_taken now.0 (was_shown s i j now.0 (goes (Took i) may) in_view now.3 now.1) (was_steady j now.0 now.1))
       ]
 
       taken_off : (t : Who) (m : ℕ) → t ≡ s → m ≡ i → in_sight m (past (with_event st s (Took i)) t) ≡ false
@@ -203,21 +314,23 @@ module _ (net : Net) (texts : ℕ → List ℕ) (st : State) (left : Left) (d : 
             let no : true ≡ false = sym sight ∙ taken_off t m one.0 one.1 in cc
       ]
 
-  -- one that is put was taken, so it was at hand no more
+  -- one that is put was taken at a rendezvous, and waits in a queue behind what was at hand
   pacing_put : (o : ℕ) (rec : List ℕ) → licence net st left s k ≡ Some (Put o rec) → IsPacing (with_event st s (Put o rec)) (desk_after_turn d s (Told.Put o))
-  pacing_put o rec may = with_wires (with_event st s (Put o rec)) (desk_after_turn d s (Told.Put o)) (list_changed_behind d.wires settled (Telling.out_door d s o)) refl refl paced shown
+  pacing_put o rec may = with_wires (with_event st s (Put o rec)) (desk_after_turn d s (Told.Put o)) (list_changed_behind d.wires settled (Telling.out_door d s o)) refl refl steady shown
     where
-      was_taken : (j : ℕ) (wire : WireState) → Telling.out_door d s o ≡ Some j → slice_get d.wires j ≡ Some wire → wire.puts < wire.tooks
-      was_taken j wire door at = ltb-true wire.puts wire.tooks (sym (ap Telling.can_put (ap (Telling.through d.wires) door ∙ at)) ∙ told_is (Put o rec) may)
+      may_go : (j : ℕ) (wire : WireState) → Telling.out_door d s o ≡ Some j → slice_get d.wires j ≡ Some wire → Telling.can_put (Some wire) ≡ true
+      may_go j wire door at = sym (ap Telling.can_put (ap (Telling.through d.wires) door ∙ at)) ∙ told_is (Put o rec) may
 
-      level : (wire : WireState) → wire.puts < wire.tooks → IsPaced wire.offer wire.puts wire.tooks → IsPaced (settled wire).offer (settled wire).puts (settled wire).tooks
-      level wire less (inl e) = absurd (omega (arith, less, e))
-      level wire less (inr p) = inl p.0
+      offer_is : (j : ℕ) (wire : WireState) → Telling.out_door d s o ≡ Some j → slice_get d.wires j ≡ Some wire → IsSome wire.offer
+      offer_is j wire door at =
+          let link = beside d.wires net.links j wire kept.laid.wire_count at in
+          let ends = behind_out net st d kept.laid s o j link.0 door link.1 in
+          offer_there net texts st left link.0 wire s o rec (kept.wires j link.0 wire link.1 at) ends.0 ends.1 (put_wanted net st left s k o rec may)
 
-      paced : (j : ℕ) (wire : WireState) → slice_get (list_changed_behind d.wires settled (Telling.out_door d s o)) j ≡ Some wire → IsPaced wire.offer wire.puts wire.tooks
-      paced j wire at = elim (now_behind d.wires settled (Telling.out_door d s o) j wire at) [
-        | inl before ↦ pacing.paced j wire before.0
-        | inr now ↦ subst (λ z. IsPaced z.offer z.puts z.tooks) (sym now.2) (level now.0 (was_taken j now.0 now.3 now.1) (pacing.paced j now.0 now.1))
+      steady : (j : ℕ) (wire : WireState) → slice_get (list_changed_behind d.wires settled (Telling.out_door d s o)) j ≡ Some wire → IsSteady wire
+      steady j wire at = elim (now_behind d.wires settled (Telling.out_door d s o) j wire at) [
+        | inl before ↦ was_steady j wire before.0
+        | inr now ↦ subst IsSteady (sym now.2) (steady_settled now.0 (may_go j now.0 now.3 now.1) (offer_is j now.0 now.3 now.1) (was_steady j now.0 now.1))
       ]
 
       shown : (t : Who) (m j : ℕ) (wire : WireState) → has_ended (past (with_event st s (Put o rec)) t) ≡ false → in_sight m (past (with_event st s (Put o rec)) t) ≡ true →
@@ -227,24 +340,21 @@ module _ (net : Net) (texts : ℕ → List ℕ) (st : State) (left : Left) (d : 
           elim (now_behind d.wires settled (Telling.out_door d s o) j wire at) [
             | inl before ↦ was_shown t m j wire (went (Put o rec) may t going) seen door before.0
             | inr now ↦
-                let hand = hand_is now.0 (was_shown t m j now.0 (went (Put o rec) may t going) seen door now.1) in
-                absurd (omega (arith, hand.0, was_taken j now.0 now.3 now.1))
+                let hand = was_shown t m j now.0 (went (Put o rec) may t going) seen door now.1 in
+                subst (λ z. IsSome (at_hand z)) (sym now.2) (settled_hand now.0 (may_go j now.0 now.3 now.1) hand)
           ]
 
   -- one that is refused is not in sight, since its consumer has ended
   pacing_refused : (o : ℕ) → licence net st left s k ≡ Some (Refused o) → IsPacing (with_event st s (Refused o)) (desk_after_turn d s (Told.Refused o))
-  pacing_refused o may = with_wires (with_event st s (Refused o)) (desk_after_turn d s (Told.Refused o)) (list_changed_behind d.wires cleared (Telling.out_door d s o)) refl refl paced shown
+  pacing_refused o may = with_wires (with_event st s (Refused o)) (desk_after_turn d s (Told.Refused o)) (list_changed_behind d.wires cleared (Telling.out_door d s o)) refl refl steady shown
     where
-      was_shut : (j : ℕ) (wire : WireState) → Telling.out_door d s o ≡ Some j → slice_get d.wires j ≡ Some wire → (wire.in_closed ≡ true) × (Telling.is_even wire ≡ true)
-      was_shut j wire door at = both wire.in_closed (Telling.is_even wire) (sym (ap Telling.can_refuse (ap (Telling.through d.wires) door ∙ at)) ∙ told_is (Refused o) may)
+      may_go : (j : ℕ) (wire : WireState) → Telling.out_door d s o ≡ Some j → slice_get d.wires j ≡ Some wire → Telling.can_refuse (Some wire) ≡ true
+      may_go j wire door at = sym (ap Telling.can_refuse (ap (Telling.through d.wires) door ∙ at)) ∙ told_is (Refused o) may
 
-      paced : (j : ℕ) (wire : WireState) → slice_get (list_changed_behind d.wires cleared (Telling.out_door d s o)) j ≡ Some wire → IsPaced wire.offer wire.puts wire.tooks
-      paced j wire at = elim (now_behind d.wires cleared (Telling.out_door d s o) j wire at) [
-        | inl before ↦ pacing.paced j wire before.0
-        | inr now ↦
-            let even : now.0.puts ≡ now.0.tooks = eqb-true _ _ (was_shut j now.0 now.3 now.1).1 in
-            let here : IsPaced (cleared now.0).offer (cleared now.0).puts (cleared now.0).tooks = inl (sym even) in
-            subst (λ z. IsPaced z.offer z.puts z.tooks) (sym now.2) here
+      steady : (j : ℕ) (wire : WireState) → slice_get (list_changed_behind d.wires cleared (Telling.out_door d s o)) j ≡ Some wire → IsSteady wire
+      steady j wire at = elim (now_behind d.wires cleared (Telling.out_door d s o) j wire at) [
+        | inl before ↦ was_steady j wire before.0
+        | inr now ↦ subst IsSteady (sym now.2) (steady_cleared now.0 (may_go j now.0 now.3 now.1) (was_steady j now.0 now.1))
       ]
 
       shown : (t : Who) (m j : ℕ) (wire : WireState) → has_ended (past (with_event st s (Refused o)) t) ≡ false → in_sight m (past (with_event st s (Refused o)) t) ≡ true →
@@ -254,14 +364,14 @@ module _ (net : Net) (texts : ℕ → List ℕ) (st : State) (left : Left) (d : 
         | inr now ↦
             let link = beside d.wires net.links j now.0 kept.laid.wire_count now.1 in
             let to = (behind_in net st d kept.laid t m j link.0 door link.1).0 in
-            let shut : has_ended (past st link.0.to) ≡ true = sym (kept.wires j link.0 now.0 link.1 now.1).in_closed ∙ (was_shut j now.0 now.3 now.1).0 in
+            let shut : has_ended (past st link.0.to) ≡ true = sym (kept.wires j link.0 now.0 link.1 now.1).in_closed ∙ (refusal_is now.0 (may_go j now.0 now.3 now.1)).1 in
             let no : true ≡ false = sym shut ∙ ap (λ z. has_ended (past st z)) to ∙ went (Refused o) may t going in cc
       ]
 
   -- an end only closes
   pacing_ended : (code : ℤ) → licence net st left s k ≡ Some (Ended code) → IsPacing (with_event st s (Ended code)) (desk_after_turn d s (Told.Ended code))
   pacing_ended code may = with_wires (with_event st s (Ended code)) (desk_after_turn d s (Told.Ended code)) wires refl refl
-      (λ j wire at. let r = before j wire at in like_paced wire r.0 r.2 (pacing.paced j r.0 r.1))
+      (λ j wire at. let r = before j wire at in like_steady wire r.0 r.2 (was_steady j r.0 r.1))
       (λ t i j wire going sight door at. let r = before j wire at in
       like_hand wire r.0 r.2 (was_shown t i j r.0 (went (Ended code) may t going) (saw_before (Ended code) may (λ z rec. λ q. cc) t i sight) door r.1))
     where
@@ -270,9 +380,9 @@ module _ (net : Net) (texts : ℕ → List ℕ) (st : State) (left : Left) (d : 
 
       before : (j : ℕ) (wire : WireState) → slice_get wires j ≡ Some wire → (old : WireState) × (slice_get d.wires j ≡ Some old) × IsLike wire old
       before j wire at =
-          let a = all_like in_shut (λ w. record { offer = refl; puts = refl; tooks = refl }) (Telling.inputs_of (slice_get d.doors s)) (wires_changed out_shut (Telling.outputs_of (slice_get d.doors s)) d.wires) j wire at in
-          let b = all_like out_shut (λ w. record { offer = refl; puts = refl; tooks = refl }) (Telling.outputs_of (slice_get d.doors s)) d.wires j a.0 a.1 in
-          (b.0, b.1, record { offer = a.2.offer ∙ b.2.offer; puts = a.2.puts ∙ b.2.puts; tooks = a.2.tooks ∙ b.2.tooks })
+          let a = all_like in_shut (λ w. record { offer = refl; puts = refl; tooks = refl; queue = refl; reserved = refl }) (Telling.inputs_of (slice_get d.doors s)) (wires_changed out_shut (Telling.outputs_of (slice_get d.doors s)) d.wires) j wire at in
+          let b = all_like out_shut (λ w. record { offer = refl; puts = refl; tooks = refl; queue = refl; reserved = refl }) (Telling.outputs_of (slice_get d.doors s)) d.wires j a.0 a.1 in
+          (b.0, b.1, both_like wire a.0 b.0 a.2 b.2)
 
   by_event : (e : Event) → licence net st left s k ≡ Some e → IsPacing (with_event st s e) (desk_after_turn d s (told e))
   by_event (Saw i rec) may = pacing_saw i rec may
@@ -299,25 +409,25 @@ pacing_made net texts st left d s k e formed own kept pacing may = by_event net 
 module _ (d new : DeskState) (st : State) (s : Who) (pacing : IsPacing st d) where
   -- who writes nothing leaves all wires
   pacing_plain : (w : Coming) → new ≡ desk_at_home d s (ask_for w) → IsPacing st new
-  pacing_plain w come = subst (IsPacing st) (sym come) (record { paced = pacing.paced; shown = pacing.shown })
+  pacing_plain w come = subst (IsPacing st) (sym come) (record { paced = pacing.paced; roomy = pacing.roomy; shown = pacing.shown })
 
-  -- who writes offers where nothing was offered, so nothing was at hand
+  -- who writes offers where nothing was offered, so that only in a queue something was at hand
   pacing_offer : (o grip : ℕ) → CanAsk d s (Now.Write o) → new ≡ desk_at_home_writing d s o grip → IsPacing st new
   pacing_offer o grip can come = subst (IsPacing st) (sym come) here
     where
       no_offer : (j : ℕ) (wire : WireState) → Telling.out_door d s o ≡ Some j → slice_get d.wires j ≡ Some wire → wire.offer ≡ None
       no_offer j wire door at = can.1 wire (ap (Telling.through d.wires) door ∙ at)
 
-      level : (grip : ℕ) (wire : WireState) → wire.offer ≡ None → IsPaced wire.offer wire.puts wire.tooks → IsPaced (offers grip wire).offer (offers grip wire).puts (offers grip wire).tooks
-      level grip wire none (inl e) = inl e
-      level grip wire none (inr p) = let no : false ≡ true = sym (ap is_some none) ∙ p.1 in cc
+      steady : (j : ℕ) (wire : WireState) → slice_get (list_changed_behind d.wires (offers grip) (Telling.out_door d s o)) j ≡ Some wire → IsSteady wire
+      steady j wire at = elim (now_behind d.wires (offers grip) (Telling.out_door d s o) j wire at) [
+        | inl before ↦ record { paced = pacing.paced j wire before.0; roomy = pacing.roomy j wire before.0 }
+        | inr now ↦ subst IsSteady (sym now.2) (steady_offers grip now.0 (no_offer j now.0 now.3 now.1) (record { paced = pacing.paced j now.0 now.1; roomy = pacing.roomy j now.0 now.1 }))
+      ]
 
       here : IsPacing st (desk_at_home_writing d s o grip)
       here = record {
-        paced = λ j wire at. elim (now_behind d.wires (offers grip) (Telling.out_door d s o) j wire at) [
-          | inl before ↦ pacing.paced j wire before.0
-          | inr now ↦ subst (λ z. IsPaced z.offer z.puts z.tooks) (sym now.2) (level grip now.0 (no_offer j now.0 now.3 now.1) (pacing.paced j now.0 now.1))
-        ];
+        paced = λ j wire at. (steady j wire at).paced;
+        roomy = λ j wire at. (steady j wire at).roomy;
         shown = λ t i wire going sight at. by_door t i wire going sight (Telling.in_door d t i) refl at;
       }
         where
@@ -327,13 +437,13 @@ module _ (d new : DeskState) (st : State) (s : Who) (pacing : IsPacing st d) whe
           by_door t i wire going sight (Some j) door at = elim (now_behind d.wires (offers grip) (Telling.out_door d s o) j wire at) [
             | inl before ↦ pacing.shown t i wire going sight (ap (Telling.through d.wires) door ∙ before.0)
             | inr now ↦
-                let hand = hand_is now.0 (pacing.shown t i now.0 going sight (ap (Telling.through d.wires) door ∙ now.1)) in
-                let no : false ≡ true = sym (ap is_some (no_offer j now.0 now.3 now.1)) ∙ hand.1 in cc
+                let hand = pacing.shown t i now.0 going sight (ap (Telling.through d.wires) door ∙ now.1) in
+                subst (λ z. IsSome (at_hand z)) (sym now.2) (offered_hand grip now.0 (no_offer j now.0 now.3 now.1) hand)
           ]
 
 -- a strand that comes home keeps the pace
 pub pacing_home : (d new : DeskState) (st : State) (pool after : PoolState) (s : Who) (w : Coming) → IsPacing st d → CanCome d pool s w → HasCome d pool s w new after → IsPacing st new
-pacing_home d new st pool after s (come.Write o out) pacing can came = pacing_offer d new st s pacing o came.0 can.0 came.2
+pacing_home d new st pool after s (come.Write o out) pacing can came = pacing_offer d new st s pacing o came.grip can.0 came.home
 pacing_home d new st pool after s (come.Commit level) pacing can came = pacing_plain d new st s pacing (come.Commit level) came.0
 pacing_home d new st pool after s (come.Read i) pacing can came = pacing_plain d new st s pacing (come.Read i) came.0
 pacing_home d new st pool after s come.Any pacing can came = pacing_plain d new st s pacing come.Any came.0

@@ -1,5 +1,5 @@
 -- A desk tells what the licence's event does.
-use Rattle.std.proofs.Common.{◌≡◌, ℕ, zero, suc, Bool, true, false, cond, ◌&&◌, ◌||◌, not, ◌==◌, List, [], ◌∷◌, length, refl, sym, ◌∙◌, ap, subst, arith, Option, Some, None, is_some, slice_get, ℤ, nat_lt}
+use Rattle.std.proofs.Common.{◌≡◌, inl, inr, ℕ, zero, suc, Bool, true, false, cond, ◌&&◌, ◌||◌, not, ◌==◌, List, [], ◌∷◌, length, refl, sym, ◌∙◌, ap, subst, arith, Option, Some, None, is_some, slice_get, ℤ, nat_lt}
 use Rattle.std.specs.Option.{option_map}
 use Rattle.std.specs.List.{list_all}
 use Rattle.std.specs.Cmp.{both_ways}
@@ -22,11 +22,13 @@ use Rattle.commit_levels.specs.UnitState.{IsLevel}
 use Rattle.commit_levels.specs.UnitState as levels
 use Rattle.commit_levels.proofs.Agreement.{answers_as}
 use Rattle.connectors.specs.WireState.{WireState}
+use Rattle.connectors.specs.WireState as wires
 use Rattle.run_desk.specs.declared.seat.Seat.{Seat}
 use Rattle.run_desk.specs.Desk.{DeskState}
 use Rattle.run_desk.specs.Telling as Telling
 use Rattle.stage_steps.specs.Coroutine.{told}
 use Rattle.run_desk.specs.Standing.{asked, IsWire, link_through, DeskStands}
+use Rattle.run_desk.proofs.Queues.{kind_of, queues_as, oldest_is}
 
 -- Lists
 
@@ -96,13 +98,13 @@ module _ (net : Net) (texts : ℕ → List ℕ) (st : State) (left : Left) (d : 
 
   record AreSame (w : Option WireState) (l : Option Link) : Type 0 where
     none : w ≡ None → l ≡ None
-    some : (x : WireState) → w ≡ Some x → (k : Link) × (l ≡ Some k) × IsWire net texts st left k x × (k.queue ≡ false)
+    some : (x : WireState) → w ≡ Some x → (k : Link) × (l ≡ Some k) × IsWire net texts st left k x
 
   through_is : (j : Option ℕ) → AreSame (Telling.through d.wires j) (link_through net.links j)
   through_is None = record { none = λ e. refl; some = λ x e. cc }
   through_is (Some j) = record {
     none = λ e. ends_too d.wires net.links j kept.laid.wire_count e;
-    some = λ x e. let l = beside d.wires net.links j x kept.laid.wire_count e in (l.0, l.1, kept.wires j l.0 x l.1 e, kept.laid.rendezvous j l.0 l.1);
+    some = λ x e. let l = beside d.wires net.links j x kept.laid.wire_count e in (l.0, l.1, kept.wires j l.0 x l.1 e);
   }
 
   even_is : (l : Link) (w : WireState) → IsWire net texts st left l w → Telling.is_even w ≡ is_level st l
@@ -114,18 +116,25 @@ module _ (net : Net) (texts : ℕ → List ℕ) (st : State) (left : Left) (d : 
 
   shows_is : (w : Option WireState) (l : Option Link) → AreSame w l → Telling.shows w ≡ is_some (at_hand net st left l)
   shows_is None l both_are = ap (λ z. is_some (at_hand net st left z)) (sym (both_are.none refl))
-  shows_is (Some w) l both_are =
-      let s = both_are.some w refl in
-      if_some (Telling.is_even w) w.offer
-      ∙ ap (λ z. Telling.is_even w && z) (map_some w.offer ∙ ap is_some s.2.offer)
-      ∙ ap (λ z. z && is_some (offered s.0.output (want_at net st left s.0.from))) (even_is s.0 w s.2)
-      ∙ sym (if_some (is_level st s.0) (offered s.0.output (want_at net st left s.0.from)))
-      ∙ ap (λ b. is_some (cond b (slice_get (records_on s.0.output (past st s.0.from)) (tooks st s.0)) (cond (is_level st s.0) (offered s.0.output (want_at net st left s.0.from)) None))) (sym s.3)
-      ∙ ap (λ z. is_some (at_hand net st left z)) (sym s.1)
+  shows_is (Some w) l both_are = let s = both_are.some w refl in hand_is s.0 w s.2 ∙ ap (λ z. is_some (at_hand net st left z)) (sym s.1)
     where
       if_some : {A : Type 0} (b : Bool) (x : Option A) → is_some (cond b x None) ≡ (b && is_some x)
       if_some true x = refl
       if_some false x = refl
+
+      hand_is : (k : Link) (w : WireState) → IsWire net texts st left k w → is_some (wires.at_hand w) ≡ is_some (at_hand net st left (Some k))
+      hand_is k w is =
+          let there = slice_get (records_on k.output (past st k.from)) (tooks st k) in
+          let offer = offered k.output (want_at net st left k.from) in
+          elim (kind_of net texts st left k w is) [
+            | inl m ↦
+                ap (λ q. is_some (wires.hand_of w q)) m.0 ∙ if_some (Telling.is_even w) w.offer
+                ∙ ap (λ z. Telling.is_even w && z) (map_some w.offer ∙ ap is_some is.offer) ∙ ap (λ z. z && is_some offer) (even_is k w is)
+                ∙ sym (if_some (is_level st k) offer) ∙ ap (λ b. is_some (cond b there (cond (is_level st k) offer None))) (sym m.1)
+            | inr q ↦
+                ap (λ z. is_some (wires.hand_of w z)) q.wire_is ∙ map_some (slice_get q.waiting 0) ∙ ap is_some (oldest_is texts st k w q)
+                ∙ ap (λ b. is_some (cond b there (cond (is_level st k) offer None))) (sym q.link_is)
+          ]
 
   over_is : (w : Option WireState) (l : Option Link) → AreSame w l → Telling.is_over w ≡ is_over st l
   over_is None l both_are = ap (is_over st) (sym (both_are.none refl))
@@ -137,15 +146,15 @@ module _ (net : Net) (texts : ℕ → List ℕ) (st : State) (left : Left) (d : 
   put_is None l both_are = ap (may_put st) (sym (both_are.none refl))
   put_is (Some w) l both_are =
       let s = both_are.some w refl in
-      ap (λ z. nat_lt z w.tooks) s.2.puts ∙ ap (λ z. nat_lt (puts st s.0) z) s.2.tooks
-      ∙ ap (λ b. b || nat_lt (puts st s.0) (tooks st s.0)) (sym s.3) ∙ ap (may_put st) (sym s.1)
+      ap (λ b. b || nat_lt w.puts w.tooks) (queues_as net texts st left s.0 w s.2) ∙ ap (λ z. s.0.queue || nat_lt z w.tooks) s.2.puts
+      ∙ ap (λ z. s.0.queue || nat_lt (puts st s.0) z) s.2.tooks ∙ ap (may_put st) (sym s.1)
 
   refuse_is : (w : Option WireState) (l : Option Link) → AreSame w l → Telling.can_refuse w ≡ may_refuse st l
   refuse_is None l both_are = ap (may_refuse st) (sym (both_are.none refl))
   refuse_is (Some w) l both_are =
       let s = both_are.some w refl in
-      ap (λ z. z && Telling.is_even w) s.2.in_closed ∙ ap (λ z. in_closed st s.0 && z) (even_is s.0 w s.2)
-      ∙ ap (λ b. not b && (in_closed st s.0 && is_level st s.0)) (sym s.3) ∙ ap (may_refuse st) (sym s.1)
+      ap (λ b. not b && (w.in_closed && Telling.is_even w)) (queues_as net texts st left s.0 w s.2) ∙ ap (λ z. not s.0.queue && (z && Telling.is_even w)) s.2.in_closed
+      ∙ ap (λ z. not s.0.queue && (in_closed st s.0 && z)) (even_is s.0 w s.2) ∙ ap (may_refuse st) (sym s.1)
 
   in_same : (s : Who) (i : ℕ) → AreSame (Telling.wire_in d s i) (link_in net st s i)
   in_same s i = subst (AreSame (Telling.wire_in d s i)) (sym (kept.laid.in_doors s i)) (through_is (Telling.in_door d s i))

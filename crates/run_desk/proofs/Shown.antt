@@ -1,5 +1,5 @@
 -- The sights of a desk after a turn hold what was seen last.
-use Rattle.std.proofs.Common.{◌≡◌, ◌≢◌, ◌⊎◌, inl, inr, ℕ, ℤ, ◌<◌, true, false, cond, ◌==◌, List, ◌∷◌, length, refl, sym, ◌∙◌, ap, subst, Option, Some, None, slice_get}
+use Rattle.std.proofs.Common.{◌≡◌, ◌≢◌, ◌⊎◌, inl, inr, ℕ, ℤ, ◌<◌, Bool, true, false, cond, ◌==◌, List, ◌∷◌, length, refl, sym, ◌∙◌, ap, subst, Option, Some, None, slice_get}
 use Rattle.std.specs.Option.{option_map}
 use Rattle.std.proofs.lemmas.Bool.{ne_eqb}
 use Rattle.std.proofs.lemmas.Option.{slice_get_within}
@@ -15,25 +15,33 @@ use Rattle.pipe_model.proofs.Lists.{at_some}
 use Rattle.confluence_laws.proofs.Basics.{at_same, at_other}
 use Rattle.confluence_laws.proofs.Reached.{saw_it}
 use Rattle.stage_steps.specs.Coroutine.{told, record_seen_on}
-use Rattle.connectors.specs.WireState.{WireState}
+use Rattle.connectors.specs.WireState.{WireState, hand_of}
 use Rattle.run_desk.specs.Desk.{DeskState}
 use Rattle.run_desk.specs.Telling.{joined, through, wire_in, in_door, sights_of, sight_door, sight_through}
 use Rattle.run_desk.specs.Standing.{IsWire, IsSight, IsLaid, DeskStands, link_through}
 use Rattle.run_desk.specs.Turns.{list_changed_behind, hand_on, sights_seen, sights_without, ends, rest_after_turn}
 use Rattle.run_desk.proofs.Lists.{changed_here, map_back}
+use Rattle.run_desk.proofs.Queues.{kind_of, oldest_is}
 use Rattle.run_desk.proofs.SightDoors.{has_sight, through_changed, through_without}
 use Rattle.run_desk.proofs.Events.{looks_at, last_stays, ended_stays}
 
 -- the record at hand on a wire is the one that is at hand on its link
-pub hand_of : (net : Net) (texts : ℕ → List ℕ) (st : State) (left : Left) (l : Link) (w : WireState) (rec : List ℕ) → IsWire net texts st left l w → l.queue ≡ false →
+pub hand_on_link : (net : Net) (texts : ℕ → List ℕ) (st : State) (left : Left) (l : Link) (w : WireState) (rec : List ℕ) → IsWire net texts st left l w →
     at_hand net st left (Some l) ≡ Some rec → (grip : ℕ) × (hand_on (Some w) ≡ Some grip) × (texts grip ≡ rec)
-hand_of net texts st left l w rec is plain hand =
-    let open_hand : cond (is_level st l) (offered l.output (want_at net st left l.from)) None ≡ Some rec =
-    ap (λ b. cond b (slice_get (records_on l.output (past st l.from)) (tooks st l)) (cond (is_level st l) (offered l.output (want_at net st left l.from)) None)) (sym plain) ∙ hand in
-    let level = cond_some (is_level st l) (offered l.output (want_at net st left l.from)) open_hand in
-    let even : (w.puts == w.tooks) ≡ true = ap (λ z. z == w.tooks) is.puts ∙ ap (λ z. puts st l == z) is.tooks ∙ level.0 in
-    let g = map_back texts w.offer rec (is.offer ∙ level.1) in
-    (g.0, ap (λ b. cond b w.offer None) even ∙ g.1, sym g.2)
+hand_on_link net texts st left l w rec is hand = elim (kind_of net texts st left l w is) [
+  | inl m ↦
+      let level = cond_some (is_level st l) (offered l.output (want_at net st left l.from)) (as_kind false m.1) in
+      let even : (w.puts == w.tooks) ≡ true = ap (λ z. z == w.tooks) is.puts ∙ ap (λ z. puts st l == z) is.tooks ∙ level.0 in
+      let g = map_back texts w.offer rec (is.offer ∙ level.1) in
+      (g.0, ap (hand_of w) m.0 ∙ ap (λ b. cond b w.offer None) even ∙ g.1, sym g.2)
+  | inr k ↦
+      let g = map_back texts (slice_get k.waiting 0) rec (oldest_is texts st l w k ∙ as_kind true k.link_is) in
+      (g.0, ap (hand_of w) k.wire_is ∙ g.1, sym g.2)
+]
+  where
+    as_kind : (b : Bool) → l.queue ≡ b →
+        cond b (slice_get (records_on l.output (past st l.from)) (tooks st l)) (cond (is_level st l) (offered l.output (want_at net st left l.from)) None) ≡ Some rec
+    as_kind b e = ap (λ b. cond b (slice_get (records_on l.output (past st l.from)) (tooks st l)) (cond (is_level st l) (offered l.output (want_at net st left l.from)) None)) (sym e) ∙ hand
 
 -- an input with a record at hand has a sight
 pub sight_of_hand : (net : Net) (st : State) (d : DeskState) → IsLaid net st d → (s : Who) (i grip : ℕ) → hand_on (wire_in d s i) ≡ Some grip → (m : ℕ) × (sight_door d s i ≡ Some m) × (m < length d.sights)
@@ -52,7 +60,7 @@ module _ (net : Net) (texts : ℕ → List ℕ) (st : State) (left : Left) (d : 
       by_link j None at shown = cc
       by_link j (Some l) at shown =
           let w = at_some d.wires j (subst (λ n. j < n) (sym kept.laid.wire_count) (slice_get_within net.links j _ at)) in
-          let h = hand_of net texts st left l w.0 rec (kept.wires j l w.0 at w.1) (kept.laid.rendezvous j l at) shown in
+          let h = hand_on_link net texts st left l w.0 rec (kept.wires j l w.0 at w.1) shown in
           (h.0, ap hand_on w.1 ∙ h.1, h.2)
 
       by_door : (x : Option ℕ) → at_hand net st left (link_through net.links x) ≡ Some rec → (grip : ℕ) × (hand_on (through d.wires x) ≡ Some grip) × (texts grip ≡ rec)

@@ -1,5 +1,5 @@
 -- The desk of a net before the first step.
-use Rattle.std.specs.Prelude.{ℕ, suc, ◌+◌, ◌-◌, false, List, [], ◌∷◌, replicate, length, Some, None}
+use Rattle.std.specs.Prelude.{ℕ, suc, ◌+◌, ◌-◌, false, List, [], ◌∷◌, replicate, map, length, Some, None}
 use Rattle.pipe_model.specs.declared.net.Net.{Net}
 use Rattle.pipe_model.specs.declared.net.Link.{Link}
 use Rattle.pipe_model.specs.declared.net.Strand.{Strand}
@@ -49,7 +49,7 @@ with_links doors j (link ∷ links) = with_link (with_links doors (suc j) links)
 abbrev pub blank_desk : Net → DeskState
 blank_desk net = record {
   seats = replicate (length net.strands) new_seat;
-  wires = replicate (length net.links) new_wire;
+  wires = map (λ (link : Link). new_wire link.queue) net.links;
   sights = replicate (inputs_in net.strands) None;
   doors = with_links (doors_from 0 0 net.strands) 0 net.links;
   unit = new_unit (length net.strands);

@@ -1,9 +1,9 @@
 -- For which net, state and strands left out a desk stands.
-use Rattle.std.specs.Prelude.{◌≡◌, ◌<◌, ◌≤◌, ◌*◌, ℕ, true, false, if◌then◌else◌, List, [], ℤ, slice_get, length, Option, Some, None}
+use Rattle.std.specs.Prelude.{◌≡◌, ◌<◌, ◌≤◌, ◌*◌, ℕ, true, false, if◌then◌else◌, List, [], map, drop, ℤ, slice_get, length, Option, Some, None}
 use Rattle.std.specs.Option.{option_map}
 use Rattle.pipe_model.specs.declared.net.Net.{Net}
 use Rattle.pipe_model.specs.declared.net.Link.{Link}
-use Rattle.pipe_model.specs.Event.{Want, has_ended, has_seen}
+use Rattle.pipe_model.specs.Event.{Want, has_ended, has_seen, records_on}
 use Rattle.pipe_model.specs.Event.Want.{Commit, Read, Any, Gate, Take, Write, Prime, Issue, Join, Sever, Done}
 use Rattle.pipe_model.specs.State.{Who, State, past, same, link_in, link_out}
 use Rattle.pipe_model.specs.Licence.{Left, want_at, puts, tooks, out_closed, in_closed, offered, first_part}
@@ -45,13 +45,19 @@ pub record IsSeat (net : Net) (st : State) (left : Left) (s : Who) (seat : Seat)
   pub ended : seat.has_ended ≡ has_ended (past st s)
   pub seen : seat.has_seen ≡ has_seen (past st s)
 
--- the wire tells the counts of its link, the record that its producer wants to write, and which of its ends has ended; `texts` is what the grips hold
+-- of a queue the records that were put on its link and not taken, the oldest first
+abbrev pub waiting_on : State → Link → Option (List (List ℕ))
+waiting_on st link = if link.queue then Some (drop (tooks st link) (records_on link.output (past st link.from))) else None
+
+-- the wire tells the counts of its link, the record that its producer wants to write, which of its ends has ended, and what waits in a queue; `texts` is what
+-- the grips hold
 pub record IsWire (net : Net) (texts : ℕ → List ℕ) (st : State) (left : Left) (link : Link) (wire : WireState) : Type 0 where
   pub puts : wire.puts ≡ puts st link
   pub tooks : wire.tooks ≡ tooks st link
   pub offer : option_map texts wire.offer ≡ offered link.output (want_at net st left link.from)
   pub out_closed : wire.out_closed ≡ out_closed st link
   pub in_closed : wire.in_closed ≡ in_closed st link
+  pub queue : option_map (map texts) wire.queue ≡ waiting_on st link
 
 -- the sight holds the record that the strand saw last on the input, and none where it saw none, until the strand ends
 abbrev pub IsSight : (ℕ → List ℕ) → State → Who → ℕ → Option ℕ → Type 0
@@ -62,7 +68,7 @@ abbrev pub link_through : List Link → Option ℕ → Option Link
 link_through links None = None
 link_through links (Some j) = slice_get links j
 
--- the tables of the net, which never change: a seat for each strand, a wire for each link, a sight for each input, and doors that lead to the links; so far no link is a queue
+-- the tables of the net, which never change: a seat for each strand, a wire for each link, a sight for each input, and doors that lead to the links
 pub record IsLaid (net : Net) (st : State) (d : DeskState) : Type 0 where
   pub seat_count : length d.seats ≡ length net.strands
   pub wire_count : length d.wires ≡ length net.links
@@ -73,7 +79,6 @@ pub record IsLaid (net : Net) (st : State) (d : DeskState) : Type 0 where
   pub in_doors : (s : Who) (i : ℕ) → link_in net st s i ≡ link_through net.links (in_door d s i)
   pub out_doors : (s : Who) (o : ℕ) → link_out net st s o ≡ link_through net.links (out_door d s o)
   pub firsts : (s : Who) → first_of s (slice_get d.doors s) ≡ first_part net st s
-  pub rendezvous : (j : ℕ) (link : Link) → slice_get net.links j ≡ Some link → link.queue ≡ false
 
 -- the desk stands for the state
 pub record DeskStands (net : Net) (texts : ℕ → List ℕ) (st : State) (left : Left) (d : DeskState) : Type 0 where

@@ -1,5 +1,5 @@
 -- What a strand would be told, read off the plain data of a desk.
-use Rattle.std.specs.Prelude.{◌≡◌, ◌<◌, ℕ, suc, length, Bool, true, false, ◌&&◌, ◌==◌, nat_lt, int_le, if◌then◌else◌, List, [], ◌∷◌, ℤ, pos, negsuc, slice_get, Option, Some, None, is_some}
+use Rattle.std.specs.Prelude.{◌≡◌, ◌<◌, ℕ, suc, length, Bool, true, false, ◌&&◌, ◌||◌, not, ◌==◌, nat_lt, int_le, if◌then◌else◌, List, [], ◌∷◌, ℤ, pos, negsuc, slice_get, Option, Some, None, is_some}
 use Rattle.std.specs.List.{list_all}
 use Rattle.pipe_model.specs.declared.step.Seen.{Seen}
 use Rattle.pipe_model.specs.declared.step.Seen.TheVariants.{Up, Saw, SawEnd, SawAllEnd, Took, Put, Refused, Cut, Primed, Ended}
@@ -98,15 +98,15 @@ abbrev pub is_over : Option WireState → Bool
 is_over None = true
 is_over (Some wire) = wire.out_closed && is_even wire
 
--- the record that is offered was taken
+-- the record that is offered was taken, or goes into a queue
 abbrev pub can_put : Option WireState → Bool
 can_put None = false
-can_put (Some wire) = nat_lt wire.puts wire.tooks
+can_put (Some wire) = is_some wire.queue || nat_lt wire.puts wire.tooks
 
--- the consumer takes no more
+-- the consumer takes no more: a queue never refuses
 abbrev pub can_refuse : Option WireState → Bool
 can_refuse None = false
-can_refuse (Some wire) = wire.in_closed && is_even wire
+can_refuse (Some wire) = not (is_some wire.queue) && (wire.in_closed && is_even wire)
 
 -- nothing will come any more on any input of a strand
 abbrev pub all_over : DeskState → ℕ → Bool

@@ -1,5 +1,5 @@
 -- What a turn does to a desk and its pool, and what a strand that comes home.
-use Rattle.std.specs.Prelude.{◌≡◌, ◌<◌, ◌+◌, ◌-◌, ◌^◌, ℕ, Bool, true, false, ◌||◌, List, [], ◌∷◌, length, ℤ, slice_get, slice_set, Option, Some, None, IsSome}
+use Rattle.std.specs.Prelude.{◌≡◌, ◌<◌, ◌-◌, ◌^◌, ℕ, Bool, true, false, ◌||◌, List, [], ◌∷◌, length, ℤ, slice_get, slice_set, Option, Some, None, IsSome, is_some}
 use Rattle.pipe_model.specs.declared.step.Out.{Out}
 use Rattle.pipe_model.specs.declared.step.Out.TheVariants.{Same, Fresh}
 use Rattle.pipe_model.specs.declared.step.Seen.{Seen}
@@ -8,7 +8,7 @@ use Rattle.pipe_model.specs.declared.step.Want.{Want}
 use Rattle.pipe_model.specs.declared.step.Want.TheVariants as want
 use Rattle.record_pool.specs.PoolState.{PoolState}
 use Rattle.record_pool.specs.Places.{IsHeld, holders_at, record_at, with_record, fresh, shared}
-use Rattle.connectors.specs.WireState.{WireState, at_hand, taken, settled, cleared, offered, IsHeldIn, given_in}
+use Rattle.connectors.specs.WireState.{WireState, at_hand, taken, settled, cleared, offered, with_room, noded_in, pool_taken, pool_settled, unreserved, CanTake, CanSettle, IsHeldIn, given_in}
 use Rattle.commit_levels.specs.UnitState.{IsLevel, IsLive, IsAt, reached_by, ended_by, asked_by, Member}
 use Rattle.commit_levels.specs.declared.member.Progress.TheVariants.{NotAsked, Asked}
 use Rattle.run_desk.specs.declared.seat.Ask.{Ask}
@@ -40,6 +40,33 @@ offer_on (Some wire) = wire.offer
 abbrev pub hand_on : Option WireState → Option ℕ
 hand_on None = None
 hand_on (Some wire) = at_hand wire
+
+-- the pool after the record at hand on a wire was taken, and after the record that was offered on it was put
+abbrev pub pool_after_take : PoolState → Option WireState → PoolState
+pool_after_take pool None = pool
+pool_after_take pool (Some wire) = pool_taken pool wire wire.queue
+
+abbrev pub pool_after_put : PoolState → Option WireState → PoolState
+pool_after_put pool None = pool
+pool_after_put pool (Some wire) = pool_settled pool wire wire.queue
+
+-- and after a place was reserved, where the wire is a queue
+abbrev pub pool_with_room : PoolState → Option WireState → PoolState
+pool_with_room pool None = pool
+pool_with_room pool (Some wire) = noded_in pool wire.queue
+
+-- and after it was given back
+abbrev pub pool_without_room : PoolState → Option WireState → PoolState
+pool_without_room pool None = pool
+pool_without_room pool (Some wire) = unreserved pool wire.reserved
+
+abbrev pub without_room : WireState → WireState
+without_room wire = record wire { reserved = false }
+
+-- the wire is a queue
+abbrev pub queues_up : Option WireState → Bool
+queues_up None = false
+queues_up (Some wire) = is_some wire.queue
 
 -- the producer writes no more
 abbrev pub out_shut : WireState → WireState
@@ -126,7 +153,8 @@ desk_after_turn d s seen = record (rest_after_turn d s seen) { seats = list_chan
 -- and the pool
 abbrev pub pool_after_turn : DeskState → PoolState → ℕ → Seen → PoolState
 pool_after_turn d pool s (Saw i) = pool_seen pool (sight_through d.sights (sight_door d s i)) (hand_on (wire_in d s i))
-pool_after_turn d pool s (Put o) = given_in pool (offer_on (wire_out d s o))
+pool_after_turn d pool s (Took i) = pool_after_take pool (wire_in d s i)
+pool_after_turn d pool s (Put o) = pool_after_put pool (wire_out d s o)
 pool_after_turn d pool s (Refused o) = given_in pool (offer_on (wire_out d s o))
 pool_after_turn d pool s (Ended code) = pool_without (sights_of (slice_get d.doors s)) d.sights pool
 pool_after_turn d pool s _ = pool
@@ -151,13 +179,12 @@ CanTurn d pool s (Saw i) =
     × IsHeldIn pool (sight_through d.sights (sight_door d s i))
 CanTurn d pool s (Took i) =
     Behind (λ wire. IsSome (at_hand wire)) d.wires (in_door d s i)
-    × Behind (λ wire. IsHeldIn pool wire.offer) d.wires (in_door d s i)
+    × Behind (λ wire. CanTake pool wire wire.queue) d.wires (in_door d s i)
     × Behind (λ wire. wire.tooks < 2 ^ 64 - 1) d.wires (in_door d s i)
-CanTurn d pool s (Put o) =
-    Behind (λ wire. wire.tooks ≡ wire.puts + 1) d.wires (out_door d s o)
-    × Behind (λ wire. IsHeldIn pool wire.offer) d.wires (out_door d s o)
+CanTurn d pool s (Put o) = Behind (λ wire. CanSettle pool wire wire.queue) d.wires (out_door d s o)
 CanTurn d pool s (Refused o) =
-    Behind (λ wire. IsSome wire.offer) d.wires (out_door d s o)
+    Behind (λ wire. wire.queue ≡ None) d.wires (out_door d s o)
+    × Behind (λ wire. IsSome wire.offer) d.wires (out_door d s o)
     × Behind (λ wire. wire.tooks ≡ wire.puts) d.wires (out_door d s o)
     × Behind (λ wire. IsHeldIn pool wire.offer) d.wires (out_door d s o)
 CanTurn d pool s (Ended code) = (s < length d.unit) × IsLive d.unit s × CanForget (sights_of (slice_get d.doors s)) d.sights pool
@@ -165,9 +192,9 @@ CanTurn d pool s _ = Unit {0}
 
 -- Coming home
 
--- a record is offered
+-- a record is offered, for which a queue has a place reserved
 abbrev pub offers : ℕ → WireState → WireState
-offers grip wire = offered wire grip
+offers grip wire = offered (with_room wire) grip
 
 -- the grip is the only hold on a new record of these bytes
 abbrev pub IsFresh : PoolState → List ℕ → ℕ → PoolState → Type 0
@@ -206,6 +233,7 @@ CanAsk d s (Write o) =
     IsSome (wire_out d s o)
     × Behind (λ wire. wire.offer ≡ None) d.wires (out_door d s o)
     × Behind (λ wire. wire.out_closed ≡ false) d.wires (out_door d s o)
+    × Behind (λ wire. wire.reserved ≡ false) d.wires (out_door d s o)
 CanAsk d s _ = Unit {0}
 
 abbrev pub CanShare : PoolState → Option ℕ → Type 0
@@ -238,10 +266,6 @@ abbrev pub is_new : Out → Bool
 is_new (Fresh bytes) = true
 is_new (Same i) = false
 
-abbrev pub writes_new : Want → Bool
-writes_new (want.Write o out) = is_new out
-writes_new w = false
-
 -- what is written, and the want, where a new record has been moved out of it
 abbrev pub bare_out : Out → Out
 bare_out (Fresh bytes) = Fresh []
@@ -251,7 +275,24 @@ abbrev pub bare : Want → Want
 bare (want.Write o out) = want.Write o (bare_out out)
 bare w = w
 
--- the desk and the pool after the strand came home with this want
+-- what wants memory: a new record, or a place in a queue
+abbrev pub wants_memory : DeskState → ℕ → Want → Bool
+wants_memory d s (want.Write o out) = is_new out || queues_up (wire_out d s o)
+wants_memory d s w = false
+
+-- the desk and the pool after the strand came home to write through this door, where a place was reserved before
+pub record HasOffered (d : DeskState) (pool : PoolState) (s o : ℕ) (door : Option ℕ) (out : Out) (new : DeskState) (after : PoolState) : Type 0 where
+  pub grip : ℕ
+  pub hold : IsHold d pool s out grip after
+  pub home : new ≡ record d { seats = list_changed_behind d.seats (asking (Write o)) (Some s); wires = list_changed_behind d.wires (λ wire. offered wire grip) door }
+
+-- the desk and the pool after the strand came home to write on an output
+pub record HasWritten (d : DeskState) (pool : PoolState) (s o : ℕ) (out : Out) (new : DeskState) (after : PoolState) : Type 0 where
+  pub grip : ℕ
+  pub hold : IsHold d (pool_with_room pool (wire_out d s o)) s out grip after
+  pub home : new ≡ desk_at_home_writing d s o grip
+
+-- and after it came home with this want
 abbrev pub HasCome : DeskState → PoolState → ℕ → Want → DeskState → PoolState → Type 0
-HasCome d pool s (want.Write o out) new after = (grip : ℕ) × IsHold d pool s out grip after × (new ≡ desk_at_home_writing d s o grip)
+HasCome d pool s (want.Write o out) new after = HasWritten d pool s o out new after
 HasCome d pool s w new after = (new ≡ desk_at_home d s (ask_for w)) × (after ≡ pool)

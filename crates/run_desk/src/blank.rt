@@ -1,6 +1,6 @@
 //! The desk of a net before the first step.
-ghost use Rattle.std.specs.Prelude.{◌≡◌, ◌≤◌, [], ℕ, false, length, replicate, slice_get, Some, None, IfOk};
-ghost use Rattle.pipe_model.specs.declared.net.Link.{Link};
+ghost use Rattle.std.specs.Prelude.{◌≡◌, ◌≤◌, length, map, replicate, None, IfOk};
+ghost use Rattle.pipe_model.specs.declared.net.Link.{Link as LinkIs};
 ghost use Rattle.pipe_model.specs.State.{nothing_yet};
 ghost use Rattle.pipe_model.specs.WellFormed.{IsWellFormed};
 ghost use Rattle.record_pool.specs.PoolState.{empty_pool};
@@ -22,7 +22,6 @@ impl Desk {
     /// for each strand and link.
     pub fn blank(alloc: Global, net: &Net) -> Result<Desk, NoMemory>
         requires formed { IsWellFormed net.now }
-        requires rendezvous { (j : ℕ) (link : Link) → slice_get net.now.links j ≡ Some link → link.queue ≡ false }
         ensures { IfOk result (λ desk. RunStands net.now nothing_yet (out_from 0 (length net.now.strands)) desk empty_pool) }
     {
         lay_out(alloc, net)
@@ -40,7 +39,7 @@ fn lay_out(alloc: Global, net: &Net) -> Result<Desk, NoMemory>
     let unit = Unit::new(alloc, strands.len() as u32)?;
     let (mut doors, inputs) = close_doors(alloc, strands)?;
     lead_all(&mut doors, links);
-    let (wires, sights) = new_holders(alloc, links.len(), inputs as usize)?;
+    let (wires, sights) = new_holders(alloc, links, inputs as usize)?;
     Ok(Desk::new(seats, wires, sights, doors, unit))
 }
 
@@ -55,22 +54,22 @@ fn new_seats(alloc: Global, count: usize) -> Result<Vec<Seat>, NoMemory>
     Ok(vec![in alloc; seat; count]?)
 }
 
-// So many wires and sights, which hold nothing.
+// A wire for each link and so many sights, which hold nothing.
 fn new_holders(
     alloc: Global,
-    links: usize,
+    links: &[Link],
     inputs: usize,
 ) -> Result<(Vec<Wire>, Vec<Option<Grip>>), NoMemory>
-    ensures wires { IfOk result (λ holders. holders.0.items ≡ replicate links new_wire) }
+    ensures wires { IfOk result (λ holders. holders.0.items ≡ map (λ (link : LinkIs). new_wire link.queue) links.now) }
     ensures sights { IfOk result (λ holders. holders.1.items ≡ replicate inputs None) }
 {
-    let mut wires = Vec::with_capacity(alloc, links)?;
+    let mut wires = Vec::with_capacity(alloc, links.len())?;
     let Ok(mut sights) = Vec::with_capacity(alloc, inputs) else {
         wires.destroy_empty();
         return Err(NoMemory);
     };
-    for _ in 0..links {
-        wires.push_reserved(Wire::new(false));
+    for link in links {
+        wires.push_reserved(Wire::new(alloc, link.queue));
     }
     for _ in 0..inputs {
         sights.push_reserved(None);

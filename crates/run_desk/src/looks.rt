@@ -36,7 +36,7 @@ pub(crate) fn can_put(wires: &[Wire], door: Option<u32>) -> bool
         None => false,
         Some(j) => {
             let wire = &wires[j as usize];
-            wire.puts() < wire.tooks()
+            wire.is_queue() || wire.puts() < wire.tooks()
         }
     }
 }
@@ -49,7 +49,7 @@ pub(crate) fn can_refuse(wires: &[Wire], door: Option<u32>) -> bool
         None => false,
         Some(j) => {
             let wire = &wires[j as usize];
-            wire.in_closed() && wire.puts() == wire.tooks()
+            !wire.is_queue() && wire.in_closed() && wire.puts() == wire.tooks()
         }
     }
 }

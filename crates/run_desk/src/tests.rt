@@ -46,7 +46,7 @@ fn told_over(
     let doors = vec![in alloc; doors(alloc, None, Some(0))?, doors(alloc, Some(0), None)?]?;
     let unit = Unit::new(alloc, 0)?;
     let grip = pool.put(b"one")?;
-    let mut wire = Wire::new(false);
+    let mut wire = Wire::new(alloc, false);
     wire.offer(grip);
     if is_taken {
         wire.take(pool);

@@ -5,11 +5,17 @@ use Rattle.run_desk.specs.Holding.{IsPooled}
 use Rattle.run_desk.proofs.Pooled.{pooled_last_wire, pooled_last_sight, none_held}
 use Rattle.run_desk.proofs.records.give_all.Goals as goal
 
+pub drain-requires : goal.drain-requires
+drain-requires c =
+    let all : c.loop-wire.wires.items ≡ c.pop.new.self.items ++ c.in-Some.wire ∷ [] = c.in-Some.ensures.items in
+    let before : IsPooled (c.pop.new.self.items ++ c.in-Some.wire ∷ []) c.args.sights.items c.loop-wire.pool = subst (λ (z : List WireState). IsPooled z c.args.sights.items c.loop-wire.pool) all c.loop-wire.invariant in
+    (pooled_last_wire c.pop.new.self.items c.in-Some.wire c.args.sights.items c.loop-wire.pool before).0
+
 pub loop-wire-preserved : goal.loop-wire-preserved
 loop-wire-preserved c =
     let all : c.loop-wire.wires.items ≡ c.pop.new.self.items ++ c.in-Some.wire ∷ [] = c.in-Some.ensures.items in
     let before : IsPooled (c.pop.new.self.items ++ c.in-Some.wire ∷ []) c.args.sights.items c.loop-wire.pool = subst (λ (z : List WireState). IsPooled z c.args.sights.items c.loop-wire.pool) all c.loop-wire.invariant in
-    rw c.drain.ensures.pool (pooled_last_wire c.pop.new.self.items c.in-Some.wire c.args.sights.items c.loop-wire.pool before)
+    rw c.drain.ensures (pooled_last_wire c.pop.new.self.items c.in-Some.wire c.args.sights.items c.loop-wire.pool before).1
 
 pub loop-sight-preserved-in-Some-sight : goal.loop-sight-preserved-in-Some-sight
 loop-sight-preserved-in-Some-sight c =

@@ -17,8 +17,8 @@ formed net strands links =
     let ring : net ≡ record { strands = strand 0 ConsoleOut (true ∷ []) (true ∷ []) ∷ []; links = rendezvous 0 0 0 0 ∷ [] } = rw (sym strands, sym links) refl in
     subst (λ (n : Net). IsWellFormed n) (sym ring) ring_formed
 
-pub blank-requires-clause-formed : goal.blank-requires-clause-formed
-blank-requires-clause-formed g c = formed c.new-net.result (search rules) (search rules)
+pub blank-requires : goal.blank-requires
+blank-requires g c = record { formed = formed c.new-net.result (search rules) (search rules) }
 
 pub size_at_hand-size-requires : goal.size_at_hand-size-requires
 size_at_hand-size-requires g c =

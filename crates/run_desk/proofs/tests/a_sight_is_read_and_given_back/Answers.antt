@@ -15,7 +15,7 @@ one_held : (pool now : PoolState) (bytes : List ℕ) (grip : ℕ) → pool ≡ e
 one_held pool now bytes grip none put =
     let e : now ≡ with_record empty_pool grip (Some (fresh bytes)) = put ∙ ap (λ z. with_record z grip (Some (fresh bytes))) none in
     subst (λ (z : PoolState). IsPooled [] (Some grip ∷ []) z) (sym e)
-    (pooled_fresh [] [] [] (Some grip ∷ []) empty_pool bytes grip (blank_pooled 0 0) refl (λ other. omega (arith, count_first (holds other) (Some grip) [])))
+    (pooled_fresh [] [] [] (Some grip ∷ []) empty_pool bytes grip (blank_pooled [] 0) refl (λ other. omega (arith, count_first (holds other) (Some grip) [])) refl)
 
 held_lists : (wires : List WireState) (sights : List (Option ℕ)) (now : PoolState) (grip : ℕ) → wires ≡ [] → sights ≡ Some grip ∷ [] → IsPooled [] (Some grip ∷ []) now → IsPooled wires sights now
 held_lists wires sights now grip no_wires one pooled = rw (no_wires, one) pooled

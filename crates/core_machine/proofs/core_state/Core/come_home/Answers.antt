@@ -7,7 +7,7 @@ use Rattle.core_machine.specs.Jobs.{HasGoneOn}
 use Rattle.core_machine.specs.Machine.{Machine, without, is_among, came_home}
 use Rattle.core_machine.specs.Sound.{IsSound}
 use Rattle.core_machine.specs.Woken.{HasReturned}
-use Rattle.core_machine.proofs.Sounds.{in_use, on_floor, place, can_home, came, came_early, sound_home}
+use Rattle.core_machine.proofs.Sounds.{in_use, on_floor, place, can_home, came_early, sound_home}
 use Rattle.core_machine.proofs.Steps.{on_err}
 use Rattle.core_machine.proofs.core_state.Core.come_home.Goals as goal
 
@@ -103,7 +103,7 @@ invariant_of-self-2 g c =
     let net = c.come_home.ensures.net ∙ is.net in
     let home = on_floor (λ n d p. HasReturned d p c.args.strand c.args.want back.desk back.pool) new old (sym is.net) (sym is.desk) (sym is.pool) c.in_ok-come_home.ensures.home in
     let taken = c.take_back.ensures in
-    let sound = sound_home g.S.Stage.stands i.floor.net i.budget i.journal.items i.out.items i.actors.items i.floor.desk i.floor.pool c.self.invariant.0 c.args.strand c.args.place c.args.stage c.args.want among done back.desk back.pool taken.0 taken.1 (came g.S.Stage.stands i.floor.net i.budget i.journal.items i.out.items i.actors.items i.floor.desk i.floor.pool c.self.invariant.0 c.args.strand c.args.place c.args.stage c.args.want among done back.desk back.pool home) c.come_home.new.want (λ no. c.come_home.ensures.bare (c.has_ended-has_ended.ensures ∙ no)) in (
+    let sound = sound_home g.S.Stage.stands i.floor.net i.budget i.journal.items i.out.items i.actors.items i.floor.desk i.floor.pool c.self.invariant.0 c.args.strand c.args.place c.args.stage c.args.want among done back.desk back.pool taken.0 taken.1 home c.come_home.new.want (λ no. c.come_home.ensures.bare (c.has_ended-has_ended.ensures ∙ no)) in (
       subst (λ n. IsSound g.S.Stage.stands n i.budget i.journal.items c.remove.new.out.items c.take_back.new.actors.items back.desk back.pool) (sym net)
           (subst (λ o. IsSound g.S.Stage.stands i.floor.net i.budget i.journal.items o c.take_back.new.actors.items back.desk back.pool) (sym c.remove.ensures.items)
           (subst (λ l. IsSound g.S.Stage.stands i.floor.net i.budget i.journal.items (without c.args.place i.out.items) l back.desk back.pool) (sym taken.2) sound)),

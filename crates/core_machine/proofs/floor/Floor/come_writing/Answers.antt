@@ -38,7 +38,7 @@ rest-requires-clause-writes c =
     let i = c.self.inside in
     let v : ◌≡◌ {A = FloorState} (record { net = i.net; desk = i.desk; pool = i.pool; ready = i.ready }) c.args.self.now = c.self.view_is in
     let wrote = c.in_ok-write_at.ensures.ok in
-    may_write i.desk c.args.strand c.args.o wrote.0 c.write_at.new.self wrote.2 c.out_door-door.result c.out_door-door.ensures.door
+    may_write i.desk c.args.strand c.args.o wrote.grip c.write_at.new.self wrote.home c.out_door-door.result c.out_door-door.ensures.door
 
 pub rest-requires-clause-strand : goal.rest-requires-clause-strand
 rest-requires-clause-strand c =

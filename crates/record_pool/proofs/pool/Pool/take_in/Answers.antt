@@ -1,6 +1,6 @@
 use Rattle.std.proofs.Common.{ℕ, List, length, arith, ap, ◌∙◌}
-use Rattle.std.specs.Prelude.{Some}
-use Rattle.record_pool.specs.PoolState.{PoolState}
+use Rattle.std.specs.Prelude.{Option, Some}
+use Rattle.record_pool.specs.PoolState.{Held, PoolState}
 use Rattle.record_pool.specs.Blocks.{blocks_of}
 use Rattle.record_pool.specs.Places.{record_at, fresh}
 use Rattle.record_pool.proofs.Records.{pool_of, changed_here, others_stay}
@@ -16,8 +16,8 @@ invariant_of-self-2 c =
 
 pub returns-clause-held : goal.returns-clause-held
 returns-clause-held c =
-    changed_here (pool_of c.self.inside.places.items) _ _ _ (ap pool_of c.in_ok-place.ensures.put) ∙ ap (λ (bytes : List ℕ). Some (fresh bytes)) c.replace-bytes.ensures.value
+    changed_here (pool_of c.self.inside.places.items c.self.inside.nodes) _ _ _ (ap (λ (places : List (Option Held)). pool_of places c.self.inside.nodes) c.in_ok-place.ensures.put) ∙ ap (λ (bytes : List ℕ). Some (fresh bytes)) c.replace-bytes.ensures.value
 
 pub returns-clause-others : goal.returns-clause-others
 returns-clause-others c =
-    λ other apart. others_stay (pool_of c.self.inside.places.items) _ _ _ (ap pool_of c.in_ok-place.ensures.put) other apart ∙ ap (λ (pool : PoolState). record_at pool other) c.self.view_is
+    λ other apart. others_stay (pool_of c.self.inside.places.items c.self.inside.nodes) _ _ _ (ap (λ (places : List (Option Held)). pool_of places c.self.inside.nodes) c.in_ok-place.ensures.put) other apart ∙ ap (λ (pool : PoolState). record_at pool other) c.self.view_is

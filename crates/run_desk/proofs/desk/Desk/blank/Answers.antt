@@ -18,4 +18,4 @@ returns c =
     let net = c.args.net.now in
     let left = out_from 0 (length net.strands) in
     IfOk-weaker c.lay_out.result (λ (desk : DeskState). desk ≡ blank_desk net) (λ (desk : DeskState). RunStands net nothing_yet left desk empty_pool)
-    (λ (desk : DeskState) is. subst (λ (z : DeskState). RunStands net nothing_yet left z empty_pool) (sym is) (blank_run net c.requires.formed c.requires.rendezvous)) c.lay_out.ensures
+    (λ (desk : DeskState) is. subst (λ (z : DeskState). RunStands net nothing_yet left z empty_pool) (sym is) (blank_run net c.requires.formed)) c.lay_out.ensures
