@@ -1,4 +1,4 @@
--- Each link leads from one stand to the next, and the links of a net come in the order of the stands.
+-- Each join leads from one stand to the next, and the joins of a specification come in the order of the stands.
 use Rattle.std.proofs.Common.{◌≡◌, ℕ, zero, suc, ◌+◌, ◌≤◌, Bool, true, false, cond, List, [], ◌∷◌, ◌++◌, refl, sym, ◌∙◌, ap, subst, arith, Option, Some, None, slice_get, length, length-append, append-nil, append_assoc}
 use Rattle.std.specs.Prelude.{if◌then◌else◌, ⊤}
 use Rattle.pipe_model.specs.declared.net.Link.{Link}
@@ -8,7 +8,7 @@ use Rattle.net_graph.specs.Nets.{counted, counted_all, join_from, joins_from, jo
 use Rattle.net_graph.proofs.FormedLabels.{stages_with, stages_without}
 use Rattle.net_graph.proofs.FormedSpots.{StandsFor}
 
--- the link leads from the stream of one stand, at this place or after it, to that of the next
+-- the join leads from the stream of one stand, at this place or after it, to that of the next
 pub record IsLead (whole : List Stand) (from : ℕ) (link : Link) : Type 0 where
   pub at : ℕ
   pub after : from ≤ at
@@ -54,7 +54,7 @@ lead_at whole from (l ∷ links) (suc j) link leads is =
     let further = leads.0.after in
     lead_before whole (suc leads.0.at) from link (omega (arith, further)) (lead_at whole (suc leads.0.at) links j link leads.1 is)
 
--- The links of a pipeline
+-- The joins of a pipeline
 
 front_stand : (first : Bool) (piece : Piece) (pieces : List Piece) → (last : Bool) × (stands_in first (piece ∷ pieces) ≡ record { piece = piece; first = first; last = last } ∷ stands_in false pieces)
 front_stand first piece [] = (true, refl)
@@ -81,7 +81,7 @@ counted_more done first (piece ∷ pieces) =
     ∙ counted_more (done ++ stand ∷ []) false pieces
     ∙ ap (λ stands. length (stages_of stands)) (append_assoc done (stand ∷ []) (stands_in false pieces) ∙ ap (λ stands. done ++ stands) (sym front.1))
 
--- the link between two pieces, before others
+-- the join between two pieces, before others
 module _ (whole done rest : List Stand) (source target : Stand) (cut : whole ≡ done ++ source ∷ (target ∷ rest)) (goes_on : source.last ≡ false) (comes : target.first ≡ false) where
   next_cut : whole ≡ (done ++ source ∷ []) ++ target ∷ rest
   next_cut = cut ∙ sym (append_assoc done (source ∷ []) (target ∷ rest))

@@ -1,6 +1,6 @@
 -- Plain facts of tests and lists, from which the net of a specification is proved to be well-formed.
-use Rattle.std.proofs.Common.{◌≡◌, ◌⊎◌, inl, inr, ℕ, zero, suc, ◌+◌, ◌<◌, Bool, true, false, cond, not, nat_lt, List, [], ◌∷◌, ◌++◌, refl, sym, ◌∙◌, ap, arith, Some, slice_get, length}
-use Rattle.std.specs.List.{count_by}
+use Rattle.std.proofs.Common.{◌≡◌, ◌⊎◌, inl, inr, ℕ, zero, suc, ◌+◌, ◌<◌, Bool, true, false, cond, not, nat_lt, List, [], ◌∷◌, ◌++◌, refl, sym, ◌∙◌, ap, arith, Some, slice_get, length, map}
+use Rattle.std.specs.List.{count_by, range_with_len}
 use Rattle.std.proofs.lemmas.Bool.Decides.{nat_tests}
 use Rattle.std.proofs.lemmas.List.Sums.{sum_by-cons}
 
@@ -26,6 +26,29 @@ get_more [] y zero x is = inr (refl, cc)
 get_more [] y (suc k) x is = cc
 get_more (z ∷ xs) y zero x is = inl is
 get_more (z ∷ xs) y (suc k) x is = elim (get_more xs y k x is) [ inl at ↦ inl at | inr new ↦ inr (ap suc new.0, new.1) ]
+
+-- what stands at a place of the first of two lists, and of the second
+pub get_first : {X : Type 0} (xs ys : List X) (k : ℕ) → k < length xs → slice_get (xs ++ ys) k ≡ slice_get xs k
+get_first [] ys k below = absurd (omega (arith, below))
+get_first (x ∷ xs) ys zero below = refl
+get_first (x ∷ xs) ys (suc k) below = get_first xs ys k (omega (arith, below))
+
+pub get_second : {X : Type 0} (xs ys : List X) (k m : ℕ) → length xs + m ≡ k → slice_get (xs ++ ys) k ≡ slice_get ys m
+get_second [] ys k m is = ap (slice_get ys) (omega (arith, is))
+get_second (x ∷ xs) ys zero m is = absurd (omega (arith, is))
+get_second (x ∷ xs) ys (suc k) m is = get_second xs ys k m (omega (arith, is))
+
+-- what stands in a list that was made of another
+pub get_mapped : {X Y : Type 0} (f : X → Y) (xs : List X) (k : ℕ) (y : Y) → slice_get (map f xs) k ≡ Some y → (x : X) × (slice_get xs k ≡ Some x) × (y ≡ f x)
+get_mapped f [] k y is = cc
+get_mapped f (x ∷ xs) zero y is = (x, refl, (let same : f x ≡ y = cc in sym same))
+get_mapped f (x ∷ xs) (suc k) y is = get_mapped f xs k y is
+
+-- of so many numbers one after another
+pub get_numbered : {X : Type 0} (f : ℕ → X) (from n i j : ℕ) → i < n → from + i ≡ j → slice_get (map f (range_with_len from n)) i ≡ Some (f j)
+get_numbered f from zero i j below is = absurd (omega (arith, below))
+get_numbered f from (suc n) zero j below is = ap (λ x. Some (f x)) (omega (arith, is))
+get_numbered f from (suc n) (suc i) j below is = get_numbered f (from + 1) n i j (omega (arith, below)) (omega (arith, is))
 
 -- of two ways to part a list at an element, the one further right has the other's element before it
 pub further_right : {X : Type 0} (a b c d : List X) (x y : X) → a ++ x ∷ b ≡ c ++ y ∷ d → length a < length c → (between : List X) × (c ≡ a ++ x ∷ between)

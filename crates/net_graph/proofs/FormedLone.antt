@@ -1,4 +1,4 @@
--- No output and no input has two links.
+-- No two joins leave one stream, and no two come to one.
 use Rattle.std.proofs.Common.{◌≡◌, ℕ, zero, suc, List, [], ◌∷◌, refl, sym, ◌∙◌, ap, arith, Some, slice_get}
 use Rattle.pipe_model.specs.declared.net.Link.{Link}
 use Rattle.spec_scanner.specs.declared.piece.Piece.{Piece}
@@ -18,7 +18,7 @@ module _ (pipelines : List (List Piece)) (scanned : AreScanned pipelines) where
       one_stand pipelines scanned (suc first.at) (suc second.at) first.target second.target (record { stage = a.to; stream = a.input }) (record { stage = b.to; stream = b.input })
       first.target_for second.target_for to input
 
-  -- a link further right starts further right
+  -- a join further right starts further right
   module _ (l : Link) (n : ℕ) (first : IsLead (stands_of pipelines) n l) (links : List Link) (leads : AreLeads (stands_of pipelines) (suc first.at) links) (k : ℕ) (b : Link) (there : slice_get links k ≡ Some b) where
     other_source : l.from ≡ b.from → l.output ≡ b.output → ⊥
     other_source from output =

@@ -16,19 +16,23 @@ use Rattle.spec_scanner.specs.Straight.{IsStraight}
 use Rattle.spec_scanner.proofs.StraightParts.{length-locates}
 use Rattle.net_graph.specs.Faults.{IsGraph}
 use Rattle.net_graph.specs.Line.{first_strand, line_net, strands_from as line_from}
-use Rattle.net_graph.specs.Nets.{AreOutcomes, joins_from, joins_in}
+use Rattle.net_graph.specs.Nets.{AreOutcomes, joins_from, joins_in, sizes_of}
 use Rattle.net_graph.proofs.WholeNets.{whole_net, whole_strands}
 use Rattle.net_graph.specs.Stands.{Stand, stages_of, stands_in, stands_of, streams_of}
 use Rattle.net_graph.proofs.StraightChains.{links_later}
 use Rattle.net_graph.proofs.StraightFaults.{ReplaceNone, line_faultless}
-use Rattle.net_graph.proofs.StraightKinds.{console_is, kinds_later, later_are, later_replace_none}
+use Rattle.net_graph.proofs.StraightKinds.{console_is, kinds_later, later_are, later_replace_none, later_whole}
 use Rattle.net_graph.proofs.StraightPieces.{all_stages, one_stream, pieces_of, stands_of_one}
 use Rattle.net_graph.proofs.StraightStrands.{first_is, strands_later}
-use Rattle.net_graph.proofs.WholeStages.{whole_same}
+use Rattle.net_graph.proofs.WholeStages.{AreWhole, whole_same}
 
 -- the kinds of the stages
 abbrev kinds_of : List (List ℕ) → List Kind
 kinds_of strings = ConsoleIn [] ∷ kinds_later strings
+
+kinds_whole : (stands stages : List Stand) (strings : List (List ℕ)) → AreWhole (sizes_of stands stages (kinds_of strings))
+kinds_whole stands [] strings = tt
+kinds_whole stands (stage ∷ stages) strings = (refl, later_whole stands stages strings)
 
 replace_none : (strings : List (List ℕ)) → ReplaceNone (kinds_of strings)
 replace_none strings zero = refl
@@ -83,7 +87,7 @@ module _ (first : Spelled) (stages : List Spelled) (strings : List (List ℕ)) (
         kinds = kinds_of strings;
         read = read_are;
         good = rw one (line_faultless (stands_in true (pieces_of (first ∷ stages))) (kinds_of strings) (replace_none strings) first stages strings console later (omega arith));
-        net_is = sym (whole_same (pieces_of (first ∷ stages) ∷ []) (kinds_of strings) read_are ∙ net_is_line);
+        net_is = sym (whole_same (pieces_of (first ∷ stages) ∷ []) (kinds_of strings) (kinds_whole (stands_of (pieces_of (first ∷ stages) ∷ [])) (stages_of (stands_of (pieces_of (first ∷ stages) ∷ []))) strings) read_are ∙ net_is_line);
       }
 
 -- the text of a straight line makes its net

@@ -13,9 +13,10 @@ use Rattle.stage_syntax.specs.declared.part.Value.TheVariants as Read
 use Rattle.spec_scanner.proofs.StraightStages.{AreLater, IsConsoleStage, IsLocateStage}
 use Rattle.spec_scanner.proofs.StraightWords.{Spelled}
 use Rattle.net_graph.specs.Faults.{replaced_by}
-use Rattle.net_graph.specs.Nets.{AreOutcomes}
-use Rattle.net_graph.specs.Stands.{stands_in}
+use Rattle.net_graph.specs.Nets.{AreOutcomes, sizes_of}
+use Rattle.net_graph.specs.Stands.{Stand, stands_in}
 use Rattle.net_graph.proofs.StraightPieces.{pieces_of}
+use Rattle.net_graph.proofs.WholeStages.{AreWhole}
 
 -- the kinds of the stages after the first
 abbrev pub kinds_later : List (List ℕ) → List Kind
@@ -52,3 +53,13 @@ later_are (stage ∷ []) [] later = (console_is stage false later, tt)
 later_are (stage ∷ []) (string ∷ strings) later = absurd later
 later_are (stage ∷ (next ∷ stages)) [] later = absurd later
 later_are (stage ∷ (next ∷ stages)) (string ∷ strings) later = (locate_is stage string false later.0, later_are (next ∷ stages) strings later.1)
+
+-- each of them has one strand
+none_whole : (stands stages : List Stand) → AreWhole (sizes_of stands stages [])
+none_whole stands [] = tt
+none_whole stands (stage ∷ stages) = tt
+
+pub later_whole : (stands stages : List Stand) (strings : List (List ℕ)) → AreWhole (sizes_of stands stages (kinds_later strings))
+later_whole stands [] strings = tt
+later_whole stands (stage ∷ stages) [] = (refl, none_whole stands stages)
+later_whole stands (stage ∷ stages) (string ∷ strings) = (refl, later_whole stands stages strings)

@@ -1,4 +1,4 @@
--- Nets as the code makes them, where every stage has one strand: the strands are the stages, and the links their joins.
+-- Nets in which every stage has one strand: the strands are the stages, and the links their joins.
 use Rattle.std.specs.Prelude.{ℕ, suc, min, List, [], ◌∷◌}
 use Rattle.pipe_model.specs.declared.kind.Kind.{Kind}
 use Rattle.pipe_model.specs.declared.net.Link.{Link}

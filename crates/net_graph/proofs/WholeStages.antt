@@ -1,11 +1,7 @@
 -- Where every stage has one strand, the strands of a net are its stages and the links its joins.
-use Rattle.std.proofs.Common.{◌≡◌, ℕ, zero, suc, ◌+◌, ◌≤◌, false, List, [], ◌∷◌, ◌++◌, refl, sym, ◌∙◌, ap, ap₂, subst, arith, Option, Some, None, length, length-append, map, take, append-nil}
+use Rattle.std.proofs.Common.{◌≡◌, ℕ, zero, suc, ◌+◌, ◌≤◌, ◌<◌, false, List, [], ◌∷◌, ◌++◌, refl, sym, ◌∙◌, ap, ap₂, arith, length, map, append-nil}
 use Rattle.std.specs.Prelude.{Ok, ⊤}
 use Rattle.std.specs.List.{range_with_len}
-use Rattle.std.specs.Option.{option_map}
-use Rattle.std.proofs.lemmas.List.Elements.{filter-append}
-use Rattle.std.proofs.lemmas.List.Sums.{sum_by-cons}
-use Rattle.std.proofs.lemmas.Option.{slice_get_within}
 use Rattle.pipe_model.specs.declared.kind.Kind.{Kind}
 use Rattle.pipe_model.specs.declared.net.Link.{Link}
 use Rattle.pipe_model.specs.declared.net.Net.{Net}
@@ -15,29 +11,18 @@ use Rattle.pipe_model.specs.Form.Parting.{Whole}
 use Rattle.pipe_model.specs.Nets.{rendezvous}
 use Rattle.pipe_model.specs.Table.{line_of}
 use Rattle.pipe_model.specs.WellFormed.{places_of, strands_of}
-use Rattle.stage_syntax.proofs.TypedKinds.{typed_kind}
 use Rattle.spec_scanner.specs.declared.piece.Piece.{Piece}
-use Rattle.spec_scanner.specs.declared.piece.PieceKind.{PieceKind}
-use Rattle.spec_scanner.specs.declared.piece.PieceKind.TheVariants.{Stage, Reference, Connector}
-use Rattle.net_graph.specs.Faults.{IsGraph}
 use Rattle.net_graph.specs.Nets.{AreOutcomes, StageSize, first_number, inputs_of, joins_of, link_of, links_of, net_of, outputs_of, part_in, part_out, parting_at, parting_of, stream_place, ports_of, queue_of, queues_from, sizes_of, strand_of, strands_from, width_of}
-use Rattle.net_graph.specs.Stands.{Spot, Stand, is_label, is_stage, stage_of, stages_of, stands_of, streams_of}
+use Rattle.net_graph.specs.Stands.{Stand, stages_of, stands_of, streams_of}
 use Rattle.net_graph.proofs.WholeNets.{whole_net, whole_strand, whole_strands}
 use Rattle.net_graph.proofs.FormedLinks.{AreLeads, leads_of}
-use Rattle.net_graph.proofs.FormedPositions.{position_finds}
-use Rattle.net_graph.proofs.FormedSpots.{StandsFor, spot_at}
+use Rattle.net_graph.proofs.JoinStages.{spot_within}
+use Rattle.net_graph.proofs.Parted.{first_more}
 
 -- each stage has one strand
-abbrev AreWhole : List StageSize → Type 0
+abbrev pub AreWhole : List StageSize → Type 0
 AreWhole [] = ⊤
 AreWhole (size ∷ sizes) = (parting_of size ≡ Whole) × AreWhole sizes
-
--- so it is where the kinds were read
-kinds_whole : (stands stages : List Stand) (kinds : List Kind) → AreOutcomes stages (map (λ kind. Ok kind) kinds) → AreWhole (sizes_of stands stages kinds)
-kinds_whole stands [] kinds read = tt
-kinds_whole stands (stand ∷ stages) [] read = tt
-kinds_whole stands (stand ∷ stages) (kind ∷ kinds) read =
-    ((typed_kind stand.piece.name stand.piece.arg stand.first kind read.0).plain.whole, kinds_whole stands stages kinds read.1)
 
 sizes_count : (stands stages : List Stand) (kinds : List Kind) → AreOutcomes stages (map (λ kind. Ok kind) kinds) → length (sizes_of stands stages kinds) ≡ length stages
 sizes_count stands [] kinds read = refl
@@ -53,8 +38,7 @@ first_whole [] whole zero within = refl
 first_whole [] whole (suc stage) within = absurd (omega (arith, within))
 first_whole (size ∷ sizes) whole zero within = refl
 first_whole (size ∷ sizes) whole (suc stage) within =
-    let more : first_number (size ∷ sizes) (suc stage) ≡ width_of size + first_number sizes stage = sum_by-cons width_of size (take stage sizes) in
-    omega (arith, more, one_wide size whole.0, first_whole sizes whole.1 stage (omega (arith, within)))
+    omega (arith, first_more size sizes stage, one_wide size whole.0, first_whole sizes whole.1 stage (omega (arith, within)))
 
 parting_whole : (sizes : List StageSize) → AreWhole sizes → (stage : ℕ) → parting_at sizes stage ≡ Whole
 parting_whole [] whole stage = refl
@@ -67,63 +51,22 @@ no_queues sizes stage (size ∷ more) whole = ap (λ parting. queue_of parting (
 
 -- Links
 
--- the numbers of a join are those of stages
-abbrev IsWithin : ℕ → Link → Type 0
-IsWithin count join = (join.from ≤ count) × (join.to ≤ count) × (join.queue ≡ false)
-
-abbrev AreWithin : ℕ → List Link → Type 0
-AreWithin count [] = ⊤
-AreWithin count (join ∷ joins) = IsWithin count join × AreWithin count joins
-
 module _ (sizes : List StageSize) (whole : AreWhole sizes) where
-  link_same : (join : Link) → IsWithin (length sizes) join → link_of sizes join ≡ join
-  link_same join within =
-      let from : first_number sizes join.from + 0 ≡ join.from = omega (arith, first_whole sizes whole join.from within.0) in
-      let to : first_number sizes join.to + 0 ≡ join.to = omega (arith, first_whole sizes whole join.to within.1) in
+  link_same : (join : Link) → join.from < length sizes → join.to < length sizes → join.queue ≡ false → link_of sizes join ≡ join
+  link_same join from_there to_there no_queue =
+      let from : first_number sizes join.from + 0 ≡ join.from = omega (arith, first_whole sizes whole join.from (omega arith)) in
+      let to : first_number sizes join.to + 0 ≡ join.to = omega (arith, first_whole sizes whole join.to (omega arith)) in
       ap₂ (λ parting other. rendezvous (first_number sizes join.from + part_out parting join.output) (stream_place parting join.output) (first_number sizes join.to + part_in other join.input) (stream_place other join.input)) (parting_whole sizes whole join.from) (parting_whole sizes whole join.to)
       ∙ ap₂ (λ from to. rendezvous from join.output to join.input) from to
-      ∙ ap (λ queue. let link : Link = record { from = join.from; output = join.output; to = join.to; input = join.input; queue = queue } in link) (sym within.2)
+      ∙ ap (λ queue. let link : Link = record { from = join.from; output = join.output; to = join.to; input = join.input; queue = queue } in link) (sym no_queue)
 
-  links_same : (joins : List Link) → AreWithin (length sizes) joins → map (link_of sizes) joins ≡ joins
-  links_same [] within = refl
-  links_same (join ∷ joins) within = ap₂ (λ (link : Link) (links : List Link). link ∷ links) (link_same join within.0) (links_same joins within.1)
-
-abbrev used : Piece → ℕ → Spot
-used piece stage = record { stage = stage; stream = piece.uses }
-
--- the stand of a stream is of a stage that is there
-spot_within : (whole : List Stand) (at : ℕ) (stand : Stand) (spot : Spot) → StandsFor whole at stand spot → spot.stage ≤ length (stages_of whole)
-spot_within whole at stand spot stands = by_kind stand.piece.kind refl
-  where
-    before : length (stages_of stands.done) ≤ length (stages_of whole)
-    before = omega (arith, ap length (ap stages_of stands.cut ∙ filter-append is_stage stands.done (stand ∷ stands.rest)), length-append (stages_of stands.done) (stages_of (stand ∷ stands.rest)))
-
-    by_label : (found : Option ℕ) → stage_of whole stand.piece.label ≡ found → option_map (used stand.piece) found ≡ Some spot → spot.stage ≤ length (stages_of whole)
-    by_label None found is = cc
-    by_label (Some stage) found is =
-        let same : used stand.piece stage ≡ spot = cc in
-        let there = position_finds (λ (s : Stand). is_label stand.piece.label s.piece.label) (stages_of whole) stage found in
-        omega (arith, ap (λ (s : Spot). s.stage) same, slice_get_within (stages_of whole) stage there.0 there.1)
-
-    by_kind : (kind : PieceKind) → stand.piece.kind ≡ kind → spot.stage ≤ length (stages_of whole)
-    by_kind Stage kind =
-        let found : Some (record { stage = length (stages_of stands.done); stream = 0 }) ≡ Some spot = sym (spot_at whole (length (stages_of stands.done)) stand.piece Stage kind) ∙ stands.spot_is in
-        let same : record { stage = length (stages_of stands.done); stream = 0 } ≡ spot = cc in
-        omega (arith, ap (λ (s : Spot). s.stage) same, before)
-    by_kind Reference kind = by_label (stage_of whole stand.piece.label) refl (sym (spot_at whole (length (stages_of stands.done)) stand.piece Reference kind) ∙ stands.spot_is)
-    by_kind Connector kind = let none : None ≡ Some spot = sym (spot_at whole (length (stages_of stands.done)) stand.piece Connector kind) ∙ stands.spot_is in cc
-
-leads_within : (whole : List Stand) (from : ℕ) (joins : List Link) → AreLeads whole from joins → AreWithin (length (stages_of whole)) joins
-leads_within whole from [] leads = tt
-leads_within whole from (join ∷ joins) leads =
-    let lead = leads.0 in (
-      (
-        spot_within whole lead.at lead.source (record { stage = join.from; stream = join.output }) lead.source_for,
-        spot_within whole (suc lead.at) lead.target (record { stage = join.to; stream = join.input }) lead.target_for,
-        lead.no_queue,
-      ),
-      leads_within whole (suc lead.at) joins leads.1,
-    )
+  links_same : (stands : List Stand) → length sizes ≡ length (stages_of stands) → (from : ℕ) (joins : List Link) → AreLeads stands from joins → map (link_of sizes) joins ≡ joins
+  links_same stands count from [] leads = refl
+  links_same stands count from (join ∷ joins) leads =
+      let lead = leads.0 in
+      let source = spot_within stands lead.at lead.source (record { stage = join.from; stream = join.output }) lead.source_for in
+      let target = spot_within stands (suc lead.at) lead.target (record { stage = join.to; stream = join.input }) lead.target_for in
+      ap₂ (λ (link : Link) (links : List Link). link ∷ links) (link_same join (omega arith) (omega arith) lead.no_queue) (links_same stands count (suc lead.at) joins leads.1)
 
 -- Strands
 
@@ -155,20 +98,15 @@ module _ (stands : List Stand) (links : List Link) where
 
 -- The net
 
--- where the kinds were read, each stage has one strand, so the net is that of its stages and joins
-pub whole_same : (pipelines : List (List Piece)) (kinds : List Kind) → AreOutcomes (stages_of (stands_of pipelines)) (map (λ kind. Ok kind) kinds) → net_of pipelines kinds ≡ whole_net pipelines kinds
-whole_same pipelines kinds read =
+-- where each stage has one strand, the net is that of its stages and joins
+pub whole_same : (pipelines : List (List Piece)) (kinds : List Kind) → AreWhole (sizes_of (stands_of pipelines) (stages_of (stands_of pipelines)) kinds)
+    → AreOutcomes (stages_of (stands_of pipelines)) (map (λ kind. Ok kind) kinds) → net_of pipelines kinds ≡ whole_net pipelines kinds
+whole_same pipelines kinds whole read =
     let stands = stands_of pipelines in
     let sizes = sizes_of stands (stages_of stands) kinds in
-    let whole = kinds_whole stands (stages_of stands) kinds read in
     let count = sizes_count stands (stages_of stands) kinds read in
-    let within : AreWithin (length sizes) (joins_of pipelines) = subst (λ n. AreWithin n (joins_of pipelines)) (sym count) (leads_within stands 0 (joins_of pipelines) (leads_of pipelines)) in
     let links : links_of sizes (joins_of pipelines) ≡ joins_of pipelines =
-    ap₂ (λ (links queues : List Link). links ++ queues) (links_same sizes whole (joins_of pipelines) within) (no_queues sizes 0 sizes whole) ∙ append-nil (joins_of pipelines) in
+    ap₂ (λ (links queues : List Link). links ++ queues) (links_same sizes whole stands count 0 (joins_of pipelines) (leads_of pipelines)) (no_queues sizes 0 sizes whole) ∙ append-nil (joins_of pipelines) in
     let strands : strands_from sizes (links_of sizes (joins_of pipelines)) 0 sizes ≡ whole_strands stands (joins_of pipelines) 0 (stages_of stands) kinds =
     ap (λ links. strands_from sizes links 0 sizes) links ∙ strands_same stands (joins_of pipelines) sizes whole 0 (stages_of stands) kinds whole (omega arith) in
     ap₂ (λ (strands : List Strand) (links : List Link). let net : Net = record { strands = strands; links = links } in net) strands links
-
--- the net of a specification without a fault
-pub graph_whole : (pipelines : List (List Piece)) (net : Net) → (graph : IsGraph pipelines net) → net ≡ whole_net pipelines graph.kinds
-graph_whole pipelines net graph = graph.net_is ∙ whole_same pipelines graph.kinds graph.read

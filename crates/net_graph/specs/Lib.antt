@@ -7,6 +7,7 @@ pub mod Line
 pub mod Nets
 pub mod Numbered
 pub mod Outcomes
+pub mod Partings
 pub mod Searches
 pub mod Stands
 pub mod Strands

@@ -5,7 +5,8 @@ ghost use Rattle.net_graph.specs.Numbered.{AreScanned};
 ghost use Rattle.net_graph.specs.Stands.{stage_of, stages_of, stands_of};
 
 use crate::flags::{linked_inputs, linked_outputs};
-use crate::joins::links_of;
+use crate::joins::joins_of;
+use crate::layout::{layout_of, links_between};
 use crate::strands::strands_of;
 use crate::uses::later_uses;
 use pipe_model::{Kind, Net, NoMemory};
@@ -25,11 +26,13 @@ pub(crate) fn assemble(
     requires labelled { (label : ℕ) → slice_get table.now label ≡ stage_of (stands_of pipelines.now) (Some label) }
     ensures { IfOk result (λ net. net ≡ net_of pipelines.now kinds.items) }
 {
-    let links = links_of(alloc, table, pipelines)?;
+    let joins = joins_of(alloc, table, pipelines)?;
     let later = later_uses(alloc, pipelines)?;
-    let stages = later.len();
-    let inputs = linked_inputs(alloc, &links, stages)?;
-    let outputs = linked_outputs(alloc, &links, stages)?;
+    let layout = layout_of(alloc, &kinds, &later)?;
+    let links = links_between(alloc, &layout.parts, &joins)?;
+    let count = layout.strands as usize;
+    let inputs = linked_inputs(alloc, &links, count)?;
+    let outputs = linked_outputs(alloc, &links, count)?;
     let strands = strands_of(alloc, &inputs, &outputs, &later, kinds)?;
     Ok(Net::new(strands, links))
 }

@@ -79,8 +79,9 @@ fn join_pipeline(
     Ok(after)
 }
 
-/// The links of pipelines, in the order of the text, where a table tells the stages that the labels define.
-pub(crate) fn links_of(
+/// The joins of pipelines, in the order of the text, where a table tells the stages that the labels define: links with the
+/// numbers of stages in place of strands and of streams in place of places.
+pub(crate) fn joins_of(
     alloc: Global,
     table: &[usize],
     pipelines: &[Pieces],

@@ -1,5 +1,5 @@
 -- The kinds of `<` and `>` as they are typed.
-use Rattle.std.proofs.Common.{◌≡◌, inl, inr, ℕ, Bool, true, List, [], ◌∷◌, map, refl, subst, ap, arith, Option, Some, None}
+use Rattle.std.proofs.Common.{◌≡◌, inl, inr, ℕ, Bool, true, List, [], ◌∷◌, map, refl, subst, ap, arith, Option, None}
 use Rattle.std.specs.Prelude.{codes}
 use Rattle.std.specs.Char.{to_ascii_lowercase}
 use Rattle.std.specs.Option.{IfSome}
@@ -31,13 +31,12 @@ one_spelling (c ∷ (d ∷ rest)) is = cc
 module _ (first : Bool) where
   pub replacing : (values : List Value) → AreOfRow (row before_name (of_name Kinds.FileOut)) [] values → IfSome (of_name Kinds.FileOut values) (IsOther first)
   replacing [] are = tt
-  replacing (Read.String name ∷ []) are = known first (Kinds.FileOut name) refl refl (name_of_one name are.0)
+  replacing (Read.String name ∷ []) are = known first (Kinds.FileOut name) refl (name_of_one name are.0)
   replacing _ are = tt
 
   reading : (values : List Value) → AreOfRow (row before_name (of_name (λ name. Kinds.FileIn name None))) [] values → IfSome (of_name (λ name. Kinds.FileIn name None) values) (IsTyped first)
   reading [] are = tt
   reading (Read.String name ∷ []) are = record {
-    named = refl;
     plain = plain_line first (line_of (Kinds.FileIn name None)) refl;
     proper = name_of_one name are.0;
     unfiled = refl;

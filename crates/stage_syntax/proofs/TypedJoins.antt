@@ -15,8 +15,8 @@ use Rattle.stage_syntax.specs.declared.part.Value.TheVariants as Read
 
 module _ (first : Bool) where
   pub merging : (values : List Value) → AreOfRow (row before_range (of_range Kinds.Merge)) [] values → IfSome (of_range Kinds.Merge values) (IsOther first)
-  merging [] are = known first (Kinds.Merge all_columns) refl refl refl
-  merging (Read.Range range ∷ []) are = known first (Kinds.Merge range) refl refl (range_of_one (before_range []) range are.0)
+  merging [] are = known first (Kinds.Merge all_columns) refl refl
+  merging (Read.Range range ∷ []) are = known first (Kinds.Merge range) refl (range_of_one (before_range []) range are.0)
   merging _ are = tt
 
   -- a kind of two ranges
@@ -31,6 +31,6 @@ module _ (first : Bool) where
   pairing kind each _ are = tt
 
   pub overlaid : (values : List Value) → AreOfRow (row before_overlay of_overlay) [] values → IfSome (of_overlay values) (IsOther first)
-  overlaid [] are = known first (Kinds.Overlay 32) refl refl refl
-  overlaid (Read.Byte byte ∷ []) are = known first (Kinds.Overlay byte) refl refl refl
+  overlaid [] are = known first (Kinds.Overlay 32) refl refl
+  overlaid (Read.Byte byte ∷ []) are = known first (Kinds.Overlay byte) refl refl
   overlaid _ are = tt

@@ -1,5 +1,5 @@
--- The kinds that can be typed: what is known of the line that the table has for each, shown once for each running row.
-use Rattle.std.proofs.Common.{◌≡◌, inl, inr, ℕ, Bool, true, false, not, ◌&&◌, ◌==◌, List, [], ◌∷◌, length, refl, sym, ◌∙◌, ap, ap₂, subst, arith, Option, Some, None}
+-- The kinds that can be typed: what is known of the line that the table has for each, shown once for each row of names.
+use Rattle.std.proofs.Common.{◌≡◌, inl, inr, ℕ, Bool, true, false, ◌&&◌, ◌==◌, List, [], ◌∷◌, length, refl, sym, ◌∙◌, ap, ap₂, subst, arith, Option, Some, None}
 use Rattle.std.specs.Prelude.{⊤, if◌then◌else◌, codes}
 use Rattle.std.specs.Option.{IfSome}
 use Rattle.std.specs.Str.{bytes_eq, str_to_ascii_lowercase}
@@ -33,35 +33,34 @@ use Rattle.stage_syntax.specs.declared.part.Value.{Value}
 use Rattle.stage_syntax.specs.declared.part.Value.TheVariants as Read
 use Rattle.stage_syntax.specs.declared.part.Word.TheVariants.{Both, First, Last, Leading, Left, Lower, Right, Trailing, Upper}
 
--- Of each running row but that of `<`
+-- Of each row but that of `<`
 
--- this of the arguments of such a stage, and of the stages after it
-abbrev OfRunning : Bool → Type 0 → Type 0 → Type 0
-OfRunning true here rest = here × rest
-OfRunning false here rest = rest
+-- this of the arguments of a stage, if it isn't the reader, and of the stages after it
+abbrev OfOther : Bool → Type 0 → Type 0 → Type 0
+OfOther true here rest = rest
+OfOther false here rest = here × rest
 
 abbrev is_reader : List ℕ → Bool
 is_reader name = bytes_eq name (codes "<")
 
 abbrev OfEach : (Arguments → Type 0) → List Named → Type 0
 OfEach P [] = ⊤
-OfEach P (stage ∷ more) = OfRunning (stage.runs && not (is_reader stage.name)) (P stage.arguments) (OfEach P more)
+OfEach P (stage ∷ more) = OfOther (is_reader stage.name) (P stage.arguments) (OfEach P more)
 
 module _ (P : Arguments → Type 0) (arguments : Arguments) where
   -- it is the stage's own, or comes after it
-  found_here : (runs reader same : Bool) (own : Arguments) (found : Option Arguments) (rest : Type 0) → (same ≡ true → reader ≡ false) → OfRunning (runs && not reader) (P own) rest
-      → (rest → found ≡ Some arguments → P arguments) → (if runs && same then Some own else found) ≡ Some arguments → P arguments
-  found_here true false true own found rest apart each later is = let same : own ≡ arguments = cc in subst P same each.0
-  found_here true true true own found rest apart each later is = let no = apart refl in cc
-  found_here true true false own found rest apart each later is = later each is
-  found_here true false false own found rest apart each later is = later each.1 is
-  found_here false reader same own found rest apart each later is = later each is
+  found_here : (reader same : Bool) (own : Arguments) (found : Option Arguments) (rest : Type 0) → (same ≡ true → reader ≡ false) → OfOther reader (P own) rest
+      → (rest → found ≡ Some arguments → P arguments) → (if same then Some own else found) ≡ Some arguments → P arguments
+  found_here false true own found rest apart each later is = let same : own ≡ arguments = cc in subst P same each.0
+  found_here true true own found rest apart each later is = let no = apart refl in cc
+  found_here true false own found rest apart each later is = later each is
+  found_here false false own found rest apart each later is = later each.1 is
 
   -- what holds of each such row holds of the one that a name finds
   of_named : (named : List Named) (name : List ℕ) → is_reader (str_to_ascii_lowercase name) ≡ false → OfEach P named → named_in named name ≡ Some arguments → P arguments
   of_named [] name other each is = cc
   of_named (stage ∷ more) name other each is =
-      found_here stage.runs (is_reader stage.name) (bytes_eq (str_to_ascii_lowercase name) stage.name) stage.arguments (named_in more name) (OfEach P more)
+      found_here (is_reader stage.name) (bytes_eq (str_to_ascii_lowercase name) stage.name) stage.arguments (named_in more name) (OfEach P more)
       (λ same. ap is_reader (sym ((bytes_eq-Decides (str_to_ascii_lowercase name) stage.name).0 same)) ∙ other)
       each (of_named more name other) is
 
@@ -69,7 +68,7 @@ module _ (P : Arguments → Type 0) (arguments : Arguments) where
 named_same : (named : List Named) (name other : List ℕ) → str_to_ascii_lowercase name ≡ str_to_ascii_lowercase other → named_in named name ≡ named_in named other
 named_same [] name other same = refl
 named_same (stage ∷ more) name other same =
-    ap₂ (λ (lowered : List ℕ) (found : Option Arguments). if stage.runs && bytes_eq lowered stage.name then Some stage.arguments else found) same (named_same more name other same)
+    ap₂ (λ (lowered : List ℕ) (found : Option Arguments). if bytes_eq lowered stage.name then Some stage.arguments else found) same (named_same more name other same)
 
 -- XLATE's arguments
 abbrev xlate_row : Row
@@ -113,7 +112,7 @@ module _ (first : Bool) where
   located kind each _ are = tt
 
   strip_known : (leading trailing : Bool) (set : List ℕ) → is_filled set ≡ true → IsOther first (Kinds.Strip leading trailing set)
-  strip_known leading trailing set filled = known first (Kinds.Strip leading trailing set) refl refl filled
+  strip_known leading trailing set filled = known first (Kinds.Strip leading trailing set) refl filled
 
   stripping : (values : List Value) → AreOfRow (row before_strip of_strip) [] values → IfSome (of_strip values) (IsOther first)
   stripping [] are = strip_known true true blank refl
@@ -158,7 +157,7 @@ module _ (first : Bool) where
   -- Editing
 
   change_known : (range : Range) (sought put : List ℕ) (times : Times) → are_columns range.span ≡ true → is_range range ≡ true → is_count times ≡ true → IsOther first (Kinds.Change range sought put times)
-  change_known range sought put times columns proper count = known first (Kinds.Change range sought put times) refl refl (rw (columns, proper, count) refl)
+  change_known range sought put times columns proper count = known first (Kinds.Change range sought put times) refl (rw (columns, proper, count) refl)
 
   changing : (values : List Value) → AreOfRow (row before_change of_change) [] values → IfSome (of_change values) (IsOther first)
   changing (Read.Strings sought put ∷ []) are = change_known all_columns sought put All refl refl refl
@@ -169,12 +168,12 @@ module _ (first : Bool) where
   changing _ are = tt
 
   chopping : (values : List Value) → AreOfRow (row before_chop of_chop) [] values → IfSome (of_chop values) (IsOther first)
-  chopping [] are = known first (Kinds.Chop 80) refl refl refl
-  chopping (Read.Number n ∷ []) are = known first (Kinds.Chop n) refl refl (length_of n are.0)
+  chopping [] are = known first (Kinds.Chop 80) refl refl
+  chopping (Read.Number n ∷ []) are = known first (Kinds.Chop n) refl (length_of n are.0)
   chopping _ are = tt
 
   pad_known : (left : Bool) (n byte : ℕ) → is_length n ≡ true → IsOther first (Kinds.Pad left n byte)
-  pad_known left n byte proper = known first (Kinds.Pad left n byte) refl refl proper
+  pad_known left n byte proper = known first (Kinds.Pad left n byte) refl proper
 
   width_of : (n : ℕ) → IsOfOne (before_pad []) (Read.Number n) → is_length n ≡ true
   width_of n (inl is) = cc
@@ -191,12 +190,12 @@ module _ (first : Bool) where
   padding _ are = tt
 
   splitting : (values : List Value) → AreOfRow (row before_split of_split) [] values → IfSome (of_split values) (IsOther first)
-  splitting [] are = known first (Kinds.Split blank) refl refl refl
-  splitting (Read.String set ∷ []) are = known first (Kinds.Split set) refl refl (string_of_one (before_split []) set refl are.0)
+  splitting [] are = known first (Kinds.Split blank) refl refl
+  splitting (Read.String set ∷ []) are = known first (Kinds.Split set) refl (string_of_one (before_split []) set refl are.0)
   splitting _ are = tt
 
   join_known : (more : Times) (between : List ℕ) → is_count more ≡ true → IsOther first (Kinds.Join more between)
-  join_known more between proper = known first (Kinds.Join more between) refl refl proper
+  join_known more between proper = known first (Kinds.Join more between) refl proper
 
   joining : (values : List Value) → AreOfRow (row before_join of_join) [] values → IfSome (of_join values) (IsOther first)
   joining [] are = join_known (Only 1) [] refl
@@ -206,7 +205,7 @@ module _ (first : Bool) where
   joining _ are = tt
 
   xlate_known : (mapping : Mapping) → is_mapping mapping ≡ true → IsOther first (Kinds.Xlate mapping)
-  xlate_known mapping proper = known first (Kinds.Xlate mapping) refl refl proper
+  xlate_known mapping proper = known first (Kinds.Xlate mapping) refl proper
 
   -- where it isn't wrong it is what is asked
   is_asked : {A : Type 0} (asked : Bool) (wrong : A) → (if asked then None else Some wrong) ≡ None → asked ≡ true
@@ -230,15 +229,15 @@ module _ (first : Bool) where
       subst (λ (o : Option Kind). IfSome o (IsOther first)) made.2 (mapping made.0 made.3 made.1 made.4 made.5)
 
   literal_typed : (text : Option (List ℕ)) → IfSome (literal_of text) (IsOther first)
-  literal_typed None = known first (Kinds.Literal []) refl refl refl
-  literal_typed (Some text) = known first (Kinds.Literal text) refl refl refl
+  literal_typed None = known first (Kinds.Literal []) refl refl
+  literal_typed (Some text) = known first (Kinds.Literal text) refl refl
 
 -- a CONSOLE reads where it is first, and writes where it isn't
 console_typed : (first : Bool) → IsOther first (if first then Kinds.ConsoleIn [] else Kinds.ConsoleOut)
-console_typed true = known true (Kinds.ConsoleIn []) refl refl refl
-console_typed false = known false Kinds.ConsoleOut refl refl refl
+console_typed true = known true (Kinds.ConsoleIn []) refl refl
+console_typed false = known false Kinds.ConsoleOut refl refl
 
--- each running row but that of `<` in the order of the table
+-- each row but that of `<` in the order of the table
 rows_typed : (first : Bool) → OfEach (AreOther first) (stages first)
 rows_typed first = (
   of_parts first _ (alone first (if first then Kinds.ConsoleIn [] else Kinds.ConsoleOut) (console_typed first)),
@@ -247,27 +246,27 @@ rows_typed first = (
     (
       λ text kind reads. of_text first literal_of (literal_typed first) (text_in text) kind reads,
       (
-        of_parts first _ (alone first Kinds.Hole (known first Kinds.Hole refl refl refl)),
+        of_parts first _ (alone first Kinds.Hole (known first Kinds.Hole refl refl)),
         (
-          of_parts first _ (located first Kinds.Locate (λ range text proper. known first (Kinds.Locate range text) refl refl proper)),
+          of_parts first _ (located first Kinds.Locate (λ range text proper. known first (Kinds.Locate range text) refl proper)),
           (
-            of_parts first _ (located first Kinds.Nlocate (λ range text proper. known first (Kinds.Nlocate range text) refl refl proper)),
+            of_parts first _ (located first Kinds.Nlocate (λ range text proper. known first (Kinds.Nlocate range text) refl proper)),
             (
-              λ text kind reads. of_text first (of_some_text Kinds.Find) (some_text first Kinds.Find (λ text filled. known first (Kinds.Find text) refl refl filled)) (text_in text) kind reads,
+              λ text kind reads. of_text first (of_some_text Kinds.Find) (some_text first Kinds.Find (λ text filled. known first (Kinds.Find text) refl filled)) (text_in text) kind reads,
               (
-                λ text kind reads. of_text first (of_some_text Kinds.Nfind) (some_text first Kinds.Nfind (λ text filled. known first (Kinds.Nfind text) refl refl filled)) (text_in text) kind reads,
+                λ text kind reads. of_text first (of_some_text Kinds.Nfind) (some_text first Kinds.Nfind (λ text filled. known first (Kinds.Nfind text) refl filled)) (text_in text) kind reads,
                 (
-                  of_parts first _ (ending first Kinds.TakeFirst Kinds.TakeLast (λ times proper. known first (Kinds.TakeFirst times) refl refl proper) (λ times proper. known first (Kinds.TakeLast times) refl refl proper)),
+                  of_parts first _ (ending first Kinds.TakeFirst Kinds.TakeLast (λ times proper. known first (Kinds.TakeFirst times) refl proper) (λ times proper. known first (Kinds.TakeLast times) refl proper)),
                   (
-                    of_parts first _ (ending first Kinds.DropFirst Kinds.DropLast (λ times proper. known first (Kinds.DropFirst times) refl refl proper) (λ times proper. known first (Kinds.DropLast times) refl refl proper)),
+                    of_parts first _ (ending first Kinds.DropFirst Kinds.DropLast (λ times proper. known first (Kinds.DropFirst times) refl proper) (λ times proper. known first (Kinds.DropLast times) refl proper)),
                     (
-                      of_parts first _ (enclosing first Kinds.Between (λ opening closing filled. known first (Kinds.Between opening closing) refl refl filled)),
+                      of_parts first _ (enclosing first Kinds.Between (λ opening closing filled. known first (Kinds.Between opening closing) refl filled)),
                       (
-                        of_parts first _ (enclosing first Kinds.Inside (λ opening closing filled. known first (Kinds.Inside opening closing) refl refl filled)),
+                        of_parts first _ (enclosing first Kinds.Inside (λ opening closing filled. known first (Kinds.Inside opening closing) refl filled)),
                         (
-                          λ text kind reads. of_text first (of_text_of Kinds.ToLabel) (any_text first Kinds.ToLabel (λ text. known first (Kinds.ToLabel text) refl refl refl)) (text_in text) kind reads,
+                          λ text kind reads. of_text first (of_text_of Kinds.ToLabel) (any_text first Kinds.ToLabel (λ text. known first (Kinds.ToLabel text) refl refl)) (text_in text) kind reads,
                           (
-                            λ text kind reads. of_text first (of_text_of Kinds.FrLabel) (any_text first Kinds.FrLabel (λ text. known first (Kinds.FrLabel text) refl refl refl)) (text_in text) kind reads,
+                            λ text kind reads. of_text first (of_text_of Kinds.FrLabel) (any_text first Kinds.FrLabel (λ text. known first (Kinds.FrLabel text) refl refl)) (text_in text) kind reads,
                             (
                               of_parts first _ (changing first),
                               (
@@ -283,9 +282,9 @@ rows_typed first = (
                                         (
                                           of_mapping first,
                                           (
-                                            of_parts first _ (alone first Kinds.Reverse (known first Kinds.Reverse refl refl refl)),
+                                            of_parts first _ (alone first Kinds.Reverse (known first Kinds.Reverse refl refl)),
                                             (
-                                              of_parts first _ (counted first Kinds.Duplicate (λ times proper. known first (Kinds.Duplicate times) refl refl proper)),
+                                              of_parts first _ (counted first Kinds.Duplicate (λ times proper. known first (Kinds.Duplicate times) refl proper)),
                                               (
                                                 of_unique_row first,
                                                 (
@@ -293,44 +292,50 @@ rows_typed first = (
                                                   (
                                                     of_parts first _ (counting first),
                                                     (
-                                                      of_parts first _ (pairing first Kinds.Lookup (λ details masters proper. known first (Kinds.Lookup details masters) refl refl proper)),
+                                                      of_parts first _ (pairing first Kinds.Lookup (λ details masters proper. known first (Kinds.Lookup details masters) refl proper)),
                                                       (
-                                                        of_parts first _ (pairing first Kinds.Collate (λ masters details proper. known first (Kinds.Collate masters details) refl refl proper)),
+                                                        of_parts first _ (pairing first Kinds.Collate (λ masters details proper. known first (Kinds.Collate masters details) refl proper)),
                                                         (
                                                           of_parts first _ (merging first),
                                                           (
-                                                            of_parts first _ (alone first Kinds.FanOut (known first Kinds.FanOut refl refl refl)),
+                                                            of_parts first _ (alone first Kinds.FanOut (known first Kinds.FanOut refl refl)),
                                                             (
-                                                              of_parts first _ (alone first Kinds.FanIn (known first Kinds.FanIn refl refl refl)),
+                                                              of_parts first _ (alone first Kinds.FanIn (known first Kinds.FanIn refl refl)),
                                                               (
-                                                                of_parts first _ (alone first Kinds.FanInAny (known first Kinds.FanInAny refl refl refl)),
+                                                                of_parts first _ (alone first Kinds.FanInAny (known first Kinds.FanInAny refl refl)),
                                                                 (
-                                                                  of_parts first _ (alone first Kinds.Deal (known first Kinds.Deal refl refl refl)),
+                                                                  of_parts first _ (alone first Kinds.Deal (known first Kinds.Deal refl refl)),
                                                                   (
-                                                                    of_parts first _ (alone first Kinds.Gather (known first Kinds.Gather refl refl refl)),
+                                                                    of_parts first _ (alone first Kinds.Gather (known first Kinds.Gather refl refl)),
                                                                     (
                                                                       of_parts first _ (overlaid first),
                                                                       (
-                                                                        of_parts first _ (alone first Kinds.Synchronise (known first Kinds.Synchronise refl refl refl)),
+                                                                        of_parts first _ (alone first Kinds.Synchronise (known first Kinds.Synchronise refl refl)),
                                                                         (
-                                                                          of_parts first _ (alone first Kinds.Synchronise (known first Kinds.Synchronise refl refl refl)),
+                                                                          of_parts first _ (alone first Kinds.Synchronise (known first Kinds.Synchronise refl refl)),
                                                                           (
-                                                                            of_parts first _ (alone first Kinds.Juxtapose (known first Kinds.Juxtapose refl refl refl)),
+                                                                            of_parts first _ (alone first Kinds.Juxtapose (known first Kinds.Juxtapose refl refl)),
                                                                             (
-                                                                              of_parts first _ (alone first Kinds.Gate (known first Kinds.Gate refl refl refl)),
+                                                                              of_parts first _ (alone first Kinds.Gate (known first Kinds.Gate refl refl)),
                                                                               (
-                                                                                of_parts first _ (alone first Kinds.Buffer (known first Kinds.Buffer refl refl refl)),
+                                                                                of_parts first _ (alone first Kinds.Dam (known first Kinds.Dam refl refl)),
                                                                                 (
-                                                                                  of_parts first _ (alone first Kinds.Copy (known first Kinds.Copy refl refl refl)),
+                                                                                  of_parts first _ (alone first Kinds.Elastic (known first Kinds.Elastic refl refl)),
                                                                                   (
-                                                                                    of_parts first _ (filling first),
+                                                                                    of_parts first _ (alone first Kinds.Buffer (known first Kinds.Buffer refl refl)),
                                                                                     (
-                                                                                      of_parts first _ (blocking first),
+                                                                                      of_parts first _ (alone first Kinds.Copy (known first Kinds.Copy refl refl)),
                                                                                       (
-                                                                                        of_parts first _ (deblocking first),
+                                                                                        of_parts first _ (filling first),
                                                                                         (
-                                                                                          of_parts first _ (specifying first),
-                                                                                          tt,
+                                                                                          of_parts first _ (blocking first),
+                                                                                          (
+                                                                                            of_parts first _ (deblocking first),
+                                                                                            (
+                                                                                              of_parts first _ (specifying first),
+                                                                                              tt,
+                                                                                            ),
+                                                                                          ),
                                                                                         ),
                                                                                       ),
                                                                                     ),

@@ -96,7 +96,7 @@ module _ (first : Bool) where
   -- UNIQUE
 
   unique_known : (count : Bool) (range : Range) (keep : Keep) → is_range range ≡ true → (not count || may_count keep) ≡ true → IsOther first (Kinds.Unique count range keep)
-  unique_known count range keep proper may = known first (Kinds.Unique count range keep) refl refl (rw (proper, may) refl)
+  unique_known count range keep proper may = known first (Kinds.Unique count range keep) refl (rw (proper, may) refl)
 
   uniquing : (values : List Value) → AreOfRow unique_row [] values → (lefts : List ℕ) → length lefts ≡ length values → wrong_unique values lefts ≡ None → IfSome (of_unique values) (IsOther first)
   uniquing [] are lefts each right = unique_known false all_columns Keeps.Last refl refl
@@ -124,12 +124,12 @@ module _ (first : Bool) where
   size_of n (inr is) = absurd is
 
   pub filling : (values : List Value) → AreOfRow (row before_fblock of_fblock) [] values → IfSome (of_fblock values) (IsOther first)
-  filling (Read.Number n ∷ []) are = known first (Kinds.Fblock n None) refl refl (size_of n are.0)
-  filling (Read.Number n ∷ (Read.Byte byte ∷ [])) are = known first (Kinds.Fblock n (Some byte)) refl refl (size_of n are.0)
+  filling (Read.Number n ∷ []) are = known first (Kinds.Fblock n None) refl (size_of n are.0)
+  filling (Read.Number n ∷ (Read.Byte byte ∷ [])) are = known first (Kinds.Fblock n (Some byte)) refl (size_of n are.0)
   filling _ are = tt
 
   block_known : (n : ℕ) (image : Image) → is_size n ≡ true → is_image image ≡ true → IsOther first (Kinds.Block n image)
-  block_known n image size proper = known first (Kinds.Block n image) refl refl (rw (size, proper) refl)
+  block_known n image size proper = known first (Kinds.Block n image) refl (rw (size, proper) refl)
 
   pub blocking : (values : List Value) → AreOfRow (row before_block of_block) [] values → IfSome (of_block values) (IsOther first)
   blocking (Read.Number n ∷ (Read.Word Fixed ∷ [])) are = block_known n Images.Fixed (size_of n are.0) refl
@@ -139,7 +139,7 @@ module _ (first : Bool) where
   blocking _ are = tt
 
   deblock_known : (cutting : Cutting) → is_cutting cutting ≡ true → IsOther first (Kinds.Deblock cutting)
-  deblock_known cutting proper = known first (Kinds.Deblock cutting) refl refl proper
+  deblock_known cutting proper = known first (Kinds.Deblock cutting) refl proper
 
   pub deblocking : (values : List Value) → AreOfRow (row before_deblock of_deblock) [] values → IfSome (of_deblock values) (IsOther first)
   deblocking (Read.Word Fixed ∷ (Read.Number n ∷ [])) are = deblock_known (Cuttings.Fixed n) (size_of n are.1.0)
@@ -169,7 +169,7 @@ module _ (first : Bool) where
   asked key values = Read.Word key ∷ values
 
   count_known : (totals : List Total) → are_totals totals ≡ true → IsOther first (Kinds.Count totals)
-  count_known totals proper = known first (Kinds.Count totals) refl refl proper
+  count_known totals proper = known first (Kinds.Count totals) refl proper
 
   goes_lines_words_bytes : Goes (asked Lines (asked Words (asked Bytes [])))
   goes_lines_words_bytes = goes (asked Lines (asked Words (asked Bytes []))) (count_known (Totals.Lines ∷ Totals.Words ∷ Totals.Bytes ∷ []) refl) (λ value is. absurd is)
@@ -290,10 +290,10 @@ module _ (first : Bool) where
 
   sort_known : (values : List Value) → ranges_in values ≤ 10 → list_all is_sound values ≡ true → (keys : Option (List SortKey)) → IfSome keys (AreKeysOf values) → IfSome (option_map sort_of keys) (IsOther first)
   sort_known values few right None are = tt
-  sort_known values few right (Some []) are = known first (Kinds.Sort (key_of all_columns false ∷ [])) refl refl refl
+  sort_known values few right (Some []) are = known first (Kinds.Sort (key_of all_columns false ∷ [])) refl refl
   sort_known values few right (Some (key ∷ keys)) are =
       let size : length (key ∷ keys) ≤ 10 = omega (arith, are.0, few) in
-      known first (Kinds.Sort (key ∷ keys)) refl refl (rw (le-leb 1 (length (key ∷ keys)) (omega arith), le-leb (length (key ∷ keys)) 10 size, are.1 right) refl)
+      known first (Kinds.Sort (key ∷ keys)) refl (rw (le-leb 1 (length (key ∷ keys)) (omega arith), le-leb (length (key ∷ keys)) 10 size, are.1 right) refl)
 
   pub sorting : (values : List Value) → AreOfRow sort_row [] values → IfSome (of_sort values) (IsOther first)
   sorting values are = sort_known values (few_ranges [] values (omega arith) are) (right_ranges [] values are) (keys_of values) (keys_are values)

@@ -208,10 +208,10 @@ goes before (value ∷ values) sound are =
 
 module _ (first : Bool) where
   lists_typed : (before : Option (List Item)) (items : List Item) → AreProper before items → (is_some before ≡ false → 1 ≤ length items) → IsOther first (lists_of before items)
-  lists_typed None items are some = known first (Kinds.Specs items None) refl refl (rw (le-leb 1 (length items) (some refl), are.each) refl)
+  lists_typed None items are some = known first (Kinds.Specs items None) refl (rw (le-leb 1 (length items) (some refl), are.each) refl)
   lists_typed (Some before) items are some =
       let is = are.before_eof in
-      known first (Kinds.Specs before (Some items)) refl refl (rw (le-leb 1 (length before) is.0, is.1, are.each, is.2) refl)
+      known first (Kinds.Specs before (Some items)) refl (rw (le-leb 1 (length before) is.0, is.1, are.each, is.2) refl)
 
   made_typed : (state : ItemState) (d : Draft) → AreProper d.before d.items → Stands state d.before d.items → IfSome (made_by state d) (IsOther first)
   made_typed Between d lists stands = lists_typed d.before d.items lists stands

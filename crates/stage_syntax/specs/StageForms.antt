@@ -84,5 +84,5 @@ row_in (OfText make) = row none_next (λ values. None)
 row_in (OfParts row) = row
 
 -- a stage as the list in code has it, by its name in any case
-abbrev pub named_as : Bool → Bor (List ℕ) × Bool × Form → Named
-named_as first stage = record { name = str_to_ascii_lowercase stage.0.now; runs = stage.1; arguments = arguments_by stage.2 first }
+abbrev pub named_as : Bool → Bor (List ℕ) × Form → Named
+named_as first stage = record { name = str_to_ascii_lowercase stage.0.now; arguments = arguments_by stage.1 first }

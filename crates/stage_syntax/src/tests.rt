@@ -98,7 +98,13 @@ overlay| x4|later|8 at 12\n\
 overlay| ,x, y|later|2 at 20\n\
 Synchronize|  |later|synchronise\n\
 gate| x|later|2 at 12\n\
-elastic||later|unknown";
+dam||later|dam\n\
+DAM|  |first|dam\n\
+Dam| x|later|2 at 12\n\
+elastic||later|elastic\n\
+Elastic| |first|elastic\n\
+ELASTIC|  1|later|2 at 14\n\
+elastics||later|unknown";
 
 #[test]
 fn names_and_arguments_have_their_kinds(rt: HostRuntime) -> Result<(), Fail> {
@@ -345,7 +351,7 @@ fn arguments_of_each_form_are_read(rt: HostRuntime) -> Result<(), Fail> {
         let text = cells.next().unwrap_or("").as_bytes();
         let expected = cells.next().unwrap_or("");
         let mut known = false;
-        for (spelled, _, form) in &STAGES {
+        for (spelled, form) in &STAGES {
             if name == *spelled {
                 known = true;
                 let shown = read_shown(alloc, arguments_as(alloc, *form, false, text))?;
@@ -433,6 +439,8 @@ fn kind_shown(alloc: Global, kind: &Kind) -> Result<String, Fail> {
         Kind::Merge(range) => located(alloc, "merge", *range, &None),
         Kind::Overlay(pad) => Ok(format!(in alloc; "overlay {pad}")?),
         Kind::Synchronise => named(alloc, "synchronise"),
+        Kind::Dam => named(alloc, "dam"),
+        Kind::Elastic => named(alloc, "elastic"),
         _ => named(alloc, "another kind"),
     }
 }

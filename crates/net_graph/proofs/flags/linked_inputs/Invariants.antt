@@ -4,4 +4,4 @@ use Rattle.net_graph.specs.Nets.{is_linked_in}
 use Rattle.net_graph.proofs.flags.linked_inputs.Given as goal
 
 abbrev pub invariant-loop-link : goal.invariant-loop-link
-invariant-loop-link l = AreFlags l.flags.items l.stages (is_linked_in (take l.link-index l.links))
+invariant-loop-link l = AreFlags l.flags.items l.strands (is_linked_in (take l.link-index l.links))

@@ -1,6 +1,6 @@
 use Rattle.std.proofs.Common.{◌≡◌, ◌++◌, drop}
 use Rattle.net_graph.specs.Joins.{counted_past, links_by_all}
-use Rattle.net_graph.proofs.joins.links_of.Given as goal
+use Rattle.net_graph.proofs.joins.joins_of.Given as goal
 
 abbrev pub invariant-loop-pieces : goal.invariant-loop-pieces
 invariant-loop-pieces l = record {

@@ -2,7 +2,7 @@ use Rattle.std.proofs.Common.{◌+◌, drop, ap, arith}
 use Rattle.net_graph.proofs.Joined.{left_at, past_least}
 use Rattle.net_graph.specs.Joins.{counted_past}
 use Rattle.net_graph.specs.Nets.{counted_all}
-use Rattle.net_graph.proofs.joins.links_of.Goals as goal
+use Rattle.net_graph.proofs.joins.joins_of.Goals as goal
 
 pub join_pipeline-requires-clause-few : goal.join_pipeline-requires-clause-few
 join_pipeline-requires-clause-few c =
