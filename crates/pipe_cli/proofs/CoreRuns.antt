@@ -1,30 +1,16 @@
--- What a core is started with, and what it has done at the end of its run.
-use Rattle.std.proofs.Common.{◌≡◌, ℕ, Bool, true, false, List, [], sym, ◌∙◌, ap, subst, arith, None, is_some, refl}
+-- What a core has done at the end of its run.
+use Rattle.std.proofs.Common.{◌≡◌, ℕ, true, false, List, [], sym, ◌∙◌, ap, subst, arith, None, is_some}
 use Rattle.pipe_model.specs.declared.net.Net.{Net}
 use Rattle.pipe_model.specs.declared.step.Entry.{Entry}
 use Rattle.pipe_model.specs.Licence.{licence, none_left}
 use Rattle.pipe_model.specs.Play.{play, IsLegal, IsLicensed, IsComplete}
-use Rattle.pipe_model.specs.WellFormed.{IsWellFormed, IsQueue}
+use Rattle.pipe_model.specs.WellFormed.{IsWellFormed}
 use Rattle.confluence_laws.proofs.Commits.{committed_before}
 use Rattle.core_machine.specs.declared.job.RunEnd.TheVariants as End
 use Rattle.core_machine.specs.Machine.{Machine, started, left_by, HasStopped, IsLawful}
 use Rattle.core_machine.specs.Answered.{HasRun, Ends}
-use Rattle.core_machine.specs.Start.{HasNoQueue}
-use Rattle.pipe_cli.specs.Built.{AreBuilt}
 use Rattle.pipe_cli.specs.Meaning.{Exhausts}
 use Rattle.pipe_cli.specs.Steps.{HasCompleted}
-
--- What a core is started with
-
--- each stage has one strand, so no link is a queue
-pub no_queue : (net : Net) → IsWellFormed net → AreBuilt net → HasNoQueue net
-no_queue net formed built j link at = go link.queue (λ is. (formed.queues j link at).0 is)
-  where
-    go : (b : Bool) → (b ≡ true → IsQueue net link) → b ≡ false
-    go true queue = (let q = queue refl in let whole = (built link.from q.producer q.from_strand).whole in let queued = q.queued in cc)
-    go false queue = refl
-
--- At the end
 
 -- a journal is complete where no strand may have an event
 complete_if : (net : Net) (es : List Entry) → ((s k : ℕ) → licence net (play net es) none_left s k ≡ None) → IsComplete net es

@@ -1,35 +1,14 @@
--- Nets of kinds that are built, when their stages are fed.
+-- Nets whose stages are fed.
 use Rattle.std.proofs.Common.{◌≡◌, ℕ, zero, suc, ◌||◌, Bool, true, false, List, [], ◌∷◌, length, map, refl, sym, ◌∙◌, ap, ap₂, subst, Option, Some, None, slice_get, slice_set}
 use Rattle.std.specs.List.{list_any}
-use Rattle.std.specs.Option.{option_map, option_map_or}
-use Rattle.std.proofs.lemmas.Option.{slice_get-map}
-use Rattle.outside.specs.Files.{Files}
+use Rattle.std.specs.Option.{option_map_or}
 use Rattle.pipe_model.specs.declared.net.Net.{Net}
 use Rattle.pipe_model.specs.declared.net.Strand.{Strand}
 use Rattle.pipe_model.specs.declared.kind.Kind.{Kind}
 use Rattle.pipe_model.specs.declared.kind.Kind.TheVariants.{ConsoleIn, FileIn}
-use Rattle.net_graph.specs.Fed.{filed, filed_kind, input_kind, reads_any, reads_input, with_bytes, with_input, with_kind}
-use Rattle.pipe_cli.specs.Built.{AreBuilt, IsBuilt}
+use Rattle.net_graph.specs.Fed.{input_kind, reads_any, reads_input, with_bytes, with_input, with_kind}
 
 -- One kind
-
--- the CONSOLE that reads is built, whatever its bytes
-reader_built : (bytes : List ℕ) → IsBuilt (ConsoleIn bytes)
-reader_built bytes = record { stage = refl; whole = refl }
-
--- so is the `<`
-file_built : (name : List ℕ) (bytes : Option (List ℕ)) → IsBuilt (FileIn name bytes)
-file_built name None = record { stage = refl; whole = refl }
-file_built name (Some bytes) = record { stage = refl; whole = refl }
-
--- a kind that is given its file, or the input, is built as before
-filed_kind_built : (files : Files) (kind : Kind) → IsBuilt kind → IsBuilt (filed_kind files kind)
-filed_kind_built files (FileIn name bytes) built = file_built name (files name)
-filed_kind_built files _ built = built
-
-input_kind_built : (input : List ℕ) (kind : Kind) → IsBuilt kind → IsBuilt (input_kind input kind)
-input_kind_built input (ConsoleIn bytes) built = reader_built input
-input_kind_built input _ built = built
 
 -- what reads the input is given it, and nothing else is
 pub kind_read : (input : List ℕ) (kind : Kind) → reads_input kind ≡ true → with_bytes input kind ≡ input_kind input kind
@@ -56,15 +35,6 @@ abbrev pub net_with : (Kind → Kind) → ℕ → Net → Net
 net_with change k net = record net { strands = front_with change k net.strands }
 
 module _ (change : Kind → Kind) where
-  kinds_built : ((kind : Kind) → IsBuilt kind → IsBuilt (change kind)) → (net : Net) → AreBuilt net → AreBuilt (record net { strands = map (strand_with change) net.strands })
-  kinds_built keeps net built t q at = by (slice_get net.strands t) refl (sym (slice_get-map (strand_with change) net.strands t) ∙ at)
-    where
-      by : (found : Option Strand) → slice_get net.strands t ≡ found → option_map (strand_with change) found ≡ Some q → IsBuilt q.kind
-      by None was is = cc
-      by (Some p) was is =
-          let same : strand_with change p ≡ q = cc in
-          subst (λ (x : Strand). IsBuilt x.kind) same (keeps p.kind (built t p was))
-
   front_at : (k : ℕ) (ps : List Strand) → slice_get (front_with change k ps) k ≡ slice_get ps k
   front_at zero ps = refl
   front_at (suc k) [] = refl
@@ -118,12 +88,6 @@ module _ (change : Kind → Kind) where
         ∙ ap (λ (z : Net). record z { strands = slice_set z.strands k (record p { kind = kind }) }) is
         ∙ ap (λ kind. record net { strands = slice_set (front_with change k net.strands) k (record p { kind = kind }) }) same
         ∙ ap (λ strands. record net { strands = strands }) (front_set k net.strands p (with_at k net now p is at))
-
-pub filed_built : (files : Files) (net : Net) → AreBuilt net → AreBuilt (filed files net)
-filed_built files net built = kinds_built (filed_kind files) (filed_kind_built files) net built
-
-pub input_built : (input : List ℕ) (net : Net) → AreBuilt net → AreBuilt (with_input input net)
-input_built input net built = kinds_built (input_kind input) (input_kind_built input) net built
 
 -- a net that reads nothing is given nothing
 none_read : (ps : List Strand) → list_any (λ (p : Strand). reads_input p.kind) ps ≡ false → (k : ℕ) (p : Strand) → slice_get ps k ≡ Some p → reads_input p.kind ≡ false

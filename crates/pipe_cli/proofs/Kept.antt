@@ -11,7 +11,7 @@ use Rattle.pipe_model.specs.Table.{form}
 use Rattle.stage_steps.specs.Coroutine.{kept_by}
 use Rattle.pipe_cli.specs.declared.status.Outcome.{Outcome}
 use Rattle.pipe_model.specs.Form.{is_shown}
-use Rattle.pipe_cli.specs.Built.{keeping_of}
+use Rattle.pipe_cli.specs.Kept.{keeping_of}
 use Rattle.outside.specs.Device.{Device}
 use Rattle.pipe_cli.specs.Devices.{Steady}
 use Rattle.pipe_cli.specs.Steps.{IsPartWritten}

@@ -5,7 +5,7 @@ pub mod CoreRuns
 pub mod Feds
 pub mod Fetches
 pub mod Finishes
-pub mod GraphKinds
+pub mod Headlines
 pub mod Journals
 pub mod Kept
 pub mod LineFed
@@ -23,5 +23,6 @@ pub mod Refusals
 pub mod Replacements
 pub mod Replies
 pub mod Runs
+pub mod SameReplies
 pub mod Streams
 pub mod Unread

@@ -25,7 +25,7 @@ module _ (words : List (List ℕ)) where
       (cc, cc)
 
   -- of one net
-  same_net : (a b : Net) (n m : ℕ) → RunsNet words a n → RunsNet words b m → a ≡ b
+  pub same_net : (a b : Net) (n m : ℕ) → RunsNet words a n → RunsNet words b m → a ≡ b
   same_net a b n m first second =
       let same = (same_run first.spec second.spec n m first.run second.run).0 in
       one_net second.spec a b (subst (λ z. IsNetOf z a) same first.net_of) second.net_of

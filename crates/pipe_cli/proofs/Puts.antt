@@ -29,7 +29,7 @@ use Rattle.core_machine.specs.Machine.{Machine, state_of}
 use Rattle.pipe_cli.specs.declared.replace.Put.{Put}
 use Rattle.pipe_cli.specs.declared.status.Outcome.{Outcome}
 use Rattle.pipe_cli.specs.declared.status.Outcome.TheVariants.{ShelfFault, Stalled}
-use Rattle.pipe_cli.specs.Built.{keeping_of}
+use Rattle.pipe_cli.specs.Kept.{keeping_of}
 use Rattle.pipe_cli.specs.Devices.{Store}
 use Rattle.pipe_cli.specs.Effects.{AreReplaced, in_order, in_order_after, inserted}
 use Rattle.pipe_cli.specs.Meaning.{outcome_by, outcome_of}

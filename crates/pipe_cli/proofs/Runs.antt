@@ -13,7 +13,7 @@ use Rattle.pipe_model.specs.Shape.Keeping.{Nothing, Console, File}
 use Rattle.stage_steps.specs.Coroutine.{kept_by}
 use Rattle.pipe_model.specs.Form.{is_shown}
 use Rattle.pipe_model.proofs.Lists.{at_some}
-use Rattle.pipe_cli.specs.Built.{keeping_of}
+use Rattle.pipe_cli.specs.Kept.{keeping_of}
 
 -- the first member that is left
 pub drop_at : {X : Type 0} (xs : List X) (k : ℕ) (x : X) → slice_get xs k ≡ Some x → drop k xs ≡ x ∷ drop (suc k) xs

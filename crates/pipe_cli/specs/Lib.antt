@@ -1,8 +1,9 @@
 pub mod Answer
-pub mod Built
 pub mod Command
 pub mod Devices
 pub mod Effects
+pub mod Headline
+pub mod Kept
 pub mod Meaning
 pub mod Outcome
 pub mod Refusals

@@ -2,7 +2,6 @@ ghost use Rattle.std.specs.Prelude.{◌≡◌, ◌≤◌, ℕ, map, MatchResult,
 ghost use Rattle.std.specs.String.{string_bytes};
 ghost use Rattle.pipe_model.specs.WellFormed.{IsWellFormed};
 ghost use Rattle.net_graph.specs.Fed.{AreUnfiled};
-ghost use Rattle.pipe_cli.specs.Built.{AreBuilt};
 ghost use Rattle.pipe_cli.specs.Meaning.{IsNetOf, IsRunOf, RunsNet};
 ghost use Rattle.pipe_cli.specs.Refusals.{IsTextOutcome};
 ghost use Rattle.pipe_cli.specs.Steps.{StopsWords};
@@ -26,7 +25,6 @@ pub(crate) struct Call {
 pub(crate) fn called(alloc: Global, words: &[String]) -> Result<Call, Outcome>
     ensures called { MatchResult result (λ call. RunsNet (map (λ word. string_bytes word) words.now) call.net call.steps) (λ outcome. StopsWords (map (λ word. string_bytes word) words.now) outcome) }
     ensures whole { IfOk result (λ call. IsWellFormed call.net) }
-    ensures built { IfOk result (λ call. AreBuilt call.net) }
     ensures unfiled { IfOk result (λ call. AreUnfiled call.net) }
     ensures few { IfOk result (λ call. call.steps ≤ 50000000) }
 {

@@ -5,7 +5,6 @@ ghost use Rattle.pipe_model.specs.Table.{line_of};
 ghost use Rattle.pipe_model.specs.Table.Feed.{OfFile};
 ghost use Rattle.pipe_model.specs.WellFormed.{IsWellFormed};
 ghost use Rattle.net_graph.specs.Fed.{AreUnfiled, filed};
-ghost use Rattle.pipe_cli.specs.Built.{AreBuilt};
 ghost use Rattle.pipe_cli.specs.Devices.{store};
 ghost use Rattle.pipe_cli.specs.Meaning.{files_size};
 ghost use Rattle.pipe_cli.specs.Steps.{AreFetched, AreFetchedPart, IsGiven, IsTelling, IsUngiven, has_name};
@@ -36,12 +35,10 @@ pub(crate) struct Found {
 // fault of the shelf, too many bytes or want of memory, with its text.
 pub(crate) fn fetch_files<F: Shelf>(alloc: Global, net: Net, shelf: &mut F) -> Result<Filed, Told>
     requires whole { IsWellFormed net }
-    requires built { AreBuilt net }
     requires unfiled { AreUnfiled net }
     ensures fetched { let old = store (F.files shelf.old) (F.faults shelf.old) in let new = store (F.files shelf.new) (F.faults shelf.new) in
         MatchResult result (λ after. (files : Files) × AreFetched net old new files × (after.net ≡ filed files net) × (after.size ≡ files_size files net)) (λ told. AreFetchedPart net old new told.outcome) }
     ensures whole { IfOk result (λ after. IsWellFormed after.net) }
-    ensures built { IfOk result (λ after. AreBuilt after.net) }
     ensures text { IfErr result IsTelling }
 {
     let mut net = net;

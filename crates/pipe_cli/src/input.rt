@@ -1,7 +1,6 @@
 ghost use Rattle.std.specs.Prelude.{◌≡◌, ℕ, List, MatchResult, IfOk, OnOk};
 ghost use Rattle.pipe_model.specs.WellFormed.{IsWellFormed};
 ghost use Rattle.net_graph.specs.Fed.{reads_any, reads_input, with_input};
-ghost use Rattle.pipe_cli.specs.Built.{AreBuilt};
 ghost use Rattle.outside.specs.Device.{device};
 ghost use Rattle.pipe_cli.specs.Steps.{IsTaken, IsTakenPart};
 
@@ -21,11 +20,9 @@ pub(crate) fn take_input<I: Source>(
     limit: usize,
 ) -> Result<Net, Outcome>
     requires whole { IsWellFormed net }
-    requires built { AreBuilt net }
     ensures taken { let old = device (I.left input.old) (I.faults input.old) in let new = device (I.left input.new) (I.faults input.new) in
         MatchResult result (λ after. (bytes : List ℕ) × IsTaken limit net old new bytes × (after ≡ with_input bytes net)) (λ outcome. IsTakenPart limit net old new outcome) }
     ensures whole { IfOk result IsWellFormed }
-    ensures built { IfOk result AreBuilt }
 {
     if !net.strands.as_slice().iter().any(reads) {
         return Ok(net);

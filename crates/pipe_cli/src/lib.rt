@@ -27,6 +27,8 @@ pub use words::read_words;
 #[cfg(test)]
 mod gate_tests;
 #[cfg(test)]
+mod order_tests;
+#[cfg(test)]
 mod tests;
 #[cfg(test)]
 mod word_tests;

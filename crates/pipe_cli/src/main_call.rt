@@ -3,6 +3,7 @@ ghost use Rattle.std.specs.String.{string_bytes};
 ghost use Rattle.outside.specs.Device.{device};
 ghost use Rattle.pipe_cli.specs.Devices.{outside, store};
 ghost use Rattle.pipe_cli.specs.Answer.{Answers, Decides, Reports};
+ghost use Rattle.pipe_cli.specs.Headline.{Headline};
 ghost use Rattle.pipe_cli.specs.Steps.{IsTelling};
 
 use crate::called::called;
@@ -35,7 +36,12 @@ pub fn pipe_main<Rt: Threads + Wait + Sync, I: Source, O: Sink, E: Sink, F: Shel
     shelf: &mut F,
     gate: &G,
 ) -> Status
-    ensures { Answers (map (λ word. string_bytes word) words.now)
+    ensures answers { Answers (map (λ word. string_bytes word) words.now)
+        (outside (device (I.left input.old) (I.faults input.old)) (device (O.written output.old) (O.faults output.old)) (store (F.files shelf.old) (F.faults shelf.old)))
+        (outside (device (I.left input.new) (I.faults input.new)) (device (O.written output.new) (O.faults output.new)) (store (F.files shelf.new) (F.faults shelf.new)))
+        (device (E.written diag.old) (E.faults diag.old)) (device (E.written diag.new) (E.faults diag.new))
+        result }
+    ensures headline { Headline (map (λ word. string_bytes word) words.now)
         (outside (device (I.left input.old) (I.faults input.old)) (device (O.written output.old) (O.faults output.old)) (store (F.files shelf.old) (F.faults shelf.old)))
         (outside (device (I.left input.new) (I.faults input.new)) (device (O.written output.new) (O.faults output.new)) (store (F.files shelf.new) (F.faults shelf.new)))
         (device (E.written diag.old) (E.faults diag.old)) (device (E.written diag.new) (E.faults diag.new))

@@ -3,7 +3,7 @@ ghost use Rattle.pipe_model.specs.Reply.{WaitLine, reply, console_from};
 ghost use Rattle.pipe_model.specs.WellFormed.{IsWellFormed};
 ghost use Rattle.core_machine.specs.Machine.{HasStopped, started, state_of};
 ghost use Rattle.pipe_model.specs.Form.{is_shown};
-ghost use Rattle.pipe_cli.specs.Built.{AreBuilt, keeping_of};
+ghost use Rattle.pipe_cli.specs.Kept.{keeping_of};
 ghost use Rattle.outside.specs.Device.{device};
 ghost use Rattle.pipe_cli.specs.Meaning.{outcome_of};
 ghost use Rattle.pipe_cli.specs.Steps.{HasCompleted, StopsRunning, IsWritten, IsPartWritten};
@@ -25,7 +25,6 @@ pub(crate) fn run_net<G: Gate>(
     gate: &G,
 ) -> Result<Core<BuiltIn>, Outcome>
     requires whole { IsWellFormed net }
-    requires built { AreBuilt net }
     requires few { steps ≤ 50000000 }
     ensures { MatchResult result (λ core. HasCompleted net steps core) (λ outcome. StopsRunning net steps outcome) }
 {
@@ -40,9 +39,8 @@ pub(crate) fn run_net<G: Gate>(
 }
 
 // Its core before the first step.
-fn start_net(alloc: Global, net: Net, steps: u64) -> Result<Core<BuiltIn>, NoMemory>
+pub(crate) fn start_net(alloc: Global, net: Net, steps: u64) -> Result<Core<BuiltIn>, NoMemory>
     requires whole { IsWellFormed net }
-    requires built { AreBuilt net }
     requires few { steps ≤ 50000000 }
     ensures { IfOk result (λ core. core ≡ started net steps) }
 {

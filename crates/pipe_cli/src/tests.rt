@@ -13,7 +13,7 @@ use std::thread::Threads;
 #[derive(Drop)]
 pub(crate) struct Streams {
     input: MemSource,
-    output: MemSink,
+    pub(crate) output: MemSink,
     diag: MemSink,
 }
 
@@ -132,7 +132,7 @@ fn words_and_bytes_give_bytes_and_a_status(rt: HostRuntime) -> Result<(), Fail> 
         (&["console | locate 2 /d/"], TEXT, 0, b"", b""),
         (&["locate /b/ | console"], TEXT, 0, b"", b""),
         (
-            &["console | elastic | console"],
+            &["console | nosuch | console"],
             TEXT,
             2,
             b"",

@@ -1,2 +1,2 @@
 pub mod FewPlaces
-pub mod Names
+pub mod Families

@@ -1,25 +1,19 @@
--- The kinds of the built-in stages, and what these stand for.
-use Rattle.std.specs.Prelude.{◌≤◌, Bool, ◌||◌, List, length}
+-- What the built-in stages stand for.
+use Rattle.std.specs.Prelude.{◌≤◌, List, length}
 use Rattle.pipe_model.specs.declared.net.Strand.{Strand}
-use Rattle.pipe_model.specs.declared.kind.Kind.{Kind}
 use Rattle.pipe_model.specs.Event.{Event}
-use Rattle.device_stages.specs.Device.{is_device, DeviceStands}
-use Rattle.select_stages.specs.Select.{is_select, SelectStands}
-use Rattle.edit_stages.specs.Edit.{is_edit, EditStands}
-use Rattle.unique_sort.specs.OrderStage.{is_order, UniqueStands}
-use Rattle.block_stages.specs.Block.{is_block, BlockStands}
-use Rattle.specs_stage.specs.SpecsStage.{is_specs, SpecsStageStands}
-use Rattle.gate_elastic.specs.Gate.{is_gate, GateStands}
-use Rattle.fan_stages.specs.Fan.{is_fan, FanStands}
-use Rattle.lookup_stage.specs.LookupStage.{is_lookup, LookupStands}
-use Rattle.collate_stage.specs.Plans.{is_collate}
+use Rattle.device_stages.specs.Device.{DeviceStands}
+use Rattle.select_stages.specs.Select.{SelectStands}
+use Rattle.edit_stages.specs.Edit.{EditStands}
+use Rattle.unique_sort.specs.OrderStage.{UniqueStands}
+use Rattle.block_stages.specs.Block.{BlockStands}
+use Rattle.specs_stage.specs.SpecsStage.{SpecsStageStands}
+use Rattle.gate_elastic.specs.Gate.{GateStands}
+use Rattle.fan_stages.specs.Fan.{FanStands}
+use Rattle.lookup_stage.specs.LookupStage.{LookupStands}
 use Rattle.collate_stage.specs.Stage.{CollateStands}
 use Rattle.stage_table.specs.declared.built_in.BuiltIn.{BuiltIn}
 use Rattle.stage_table.specs.declared.built_in.BuiltIn.TheVariants.{Device, Select, Edit, Order, Block, Specs, Gate, Fan, Lookup, Collate}
-
--- a family has the kind
-abbrev pub is_built_in : Kind → Bool
-is_built_in kind = is_device kind || (is_select kind || (is_edit kind || (is_order kind || (is_block kind || (is_specs kind || (is_gate kind || (is_fan kind || (is_lookup kind || is_collate kind))))))))
 
 -- so many inputs and outputs at most as a stage of a net may have
 pub record HasFewPlaces (s : Strand) : Type 0 where

@@ -1,8 +1,8 @@
-ghost use Rattle.std.specs.Prelude.{◌≡◌, ℕ, [], true, length, slice_get, IfOk, Some};
+ghost use Rattle.std.specs.Prelude.{◌≡◌, ℕ, [], length, slice_get, IfOk, Some};
 ghost use Rattle.pipe_model.specs.declared.net.Strand.{Strand as StrandIs};
 ghost use Rattle.pipe_model.specs.State.{nothing_yet, strand_at};
 ghost use Rattle.stage_table.specs.declared.built_in.BuiltIn.{BuiltIn as BuiltInIs};
-ghost use Rattle.stage_table.specs.BuiltIn.{is_built_in, BuiltInStands, HasFewPlaces};
+ghost use Rattle.stage_table.specs.BuiltIn.{BuiltInStands, HasFewPlaces};
 
 use crate::built_in::BuiltIn;
 use block_stages::{BlockStage, is_block};
@@ -19,9 +19,9 @@ use std::alloc::Global;
 use unique_sort::{UniqueStage, is_order};
 
 /// The stage of a strand, before its first event.
+#[tactic(auto, using(crate::proofs::Families::last_family))]
 pub fn make(alloc: Global, strand: &Strand) -> Result<BuiltIn, NoMemory>
-    requires kind { is_built_in strand.now.kind ≡ true }
-    requires few { HasFewPlaces strand.now }
+    requires { HasFewPlaces strand.now }
     ensures { IfOk result (λ stage. BuiltInStands stage strand.now []) }
 {
     if is_device(&strand.kind) {
@@ -66,8 +66,7 @@ pub fn make(alloc: Global, strand: &Strand) -> Result<BuiltIn, NoMemory>
 
 /// A stage for each strand of a net, in their order, each before its first event.
 pub fn make_all(alloc: Global, net: &Net) -> Result<Vec<BuiltIn>, NoMemory>
-    requires kinds { (s : ℕ) (p : StrandIs) → strand_at net.now nothing_yet s ≡ Some p → is_built_in p.kind ≡ true }
-    requires few { (s : ℕ) (p : StrandIs) → strand_at net.now nothing_yet s ≡ Some p → HasFewPlaces p }
+    requires { (s : ℕ) (p : StrandIs) → strand_at net.now nothing_yet s ≡ Some p → HasFewPlaces p }
     ensures count { IfOk result (λ stages. length stages.items ≡ length net.now.strands) }
     ensures each { IfOk result (λ stages. (s : ℕ) (p : StrandIs) (stage : BuiltInIs) → slice_get net.now.strands s ≡ Some p → slice_get stages.items s ≡ Some stage → BuiltInStands stage p []) }
 {

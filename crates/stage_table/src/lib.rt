@@ -3,11 +3,9 @@
 
 mod built_in;
 mod fresh;
-mod kinds;
 
 pub use built_in::BuiltIn;
 pub use fresh::{make, make_all};
-pub use kinds::is_built_in;
 
 #[cfg(test)]
 mod tests;

@@ -22,6 +22,6 @@ returns g c = (
   _,
   _,
   made_of _ _ _ _ _ _ _ _ _ _ _ c.new-source.ensures c.new-sink.ensures c.new-texts.ensures
-      (ap (λ (faults : ℕ). store None faults) c.new-shelf.ensures) c.pipe_main-status.ensures,
+      (ap (λ (faults : ℕ). store None faults) c.new-shelf.ensures) c.pipe_main-status.ensures.answers,
   record { input_left = c.into_inner.ensures; output_left = c.into_inner-2.ensures; diag_left = c.into_inner-3.ensures },
 )

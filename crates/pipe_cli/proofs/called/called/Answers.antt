@@ -3,16 +3,12 @@ use Rattle.std.proofs.lemmas.Result.{err_from_is_err_and}
 use Rattle.net_graph.proofs.UnfiledGraphs.{graph_unfiled}
 use Rattle.pipe_cli.specs.Refusals.{IsTextOutcome}
 use Rattle.pipe_cli.proofs.Commands.{stops_text}
-use Rattle.pipe_cli.proofs.GraphKinds.{graph_built}
 use Rattle.pipe_cli.proofs.called.called.Goals as goal
 
 pub returns-in_err-net-clause-called : goal.returns-in_err-net-clause-called
 returns-in_err-net-clause-called c =
     let p = err_from_is_err_and c.from_residual-in_err-net.result c.from_residual-in_err-net.ensures.1 in
     rw (p.1, p.2) (stops_text _ c.in_ok-spec.spec c.in_ok-spec.steps c.in_err-net.field-0.0 c.in_ok-spec.ensures.run (subst (λ z. IsTextOutcome z c.in_err-net.field-0.0) c.bytes.ensures c.in_err-net.ensures.made))
-
-pub returns-clause-built : goal.returns-clause-built
-returns-clause-built c = let made = c.in_ok-net.ensures.made in graph_built made.pipelines c.in_ok-net.net made.graph
 
 pub returns-clause-unfiled : goal.returns-clause-unfiled
 returns-clause-unfiled c = let made = c.in_ok-net.ensures.made in graph_unfiled made.pipelines c.in_ok-net.net made.graph

@@ -3,11 +3,10 @@ use Rattle.std.proofs.lemmas.Option.{slice_get-get_or}
 use Rattle.std.proofs.lemmas.Result.{err_from_is_err_and}
 use Rattle.pipe_model.specs.Table.{line_of}
 use Rattle.net_graph.specs.Fed.{filed_kind}
-use Rattle.pipe_cli.specs.Built.{AreBuilt}
 use Rattle.pipe_cli.specs.Devices.{store}
 use Rattle.pipe_cli.specs.Meaning.{input_limit}
 use Rattle.pipe_cli.specs.Steps.{IsGiven, files_known}
-use Rattle.pipe_cli.proofs.Feds.{filed_built, with_length}
+use Rattle.pipe_cli.proofs.Feds.{with_length}
 use Rattle.pipe_cli.proofs.Fetches.{AreFiled, fetched_all, filed_absent, filed_all, filed_more, given_reads, still_known, stopped_at, stopped_full, told_too_large}
 use Rattle.pipe_cli.proofs.fetch.fetch_files.Goals as goal
 use Rattle.pipe_cli.proofs.fetch.fetch_files.Goals.{in-Some+else-len-size, in_default}
@@ -166,14 +165,3 @@ returns-clause-fetched g c =
     (store (g.F.Shelf.files c.loop-strand.shelf) (g.F.Shelf.faults c.loop-strand.shelf))
     (subst (λ k. AreFiled c.args.net k c.loop-strand.net c.loop-strand.size c.loop-strand.found.items) all c.loop-strand.invariant.filed)
     c.loop-strand.invariant.known c.loop-strand.invariant.fits c.loop-strand.invariant.kept c.loop-strand.invariant.steady
-
-pub returns-clause-built : goal.returns-clause-built
-returns-clause-built g c =
-    let end = c.loop-strand.invariant.end in
-    let within = c.loop-strand.invariant.within in
-    let none = c.loop-strand-test.false in
-    let all : c.loop-strand.strand ≡ length c.args.net.strands = omega (arith, end, within, none) in
-    let there = files_known (g.F.Shelf.files c.args.shelf.now) c.loop-strand.found.items in
-    let is = filed_all c.args.net c.loop-strand.net c.loop-strand.size c.loop-strand.found.items
-    (subst (λ k. AreFiled c.args.net k c.loop-strand.net c.loop-strand.size c.loop-strand.found.items) all c.loop-strand.invariant.filed) there c.loop-strand.invariant.known in
-    subst AreBuilt (sym is.0) (filed_built there c.args.net c.requires.built)

@@ -18,11 +18,11 @@ with_one_more Fits [] (z ∷ ys) x y here fits each i a b at_a at_b = cc
 with_one_more Fits (w ∷ xs) (z ∷ ys) x y here fits each zero a b at_a at_b = each zero a b at_a at_b
 with_one_more Fits (w ∷ xs) (z ∷ ys) x y here fits each (suc i) a b at_a at_b = with_one_more Fits xs ys x y here fits (λ j. each (suc j)) i a b at_a at_b
 
-pub make-requires-clause-few : goal.make-requires-clause-few
-make-requires-clause-few c =
+pub make-requires : goal.make-requires
+make-requires c =
     let strands = c.as_slice-strands.result.now in
     let here : slice_get strands c.loop-k.k ≡ Some c.index-strands-k.result = slice_get_read strands (length strands) c.loop-k.k c.index-strands-k.result refl c.loop-k-test.true c.index-strands-k.is in
-    c.requires.few c.loop-k.k c.index-strands-k.result (let it : strand_at c.args.net.now nothing_yet c.loop-k.k ≡ Some c.index-strands-k.result = (let same = c.as_slice-strands.ensures in cc) in it)
+    c.requires c.loop-k.k c.index-strands-k.result (let it : strand_at c.args.net.now nothing_yet c.loop-k.k ≡ Some c.index-strands-k.result = (let same = c.as_slice-strands.ensures in cc) in it)
 
 pub loop-k-preserved : goal.loop-k-preserved
 loop-k-preserved c =
