@@ -5,32 +5,60 @@ use pipe_model::{NoMemory, Rec};
 use std::alloc::Global;
 use std::test::Fail;
 
-// The blocks in use after a record was put, shared, given once and given again.
-fn blocks_used(pool: &mut Pool, bytes: &[u8]) -> Result<[u64; 4], NoMemory> {
+// The blocks in use after a record was put, shared and given once, after a place was reserved for it in a queue, it was put
+// there and left, and after it was given again and its place was.
+fn blocks_used(pool: &mut Pool, queue: &mut Queue, bytes: &[u8]) -> Result<[u64; 8], NoMemory>
+    requires { queue.old.waiting ≡ [] }
+    ensures { queue.new.waiting ≡ [] }
+{
     let grip = pool.put(bytes)?;
     let put = pool.in_use();
     let second = pool.share(&grip);
     let shared = pool.in_use();
     pool.give(grip);
     let given = pool.in_use();
-    pool.give(second);
-    Ok([put, shared, given, pool.in_use()])
+    let Ok(node) = pool.reserve_node(queue) else {
+        pool.give(second);
+        return Err(NoMemory);
+    };
+    let reserved = pool.in_use();
+    pool.push_back(queue, node, second);
+    let waiting = pool.in_use();
+    let Some((node, grip)) = pool.pop_front(queue) else {
+        unreachable!()
+    };
+    let left = pool.in_use();
+    pool.give(grip);
+    let gone = pool.in_use();
+    pool.give_node(queue, node);
+    Ok([
+        put,
+        shared,
+        given,
+        reserved,
+        waiting,
+        left,
+        gone,
+        pool.in_use(),
+    ])
 }
 
 #[test]
 fn counts_holders_and_blocks(rt: HostRuntime) -> Result<(), Fail> {
     for (len, blocks) in [
-        (0, [1, 1, 1, 0]),
-        (1, [1, 1, 1, 0]),
-        (256, [1, 1, 1, 0]),
-        (257, [2, 2, 2, 0]),
-        (300, [2, 2, 2, 0]),
-        (512, [2, 2, 2, 0]),
-        (513, [3, 3, 3, 0]),
+        (0, [1, 1, 1, 2, 2, 2, 1, 0]),
+        (1, [1, 1, 1, 2, 2, 2, 1, 0]),
+        (256, [1, 1, 1, 2, 2, 2, 1, 0]),
+        (257, [2, 2, 2, 3, 3, 3, 1, 0]),
+        (300, [2, 2, 2, 3, 3, 3, 1, 0]),
+        (512, [2, 2, 2, 3, 3, 3, 1, 0]),
+        (513, [3, 3, 3, 4, 4, 4, 1, 0]),
     ] {
         let bytes = vec![in rt.alloc(); 7; len]?;
         let mut pool = Pool::new(rt.alloc());
-        let used = blocks_used(&mut pool, &bytes);
+        let mut queue = Queue::new(rt.alloc());
+        let used = blocks_used(&mut pool, &mut queue, &bytes);
+        queue.close();
         assert_eq!(rt; pool.in_use(), 0);
         pool.close();
         assert_eq!(rt; used?, blocks, "at {len}");
