@@ -71,6 +71,14 @@ impl<S: Stage> Core<S> {
         self.journal[k as usize - 1]
     }
 
+    /// The entries of the journal one by one.
+    pub fn entries(&self) -> &[Entry]
+        ensures all { result.now ≡ self.now.journal }
+        ensures lawful { IsLawful self.now }
+    {
+        &self.journal
+    }
+
     /// What a strand wants, unless it is out or has ended. A new record that it writes is shown as an empty one.
     pub fn want_of(&self, strand: u32) -> Option<&Want>
         requires { strand < length self.now.net.strands }

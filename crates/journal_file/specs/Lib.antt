@@ -1,2 +1,4 @@
 pub mod Faults
+pub mod Judged
+pub mod Made
 pub mod Text

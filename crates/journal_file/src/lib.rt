@@ -1,6 +1,7 @@
-//! The text of a run's journal, written and read.
+//! The text of a run's journal, written and read, and what a journal is to a net.
 #![tactic(auto)]
 
+mod checking;
 mod entries;
 mod fronts;
 mod laws;
@@ -9,7 +10,8 @@ mod reading;
 mod tests;
 mod writing;
 
+pub use checking::{Checked, check};
 pub use entries::Journal;
-pub use laws::{no_fault_of_a_journal, one_fault, one_journal};
+pub use laws::{no_fault_of_a_journal, one_fault, one_journal, one_judgement};
 pub use reading::{JournalFault, read};
-pub use writing::write;
+pub use writing::{text_of, write};

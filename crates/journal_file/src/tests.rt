@@ -1,5 +1,8 @@
-use crate::{Journal, JournalFault, read, write};
-use pipe_model::{Entry, NoMemory};
+ghost use Rattle.std.specs.Prelude.{◌≡◌, IfOk};
+ghost use Rattle.confluence_laws.specs.Examples.{passing};
+
+use crate::{Checked, Journal, JournalFault, check, read, write};
+use pipe_model::{Entry, Kind, Link, Net, NoMemory, Rec, Strand};
 use std::alloc::Global;
 use std::test::Fail;
 
@@ -69,6 +72,82 @@ fn a_journal_is_written_and_read_again(rt: HostRuntime) -> Result<(), Fail> {
         Ok(again) => assert!(rt; again.entries() == journal.entries()),
         Err(JournalFault::Line(line)) => assert_eq!(rt; line, 0),
         Err(JournalFault::NoMemory) => return Err(NoMemory.into()),
+    }
+    Ok(())
+}
+
+// A journal of `console | console | console` on three records, to its end.
+const PASSING: &str =
+    "pipe-journal 1\n0 0\n1 0\n2 0\n0 0\n1 0\n1 0\n2 0\n2 0\n2 0\n1 0\n1 0\n0 0\n1 0\n2 0\n2 0\n1 0\n1 0\n0 0\n1 0\n2 0\n2 0\n1 0\n1 0\n0 0\n0 0\n1 0\n1 0\n2 0\n2 0\nend 29\n";
+
+// Texts of journals of this net, each with what it is. In the fourth one the second strand looks at a record. Then come
+// a step that has to wait, a strand and a stream that aren't there, and a step behind the end.
+const JUDGED: [(&str, Checked); 9] = [
+    (PASSING, Checked::Legal { complete: true }),
+    (
+        "pipe-journal 1\nend 0\n",
+        Checked::Legal { complete: false },
+    ),
+    (
+        "pipe-journal 1\n2 0\n0 0\n1 0\nend 3\n",
+        Checked::Legal { complete: false },
+    ),
+    (
+        "pipe-journal 1\n0 0\n1 0\n2 0\n0 0\n1 0\n1 0\nend 6\n",
+        Checked::Legal { complete: false },
+    ),
+    (
+        "pipe-journal 1\n0 0\n0 0\n1 0\nend 3\n",
+        Checked::Illegal { entry: 2 },
+    ),
+    (
+        "pipe-journal 1\n0 0\n1 0\n2 0\n0 0\n1 0\n2 0\n2 0\nend 7\n",
+        Checked::Illegal { entry: 7 },
+    ),
+    (
+        "pipe-journal 1\n0 0\n1 0\n3 0\n0 0\nend 4\n",
+        Checked::Illegal { entry: 3 },
+    ),
+    (
+        "pipe-journal 1\n0 1\nend 1\n",
+        Checked::Illegal { entry: 1 },
+    ),
+    (
+        "pipe-journal 1\n4294967295 65535\nend 1\n",
+        Checked::Illegal { entry: 1 },
+    ),
+];
+
+// `console | console | console` on three records.
+fn passing_net(alloc: Global) -> Result<Net, NoMemory>
+    ensures { IfOk result (λ net. net ≡ passing) }
+{
+    let bytes = Rec::from_slice(alloc, b"ab\ncd\nb")?;
+    let first = Strand::of_stage(alloc, 0, Kind::ConsoleIn { bytes }, &[], &[true])?;
+    let second = Strand::of_stage(alloc, 1, Kind::ConsoleOut, &[true], &[true])?;
+    let last = Strand::of_stage(alloc, 2, Kind::ConsoleOut, &[true], &[false])?;
+    let strands = vec![in alloc; first, second, last]?;
+    let links = vec![in alloc; Link::rendezvous(0, 0, 1, 0), Link::rendezvous(1, 0, 2, 0)]?;
+    Ok(Net::new(strands, links))
+}
+
+// What the journal of a text is to this net, where the text is read.
+fn judged(alloc: Global, text: &str) -> Result<Option<Checked>, NoMemory> {
+    match read(alloc, text.as_bytes()) {
+        Ok(journal) => {
+            let net = passing_net(alloc)?;
+            Ok(Some(check(alloc, net, &journal)?))
+        }
+        Err(JournalFault::Line(_)) => Ok(None),
+        Err(JournalFault::NoMemory) => Err(NoMemory),
+    }
+}
+
+#[test]
+fn a_journal_is_played_on_a_net(rt: HostRuntime) -> Result<(), Fail> {
+    let alloc = rt.alloc();
+    for (text, checked) in JUDGED {
+        assert_eq!(rt; judged(alloc, text)?, Some(checked), "{text}");
     }
     Ok(())
 }

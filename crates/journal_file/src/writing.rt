@@ -10,10 +10,17 @@ use std::alloc::Global;
 pub fn write(alloc: Global, journal: &Journal) -> Result<Rec, NoMemory>
     ensures { IfOk result (λ text. text ≡ journal_text journal.now) }
 {
+    text_of(alloc, journal.entries())
+}
+
+/// The text of a journal with these entries, which are a run's, say.
+pub fn text_of(alloc: Global, entries: &[Entry]) -> Result<Rec, NoMemory>
+    ensures { IfOk result (λ text. text ≡ journal_text entries.now) }
+{
     let mut text = Vec::new(alloc);
     add(&mut text, "pipe-journal 1\n")?;
-    add_entries(&mut text, journal.entries())?;
-    add_end(&mut text, journal.len())?;
+    add_entries(&mut text, entries)?;
+    add_end(&mut text, entries.len() as u64)?;
     Ok(Rec::from_vec(text))
 }
 
