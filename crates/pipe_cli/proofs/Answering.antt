@@ -1,9 +1,10 @@
 -- From what a call decides and tells to what it answers.
-use Rattle.std.proofs.Common.{◌≡◌, ◌≢◌, ◌⊎◌, ⊎_elim, inl, inr, ℕ, ◌+◌, ◌<◌, ◌≤◌, Bool, true, false, cond, List, length, refl, sym, ◌∙◌, ap, subst, arith, length-append, Option, Some, None}
+use Rattle.std.proofs.Common.{◌≡◌, ◌≢◌, ◌⊎◌, ⊎_elim, inl, inr, ℕ, ◌+◌, ◌<◌, ◌≤◌, Bool, true, false, cond, List, length, refl, ◌∙◌, ap, subst, arith, length-append, Option, Some, None}
 use Rattle.std.specs.Option.{IfSome}
 use Rattle.std.proofs.KnownBytes.{Consumes-whole}
 use Rattle.std.specs.Io.KnownBytes.{Consumes}
 use Rattle.outside.specs.Device.{Device}
+use Rattle.pipe_model.specs.declared.net.Net.{Net}
 use Rattle.net_graph.specs.Fed.{reads_any}
 use Rattle.pipe_cli.specs.declared.status.Status.{Status}
 use Rattle.pipe_cli.specs.declared.status.Status.TheVariants as Told
@@ -12,10 +13,11 @@ use Rattle.pipe_cli.specs.declared.status.Outcome.TheVariants.{ReadFault, WriteF
 use Rattle.pipe_cli.specs.Effects.{Before, Effect}
 use Rattle.pipe_cli.specs.Status.{status_of}
 use Rattle.pipe_cli.specs.Devices.{Outside, AllSteady, NoneFailed, Steady, Failed}
-use Rattle.pipe_cli.specs.Meaning.{HasRun, IsTooLarge, Means, RunMeans, fed_size, input_limit, net_on}
-use Rattle.pipe_cli.specs.Meaning.Means.{unrun as means_unrun, too_large as means_large, ran as means_run}
-use Rattle.pipe_cli.specs.Answer.{HasCause, HasDone, IsTorn, IsUsed, Decides, Reports, IsMeant, Answers}
-use Rattle.pipe_cli.specs.Answer.HasCause.{unrun, too_large, ran, fetch_failed, read_failed, write_failed, no_memory}
+use Rattle.pipe_cli.specs.Meaning.{CheckMeans, ComesTo, IsTooLarge, Means, RunMeans, fed_size, input_limit, net_on}
+use Rattle.pipe_cli.specs.Meaning.ComesTo.{ran, checked, sampled}
+use Rattle.pipe_cli.specs.Meaning.Means.{unrun as means_unrun, unchecked as means_unchecked, too_large as means_large, came as means_came}
+use Rattle.pipe_cli.specs.Answer.{HasCause, HasDone, HasUsed, IsTorn, IsUsed, Decides, Reports, IsMeant, Answers}
+use Rattle.pipe_cli.specs.Answer.HasCause.{unrun, unchecked, too_large, came, fetch_failed, read_failed, write_failed, no_memory}
 use Rattle.pipe_cli.specs.Answer.HasDone.{whole, half}
 use Rattle.pipe_cli.specs.Answer.IsTorn.{torn_failed, torn_memory}
 use Rattle.pipe_cli.proofs.Unread.{fed_unread}
@@ -24,8 +26,9 @@ use Rattle.pipe_cli.proofs.Unread.{fed_unread}
 module _ (words : List (List ℕ)) (old new : Outside) (given : Before) (effect : Effect) (decided : Outcome) (no_read : decided ≢ ReadFault) (no_write : decided ≢ WriteFault) (no_shelf : (name : List ℕ) → decided ≢ ShelfFault name) where
   unfailed_cause : HasCause words old new given effect decided → AllSteady old new
   unfailed_cause (unrun why unread done steady) = steady
+  unfailed_cause (unchecked why unread done steady) = steady
   unfailed_cause (too_large large is done steady) = steady
-  unfailed_cause (ran run used steady) = steady
+  unfailed_cause (came comes used steady) = steady
   unfailed_cause (fetch_failed name fetching unread is done input output failed) = absurd (no_shelf name is)
   unfailed_cause (read_failed reading is done failed output shelf) = absurd (no_read is)
   unfailed_cause (write_failed written is input failed shelf) = absurd (no_write is)
@@ -63,50 +66,61 @@ more_fed false a b rest more large = large
 abbrev on_all : Before → List ℕ → Before
 on_all given input = record given { input = input }
 
--- a net that doesn't read the input comes to the same on any
-module _ (words : List (List ℕ)) (given : Before) (decided : Outcome) (effect : Effect) (run : HasRun words given decided effect) (leaves : reads_any run.net ≡ false) (input : List ℕ) where
-  same_net : net_on given run.net ≡ net_on (on_all given input) run.net
-  same_net = fed_unread given.input input given.files run.net leaves
+-- a net that doesn't read the input is the same on any
+module _ (given : Before) (net : Net) (leaves : reads_any net ≡ false) (input : List ℕ) where
+  unread_same : net_on given net ≡ net_on (on_all given input) net
+  unread_same = fed_unread given.input input given.files net leaves
 
-  same_size : fed_size (on_all given input) run.net ≡ fed_size given run.net
-  same_size =
+  unread_fits : fed_size given net ≤ input_limit → fed_size (on_all given input) net ≤ input_limit
+  unread_fits fits =
       let mine = ap (λ b. cond b (length given.input) 0) leaves in
       let other = ap (λ b. cond b (length input) 0) leaves in
-      omega (arith, mine, other)
-
-  run_unread : HasRun words (on_all given input) decided effect
-  run_unread = record {
-    net = run.net;
-    steps = run.steps;
-    runs = run.runs;
-    fits = subst (λ n. n ≤ input_limit) (sym same_size) run.fits;
-    means = subst (λ net. RunMeans net run.steps decided effect) same_net run.means;
-  }
+      omega (arith, mine, other, fits)
 
 module _ (words : List (List ℕ)) (old new : Outside) where
   module _ (decided : Outcome) (d : Decides words old new decided) where
     abbrev Meant : List ℕ → Type 0
     Meant input = Means words (on_all d.given input) decided d.effect
 
-    run_meant : (run : HasRun words d.given decided d.effect) → IsUsed run.net d.given new.input → IfSome old.input.bytes Meant
-    run_meant run used = go (reads_any run.net) refl
-      where
-        go : (b : Bool) → reads_any run.net ≡ b → IfSome old.input.bytes Meant
-        go true is =
-            Consumes-whole old.input.bytes new.input.bytes d.given.input Meant d.gave (used.reads is) (means_run run)
-        go false is = at_some old.input.bytes (λ all. means_run (run_unread words d.given decided d.effect run is all))
+    -- what words come to on what a net was given they mean on all
+    module _ (net : Net) (used : IsUsed net d.given new.input) (comes : ComesTo words d.given decided d.effect) where
+      used_meant : ((leaves : reads_any net ≡ false) (input : List ℕ) → ComesTo words (on_all d.given input) decided d.effect) → IfSome old.input.bytes Meant
+      used_meant unread = go (reads_any net) refl
+        where
+          go : (b : Bool) → reads_any net ≡ b → IfSome old.input.bytes Meant
+          go true is = Consumes-whole old.input.bytes new.input.bytes d.given.input Meant d.gave (used.reads is) (means_came comes)
+          go false is = at_some old.input.bytes (λ all. means_came (unread is all))
+
+    come_meant : (comes : ComesTo words d.given decided d.effect) → HasUsed words d.given decided d.effect comes new.input → IfSome old.input.bytes Meant
+    come_meant (ran r) used = used_meant r.net used (ran r) (λ leaves all. ran (record {
+      net = r.net;
+      steps = r.steps;
+      trace = r.trace;
+      runs = r.runs;
+      fits = unread_fits d.given r.net leaves all r.fits;
+      means = subst (λ net. RunMeans net r.steps r.trace decided d.effect) (unread_same d.given r.net leaves all) r.means;
+    }))
+    come_meant (checked c) used = used_meant c.net used (checked c) (λ leaves all. checked (record {
+      net = c.net;
+      journal = c.journal;
+      checks = c.checks;
+      fits = unread_fits d.given c.net leaves all c.fits;
+      means = subst (λ net. CheckMeans net c.journal decided d.effect) (unread_same d.given c.net leaves all) c.means;
+    }))
+    come_meant (sampled s) used = at_some old.input.bytes (λ all. means_came (sampled s))
 
     large_meant : IsTooLarge words d.given → (all : List ℕ) → length d.given.input ≤ length all → IsTooLarge words (on_all d.given all)
-    large_meant large all more = record { net = large.net; steps = large.steps; runs = large.runs; large = more_fed (reads_any large.net) _ _ _ more large.large }
+    large_meant large all more = record { net = large.net; feeds = large.feeds; large = more_fed (reads_any large.net) _ _ _ more large.large }
 
     abbrev Meaning : Status → Type 0
     Meaning status = (status ≡ Told.NoMemory) ⊎ IsMeant words old d.given d.effect decided status
 
     meant_cause : (status : Status) → status ≡ status_of decided → NoneFailed old new → HasCause words old new d.given d.effect decided → Meaning status
     meant_cause status told none (unrun why unread done steady) = inr (record { same = told; means = at_some old.input.bytes (λ all. means_unrun why done) })
+    meant_cause status told none (unchecked why unread done steady) = inr (record { same = told; means = at_some old.input.bytes (λ all. means_unchecked why done) })
     meant_cause status told none (too_large large is done steady) =
         inr (record { same = told; means = weaker_some old.input.bytes (λ all more. means_large (large_meant large all more) is done) (some_given d.given.input old.input.bytes new.input.bytes d.gave) })
-    meant_cause status told none (ran run used steady) = inr (record { same = told; means = run_meant run used })
+    meant_cause status told none (came comes used steady) = inr (record { same = told; means = come_meant comes used })
     meant_cause status told none (fetch_failed name fetching unread is done input output failed) = absurd (none.shelf failed)
     meant_cause status told none (read_failed reading is done failed output shelf) = absurd (none.input failed)
     meant_cause status told none (write_failed written is input failed shelf) = absurd (none.output failed)

@@ -1,16 +1,18 @@
 -- What a core has done at the end of its run.
-use Rattle.std.proofs.Common.{◌≡◌, ℕ, true, false, List, [], sym, ◌∙◌, ap, subst, arith, None, is_some}
+use Rattle.std.proofs.Common.{◌≡◌, ℕ, true, false, List, [], refl, sym, ◌∙◌, ap, subst, arith, None, is_some}
 use Rattle.pipe_model.specs.declared.net.Net.{Net}
 use Rattle.pipe_model.specs.declared.step.Entry.{Entry}
 use Rattle.pipe_model.specs.Licence.{licence, none_left}
-use Rattle.pipe_model.specs.Play.{play, IsLegal, IsLicensed, IsComplete}
-use Rattle.pipe_model.specs.WellFormed.{IsWellFormed}
-use Rattle.confluence_laws.proofs.Commits.{committed_before}
+use Rattle.pipe_model.specs.Play.{play, IsComplete}
+use Rattle.pipe_model.specs.Reply.{reply}
 use Rattle.core_machine.specs.declared.job.RunEnd.TheVariants as End
-use Rattle.core_machine.specs.Machine.{Machine, started, left_by, HasStopped, IsLawful}
+use Rattle.core_machine.specs.Machine.{Machine, started, left_by, state_of, HasStopped, IsLawful}
 use Rattle.core_machine.specs.Answered.{HasRun, Ends}
-use Rattle.pipe_cli.specs.Meaning.{Exhausts}
-use Rattle.pipe_cli.specs.Steps.{HasCompleted}
+use Rattle.pipe_cli.specs.declared.status.Outcome.{Outcome}
+use Rattle.pipe_cli.specs.declared.status.Outcome.TheVariants.{Spent}
+use Rattle.pipe_cli.specs.Meaning.{outcome_of}
+use Rattle.pipe_cli.specs.Steps.{EndsAs, IsRun}
+use Rattle.pipe_cli.specs.Steps.EndsAs.{completes, spends}
 
 -- a journal is complete where no strand may have an event
 complete_if : (net : Net) (es : List Entry) → ((s k : ℕ) → licence net (play net es) none_left s k ≡ None) → IsComplete net es
@@ -25,35 +27,26 @@ pub stopped_complete : (m : Machine) → HasStopped m → IsComplete m.net m.jou
 stopped_complete m stopped = complete_if m.net m.journal (stopped_all m stopped)
 
 module _ (net : Net) (steps : ℕ) (old new : Machine) (first : old ≡ started net steps) (run : HasRun old new) (lawful : IsLawful new) where
-  net_is : new.net ≡ net
-  net_is = ap (λ (m : Machine). m.net) run.after ∙ ap (λ (m : Machine). m.net) first
-
   budget_is : new.budget ≡ steps
   budget_is = ap (λ (m : Machine). m.budget) run.after ∙ ap (λ (m : Machine). m.budget) first
 
   out_is : new.out ≡ []
   out_is = ap (λ (m : Machine). m.out) run.after ∙ ap (λ (m : Machine). m.out) first
 
-  legal_is : IsLegal net new.journal
-  legal_is = subst (λ z. IsLegal z new.journal) net_is lawful.legal
-
-  -- it came to its end
-  pub run_completed : Ends End.Complete new → HasCompleted net steps new
-  run_completed stopped = record {
-    net_is = net_is;
-    legal = legal_is;
-    stopped = stopped;
+  run_ended : (outcome : Outcome) → EndsAs steps new outcome → IsRun net steps new outcome
+  run_ended outcome ends = record {
+    net_is = ap (λ (m : Machine). m.net) run.after ∙ ap (λ (m : Machine). m.net) first;
+    legal = lawful.legal;
+    home = out_is;
     within = let w = lawful.within in omega (arith, w, budget_is);
+    ends = ends;
   }
 
+  -- it came to its end
+  pub run_completed : Ends End.Complete new → (outcome : Outcome) → outcome ≡ outcome_of new.net (reply new.net (state_of new)) → IsRun net steps new outcome
+  run_completed stopped outcome of = run_ended outcome (completes stopped of)
+
   -- its journal was full before
-  pub run_spent : IsWellFormed net → Ends End.Spent new → Exhausts net steps
-  run_spent formed ends =
-      let may : is_some (licence new.net (play new.net new.journal) none_left ends.1.0.0 ends.1.0.1) ≡ true = subst (λ out. is_some (licence new.net (play new.net new.journal) (left_by new.journal out) ends.1.0.0 ends.1.0.1) ≡ true) out_is ends.1.1.0 in
-      record {
-        journal = new.journal;
-        legal = legal_is;
-        full = ends.0 ∙ budget_is;
-        committed = λ k move s lt. committed_before net formed new.journal k legal_is move s lt;
-        more = (record { strand = ends.1.0.0; stream = ends.1.0.1 }, subst (λ z. IsLicensed z (play z new.journal) (record { strand = ends.1.0.0; stream = ends.1.0.1 })) net_is may);
-      }
+  pub run_spent : Ends End.Spent new → IsRun net steps new (Spent steps)
+  run_spent ends = run_ended (Spent steps) (spends refl (ends.0 ∙ budget_is)
+      (record { strand = ends.1.0.0; stream = ends.1.0.1 }, subst (λ out. is_some (licence new.net (play new.net new.journal) (left_by new.journal out) ends.1.0.0 ends.1.0.1) ≡ true) out_is ends.1.1.0))

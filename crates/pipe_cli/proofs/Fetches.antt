@@ -233,12 +233,13 @@ filed_all net now size found are files of =
 -- Shelves while the files of a net are fetched
 
 -- what is known is what there is, where it is told
-known_there : (old : Option Files) (found : List Found) → IfSome old (λ there. files_known old found ≡ there)
+pub known_there : (old : Option Files) (found : List Found) → IfSome old (λ there. files_known old found ≡ there)
 known_there None found = tt
 known_there (Some files) found = refl
 
 module _ (net : Net) (k : ℕ) (now : Net) (size : ℕ) (found : List Found) (was : AreFiled net k now size found) (p : Strand) (at : slice_get now.strands k ≡ Some p) (old middle new : Store)
-    (kept : middle.files ≡ old.files) (steady : middle.faults ≡ old.faults) (known : AreOf (files_known old.files found) found) where
+    (kept : middle.files ≡ old.files) (steady : middle.faults ≡ old.faults) (known : AreOf (files_known old.files found) found) (before : List Found)
+    (front : (files : Files) → AreOf files found → AreOf files before) where
   -- a file more is known
   pub still_known : (found' : List Found) (bytes : Option (List ℕ)) → IsGiven (line_of p.kind).feed middle new found found' bytes → AreOf (files_known old.files found') found'
   still_known found' bytes given =
@@ -251,32 +252,38 @@ module _ (net : Net) (k : ℕ) (now : Net) (size : ℕ) (found : List Found) (wa
   stops_fetching InputTooLarge stops = absurd stops
   stops_fetching _ stops = absurd stops
 
-  pub stopped_at : (outcome : Outcome) → IsUngiven (line_of p.kind).feed middle new outcome → AreFetchedPart net old new outcome
+  pub stopped_at : (outcome : Outcome) → IsUngiven (line_of p.kind).feed middle new outcome → AreFetchedPart net before old new outcome
   stopped_at outcome ungiven = record {
     files = files_known old.files found;
     found = known_there old.files found;
+    of = front (files_known old.files found) known;
     kept = ungiven.kept ∙ kept;
     stops = stops_fetching outcome ungiven.stops;
   }
 
   -- or at one with which they are too large
   pub stopped_full : (found' : List Found) (bytes : List ℕ) (outcome : Outcome) → IsGiven (line_of p.kind).feed middle new found found' (Some bytes) → input_limit < size + length bytes →
-      outcome ≡ InputTooLarge → AreFetchedPart net old new outcome
+      outcome ≡ InputTooLarge → AreFetchedPart net before old new outcome
   stopped_full found' bytes outcome given large is =
-      let least = size_at_least net k now size found was p at middle new found' bytes given (files_known old.files found') (still_known found' (Some bytes) given) in
+      let there = files_known old.files found' in
+      let of = still_known found' (Some bytes) given in
+      let least = size_at_least net k now size found was p at middle new found' bytes given there of in
       record {
-        files = files_known old.files found';
+        files = there;
         found = known_there old.files found';
+        of = front there (given.more there of);
         kept = given.kept ∙ kept;
-        stops = subst (StopsFetching net old new (files_known old.files found')) (sym is) (omega (arith, large, least), given.steady ∙ steady);
+        stops = subst (StopsFetching net old new there) (sym is) (omega (arith, large, least), given.steady ∙ steady);
       }
 
 -- it ended behind the last file
-pub fetched_all : (net now : Net) (size : ℕ) (found : List Found) (old new : Store) → AreFiled net (length net.strands) now size found → AreOf (files_known old.files found) found →
-    size ≤ input_limit → new.files ≡ old.files → new.faults ≡ old.faults → (files : Files) × AreFetched net old new files × (now ≡ filed files net) × (size ≡ files_size files net)
-fetched_all net now size found old new are known fits kept steady =
-    let all = filed_all net now size found are (files_known old.files found) known in
-    (files_known old.files found, record { found = known_there old.files found; kept = kept; fits = subst (λ n. n ≤ input_limit) all.1 fits; steady = steady }, all.0, all.1)
+pub fetched_all : (net now : Net) (size : ℕ) (before found : List Found) (old new : Store) → AreFiled net (length net.strands) now size found → AreOf (files_known old.files found) found →
+    ((files : Files) → AreOf files found → AreOf files before) → size ≤ input_limit → new.files ≡ old.files → new.faults ≡ old.faults →
+    (files : Files) × AreFetched net before old new files × (now ≡ filed files net) × (size ≡ files_size files net)
+fetched_all net now size before found old new are known front fits kept steady =
+    let there = files_known old.files found in
+    let all = filed_all net now size found are there known in
+    (there, record { found = known_there old.files found; of = front there known; kept = kept; fits = subst (λ n. n ≤ input_limit) all.1 fits; steady = steady }, all.0, all.1)
 
 -- that the files are too large wants no memory to be told
 pub told_too_large : (told : Told) → IsToldAs InputTooLarge told → told.outcome ≡ InputTooLarge

@@ -1,6 +1,5 @@
 -- From what a call answers to the headline.
-use Rattle.std.proofs.Common.{◌≡◌, ◌≢◌, ◌⊎◌, ⊎_elim, inl, inr, ℕ, ◌+◌, ◌<◌, ◌≤◌, List, [], ◌∷◌, ◌++◌, length, refl, sym, ◌∙◌, ap, subst, arith, length-append, ℤ, pos, negsuc, zero, suc, Some}
-use Rattle.std.specs.Prelude.{◌↔◌}
+use Rattle.std.proofs.Common.{◌≡◌, ◌≢◌, ⊎_elim, inl, inr, ℕ, ◌<◌, ◌≤◌, List, [], ◌∷◌, ◌++◌, length, refl, sym, ◌∙◌, ap, subst, arith, length-append, ℤ, pos, negsuc, zero, suc, Option, Some}
 use Rattle.std.specs.Option.{IfSome}
 use Rattle.outside.specs.Device.{Device}
 use Rattle.outside.specs.Files.{Files}
@@ -21,24 +20,25 @@ use Rattle.confluence_laws.proofs.WaitLines.{none_ended, some_unended, unended_s
 use Rattle.net_graph.proofs.Feeds.{fed_formed}
 use Rattle.pipe_cli.specs.declared.status.Status.{Status}
 use Rattle.pipe_cli.specs.declared.status.Status.TheVariants.{NoMemory}
+use Rattle.call_words.specs.declared.command.Command.TheVariants.{Run}
 use Rattle.pipe_cli.specs.declared.status.Outcome.{Outcome}
-use Rattle.pipe_cli.specs.declared.status.Outcome.TheVariants.{Done, Coded, Stalled, Spent}
-use Rattle.pipe_cli.specs.declared.status.Outcome.TheVariants as Was
+use Rattle.pipe_cli.specs.declared.status.Outcome.TheVariants.{Spent}
 use Rattle.pipe_cli.specs.Answer.{Answers, HasDone, IsMeant, IsTold, IsTorn}
 use Rattle.pipe_cli.specs.Answer.HasDone.{whole, half}
 use Rattle.pipe_cli.specs.Answer.IsTorn.{torn_failed, torn_memory}
 use Rattle.pipe_cli.specs.Devices.{Outside, Failed, IsDone, NoneFailed}
-use Rattle.pipe_cli.specs.Effects.{Before, Effect, effect_of}
-use Rattle.pipe_cli.specs.Headline.{HasOneAnswer, Headline, IsEnded, IsHeadline, IsOneReading, IsReplyOf, IsStall}
+use Rattle.pipe_cli.specs.Effects.{Before, Effect, effect_of, no_effect, traced, untraced}
+use Rattle.pipe_cli.specs.Headline.{AreKnown, Headline, IsEnded, IsHeadline, IsOneReading, IsReplyOf, IsStall}
 use Rattle.pipe_cli.specs.Headline.HasOneAnswer.{reads, spends}
-use Rattle.pipe_cli.specs.Meaning.{Exhausts, Finishes, HasRun, IsCommittedFirst, IsTooLarge, Means, RunMeans, RunsNet, fed_size, input_limit, net_on, outcome_by, outcome_of}
-use Rattle.pipe_cli.specs.Meaning.Means.{unrun, too_large, ran}
+use Rattle.pipe_cli.specs.Meaning.{Exhausts, Finishes, IsCommittedFirst, Means, RunMeans, RunsNet, fed_size, input_limit, net_on, outcome_by, outcome_of}
 use Rattle.pipe_cli.specs.Meaning.RunMeans.{finishes, exhausts}
 use Rattle.pipe_cli.specs.Status.{status_of}
 use Rattle.pipe_cli.proofs.Journals.{goes_further}
-use Rattle.pipe_cli.proofs.Meanings.{runs_or_not, same_net, same_run}
+use Rattle.pipe_cli.proofs.Meanings.{IfFits, meaning_at, run_called}
 use Rattle.pipe_cli.proofs.OneTexts.{net_formed}
 use Rattle.pipe_cli.proofs.SameReplies.{same_reply}
+use Rattle.pipe_cli.proofs.Unread.{fed_unfiled, none_unfiled}
+use Rattle.pipe_cli.proofs.Untraced.{traced_by, untraced_is}
 
 -- The outcome of a reply
 
@@ -83,9 +83,9 @@ module _ (net : Net) (steps : ℕ) (formed : IsWellFormed net) (settled : IsSett
   committed : (order : List Entry) → IsLegal net order → IsCommittedFirst net order
   committed order legal = λ k move s lt. committed_before net formed order k legal move s lt
 
-  module _ (outcome : Outcome) (effect : Effect) where
+  module _ (trace : Option (List ℕ)) (outcome : Outcome) (effect : Effect) where
     -- it came to its end
-    module _ (answer : Reply) (done : Finishes net steps answer) (outcome_is : outcome ≡ outcome_of net answer) (effect_is : effect ≡ effect_of answer) where
+    module _ (answer : Reply) (done : Finishes net steps answer) (outcome_is : outcome ≡ outcome_of net answer) (effect_is : effect ≡ traced trace done.journal (effect_of answer)) where
       abbrev st : State
       st = play net done.journal
 
@@ -93,14 +93,14 @@ module _ (net : Net) (steps : ℕ) (formed : IsWellFormed net) (settled : IsSett
       outcome_by_st = outcome_is ∙ ap (outcome_of net) (sym done.replies)
 
       replied : IsReplyOf net st outcome effect
-      replied = (outcome_by_st, effect_is ∙ ap effect_of (sym done.replies))
+      replied = (outcome_by_st, untraced_is done.journal trace effect (effect_of answer) effect_is ∙ ap effect_of (sym done.replies))
 
       ended : IsEnded outcome → HasEnded net st
       ended is = none_ended net st (by_ended net (reply net st).waits (reply net st).code (subst IsEnded outcome_by_st is))
 
       by_streams : IsPlain net → IsEnded outcome → (other : State) → IsPlainReading net other → IsReplyOf net other outcome effect
       by_streams plain is other reading =
-          subst (λ (r : Reply). (outcome ≡ outcome_of net r) × (effect ≡ effect_of r))
+          subst (λ (r : Reply). (outcome ≡ outcome_of net r) × (untraced effect ≡ effect_of r))
           (same_reply net st other (one_reading net formed plain st other (done.plainly plain (ended is)) reading)) replied
 
       to_stall : IsStall outcome → (other : State) × (size : ℕ) × IsOneReading net other size × (size ≤ steps) × ¬ HasEnded net other
@@ -117,13 +117,14 @@ module _ (net : Net) (steps : ℕ) (formed : IsWellFormed net) (settled : IsSett
           let same = (reading.one done.journal done.legal done.complete).0 in
           subst IsStall (sym outcome_by_st) (stall_by net (reply net st).waits (reply net st).code (unended_some net st (subst (λ z. ¬ HasEnded net z) (sym same) unended)))
 
-      finished : IsHeadline net steps outcome effect
+      finished : IsHeadline net steps trace outcome effect
       finished = record {
         answer = reads st (length done.journal) (reading_of done.journal done.legal done.complete) done.within replied;
         streams = by_streams;
         stalls = (to_stall, from_stall);
         enough = λ plain lists are few spent. by_unspent net (reply net st).waits (reply net st).code steps (sym outcome_by_st ∙ spent);
         first = committed;
+        traced = traced_by done.journal net done.legal trace effect (effect_of answer) refl effect_is;
       }
 
     -- it had more to do
@@ -153,37 +154,48 @@ module _ (net : Net) (steps : ℕ) (formed : IsWellFormed net) (settled : IsSett
           let full = spent.full in
           omega (arith, size, least, full, few)
 
-    headline_net : RunMeans net steps outcome effect → IsHeadline net steps outcome effect
+    headline_net : RunMeans net steps trace outcome effect → IsHeadline net steps trace outcome effect
     headline_net (finishes answer done outcome_is effect_is) = finished answer done outcome_is effect_is
     headline_net (exhausts spent outcome_is effect_is) = record {
-      answer = spends (none_short spent outcome_is) outcome_is effect_is;
+      answer = spends (none_short spent outcome_is) outcome_is (untraced_is spent.journal trace effect no_effect effect_is);
       streams = λ plain is st reading. absurd (subst IsEnded outcome_is is);
       stalls = (λ is. absurd (no_stall spent outcome_is is), no_reading spent outcome_is);
       enough = not_enough spent outcome_is;
       first = committed;
+      traced = traced_by spent.journal net spent.legal trace effect no_effect refl effect_is;
     }
 
 -- A call
 
-module _ (words : List (List ℕ)) (net : Net) (steps : ℕ) (runs : RunsNet words net steps) (before : Before) (settled : IsSettled (net_on before net)) (fits : fed_size before net ≤ input_limit)
-    (outcome : Outcome) (effect : Effect) where
-  on_formed : IsWellFormed (net_on before net)
-  on_formed = fed_formed before.input before.files net (net_formed runs.spec net runs.net_of)
+abbrev before_of : List ℕ → Files → Before
+before_of input files = record { input = input; files = files }
 
-  by_run : HasRun words before outcome effect → IsHeadline (net_on before net) steps outcome effect
-  by_run run =
-      let one : run.net ≡ net = same_net words run.net net run.steps steps run.runs runs in
-      let count : run.steps ≡ steps = (same_run words run.runs.spec runs.spec run.steps steps run.runs.run runs.run).1 in
-      headline_net (net_on before net) steps on_formed settled outcome effect
-      (subst (λ n. RunMeans (net_on before net) n outcome effect) count (subst (λ z. RunMeans (net_on before z) run.steps outcome effect) one run.means))
+module _ (words : List (List ℕ)) (net : Net) (steps : ℕ) (trace : Option (List ℕ)) (runs : RunsNet words net steps trace) where
+  module _ (before : Before) (settled : IsSettled (net_on before net)) (fits : fed_size before net ≤ input_limit) (outcome : Outcome) (effect : Effect) where
+    by_meaning : Means words before outcome effect → IsHeadline (net_on before net) steps trace outcome effect
+    by_meaning means = by (meaning_at words before (Run runs.spec runs.run.workers steps trace) net (run_called words net steps trace runs) outcome effect means)
+      where
+        by : IfFits before net outcome effect (RunMeans (net_on before net) steps trace outcome effect) → IsHeadline (net_on before net) steps trace outcome effect
+        by (inl large) = (let past = large.0 in absurd (omega (arith, fits, past)))
+        by (inr run) = headline_net (net_on before net) steps (fed_formed before.input before.files net (net_formed runs.spec net runs.net_of)) settled trace outcome effect run.1
 
-  by_meaning : Means words before outcome effect → IsHeadline (net_on before net) steps outcome effect
-  by_meaning (unrun why done) = absurd (runs_or_not words net steps outcome runs why)
-  by_meaning (too_large large is done) =
-      let same = same_net words large.net net large.steps steps large.runs runs in
-      let past : input_limit < fed_size before net = subst (λ z. input_limit < fed_size before z) same large.large in
-      absurd (omega (arith, fits, past))
-  by_meaning (ran run) = by_run run
+  -- on files that it doesn't read a net is the same
+  by_files : (input : List ℕ) (files given : Files) (told : Option Files) → AreKnown net told files → IfSome told (λ there. given ≡ there) →
+      (net_on (before_of input given) net ≡ net_on (before_of input files) net) × (fed_size (before_of input given) net ≡ fed_size (before_of input files) net)
+  by_files input files given told (inl known) found =
+      let same : given ≡ files = subst (λ o. IfSome o (λ there. given ≡ there)) known found in
+      (ap (λ f. net_on (before_of input f) net) same, ap (λ f. fed_size (before_of input f) net) same)
+  by_files input files given told (inr none) found =
+      let sizes = none_unfiled given files net none in
+      (fed_unfiled given files net none input, (let e : fed_size (before_of input given) net ≡ fed_size (before_of input files) net = omega (arith, sizes) in e))
+
+  -- what they mean on the files that were given
+  by_given : (input : List ℕ) (files given : Files) (told : Option Files) → AreKnown net told files → IfSome told (λ there. given ≡ there) → IsSettled (net_on (before_of input files) net) → fed_size (before_of input files) net ≤ input_limit →
+      (outcome : Outcome) (effect : Effect) → Means words (before_of input given) outcome effect → IsHeadline (net_on (before_of input files) net) steps trace outcome effect
+  by_given input files given told known found settled fits outcome effect means =
+      let same = by_files input files given told known found in
+      subst (λ z. IsHeadline z steps trace outcome effect) same.0
+      (by_meaning (before_of input given) (subst IsSettled (sym same.0) settled) (subst (λ n. n ≤ input_limit) (sym same.1) fits) outcome effect means)
 
 module _ (words : List (List ℕ)) (old new : Outside) (diag diag' : Device) (status : Status) (answers : Answers words old new diag diag' status) where
   -- its text was told
@@ -200,20 +212,17 @@ module _ (words : List (List ℕ)) (old new : Outside) (diag diag' : Device) (st
       by (torn_memory is steady) = absurd (some ((told_of untold).same ∙ ap status_of is))
 
   -- what it means
-  meant_of : (input : List ℕ) (files : Files) → old.input.bytes ≡ Some input → old.shelf.files ≡ Some files → IsMeant words old answers.decides.given answers.decides.effect answers.decided status →
-      let before : Before = record { input = input; files = files } in Means words before answers.decided answers.decides.effect
-  meant_of input files told_input told_files meant =
-      let found : answers.decides.given.files ≡ files = subst (λ o. IfSome o (λ z. answers.decides.given.files ≡ z)) told_files answers.decides.found in
-      let means = subst (λ o. IfSome o (λ z. Means words (record answers.decides.given { input = z }) answers.decided answers.decides.effect)) told_input meant.means in
-      subst (λ z. let before : Before = record { input = input; files = z } in Means words before answers.decided answers.decides.effect) found means
+  meant_of : (input : List ℕ) → old.input.bytes ≡ Some input → IsMeant words old answers.decides.given answers.decides.effect answers.decided status →
+      Means words (record answers.decides.given { input = input }) answers.decided answers.decides.effect
+  meant_of input told_input meant = subst (λ o. IfSome o (λ z. Means words (record answers.decides.given { input = z }) answers.decided answers.decides.effect)) told_input meant.means
 
   pub headline : Headline words old new diag diag' status
-  headline = λ input files net steps told_input told_files runs settled fits none untold some. (
+  headline = λ input files net steps trace told_input known runs settled fits none untold some. (
     answers.decided,
     answers.decides.effect,
     ⊎_elim
         (λ lacks. absurd (some lacks))
-        (λ meant. by_meaning words net steps runs (record { input = input; files = files }) settled fits answers.decided answers.decides.effect (meant_of input files told_input told_files meant))
+        (λ meant. by_given words net steps trace runs input files answers.decides.given.files old.shelf.files known answers.decides.found settled fits answers.decided answers.decides.effect (meant_of input told_input meant))
         (answers.complete none untold),
     done_by none untold some answers.decides.done,
     told_of untold,

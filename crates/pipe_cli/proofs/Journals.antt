@@ -1,12 +1,12 @@
 -- Two journals of a settled net.
-use Rattle.std.proofs.Common.{◌≡◌, ◌<◌, List, [], ◌∷◌, ◌++◌, length, length-append, arith}
+use Rattle.std.proofs.Common.{◌<◌, List, [], ◌∷◌, ◌++◌, length, length-append, arith}
 use Rattle.pipe_model.specs.declared.net.Net.{Net}
 use Rattle.pipe_model.specs.declared.step.Entry.{Entry}
 use Rattle.pipe_model.specs.State.{nothing_yet}
 use Rattle.pipe_model.specs.Play.{play, IsLegal, IsLicensed, IsComplete}
 use Rattle.pipe_model.specs.Settled.{IsSettled}
 use Rattle.pipe_model.specs.WellFormed.{IsWellFormed}
-use Rattle.confluence_laws.proofs.Prefixes.{beginning_of, alike}
+use Rattle.confluence_laws.proofs.Prefixes.{beginning_of}
 use Rattle.confluence_laws.proofs.Lengths.{legal_last}
 
 module _ (net : Net) (formed : IsWellFormed net) (settled : IsSettled net) where
@@ -16,7 +16,3 @@ module _ (net : Net) (formed : IsWellFormed net) (settled : IsSettled net) where
       let longer = (beginning_of net formed settled (ds ++ e ∷ []) es (legal_last net nothing_yet ds e other may) legal complete).0 in
       let size = length-append ds (e ∷ []) in
       omega (arith, longer, size)
-
-  -- two complete ones have the same histories
-  pub same_play : (es ds : List Entry) → IsLegal net es → IsLegal net ds → IsComplete net es → IsComplete net ds → play net es ≡ play net ds
-  same_play es ds legal other complete whole = (alike net formed settled es ds legal other complete whole).0

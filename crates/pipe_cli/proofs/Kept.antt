@@ -38,11 +38,12 @@ abbrev pub HasWritten : State → Who → List Strand → Option (List ℕ) → 
 HasWritten st k ps old new = (done : List ℕ) × Appends old new done × (done ++ console_from st k (drop k ps) ≡ console_from st 0 ps)
 
 module _ (st : State) (k : Who) (ps : List Strand) (kept : List ℕ) (more : console_from st k (drop k ps) ≡ kept ++ console_from st (k + 1) (drop (k + 1) ps)) where
-  split : (done : List ℕ) → done ++ console_from st k (drop k ps) ≡ console_from st 0 ps → (done ++ kept) ++ console_from st (k + 1) (drop (k + 1) ps) ≡ console_from st 0 ps
-  split done whole = append_assoc done kept (console_from st (k + 1) (drop (k + 1) ps)) ∙ ap (λ z. done ++ z) (sym more) ∙ whole
+  -- with what a strand keeps behind it
+  pub kept_more : (done : List ℕ) → done ++ console_from st k (drop k ps) ≡ console_from st 0 ps → (done ++ kept) ++ console_from st (k + 1) (drop (k + 1) ps) ≡ console_from st 0 ps
+  kept_more done whole = append_assoc done kept (console_from st (k + 1) (drop (k + 1) ps)) ∙ ap (λ z. done ++ z) (sym more) ∙ whole
 
   pub wrote_more : (old middle new : Option (List ℕ)) → HasWritten st k ps old middle → Appends middle new kept → HasWritten st (k + 1) ps old new
-  wrote_more old middle new wrote gained = (wrote.0 ++ kept, Appends-trans old middle new wrote.0 kept wrote.1 gained, split wrote.0 wrote.2)
+  wrote_more old middle new wrote gained = (wrote.0 ++ kept, Appends-trans old middle new wrote.0 kept wrote.1 gained, kept_more wrote.0 wrote.2)
 
   pub wrote_part : (old middle new : Device) (outcome : Outcome) → HasWritten st k ps old.bytes middle.bytes → Steady old middle → IsPartWritten kept middle new outcome → IsPartWritten (console_from st 0 ps) old new outcome
   wrote_part old middle new outcome wrote steady part =
@@ -55,7 +56,7 @@ module _ (st : State) (k : Who) (ps : List Strand) (kept : List ℕ) (more : con
         cut = record {
           rest = part.cut.rest ++ rest;
           whole_is =
-              sym (split wrote.0 wrote.2)
+              sym (kept_more wrote.0 wrote.2)
               ∙ ap (λ z. (wrote.0 ++ z) ++ rest) part.cut.whole_is
               ∙ ap (λ z. z ++ rest) (sym (append_assoc wrote.0 part.wrote part.cut.rest))
               ∙ append_assoc (wrote.0 ++ part.wrote) part.cut.rest rest;

@@ -1,99 +1,202 @@
--- Words mean one outcome and one effect at most.
-use Rattle.std.proofs.Common.{◌≡◌, ℕ, ◌≤◌, false, true, List, sym, ◌∙◌, ap, subst, arith, Some, None}
+-- Words mean one outcome and one effect at most, but for the file of a journal.
+use Rattle.std.proofs.Common.{◌≡◌, ◌⊎◌, inl, inr, ℕ, ◌<◌, ◌≤◌, List, length, refl, sym, ◌∙◌, ap, subst, arith, Option, Some, None}
 use Rattle.pipe_model.specs.declared.net.Net.{Net}
+use Rattle.pipe_model.specs.declared.step.Entry.{Entry}
 use Rattle.pipe_model.specs.Settled.{IsSettled}
 use Rattle.spec_scanner.specs.declared.fault.Fault.{Fault}
-use Rattle.net_graph.proofs.Feeds.{fed_formed}
-use Rattle.pipe_cli.specs.declared.command.Command.{Command}
-use Rattle.pipe_cli.specs.declared.command.Command.TheVariants.{Run}
+use Rattle.net_graph.specs.Fed.{with_input}
+use Rattle.net_graph.proofs.Feeds.{fed_formed, input_formed}
+use Rattle.journal_file.specs.declared.checking.Checked.TheVariants.{Legal, Illegal}
+use Rattle.journal_file.specs.Faults.{IsFirstFault}
+use Rattle.journal_file.specs.Text.{IsJournal, journal_text}
+use Rattle.journal_file.proofs.OneFronts.{faults_same, journal_faultless, journals_same}
+use Rattle.journal_file.proofs.OneJudgement.{one_judgement}
+use Rattle.call_words.specs.declared.command.Command.{Command}
+use Rattle.call_words.specs.declared.command.Command.TheVariants.{Run, Check, Sample}
 use Rattle.pipe_cli.specs.declared.status.Outcome.{Outcome}
-use Rattle.pipe_cli.specs.declared.status.Outcome.TheVariants.{SpecRefused}
-use Rattle.pipe_cli.specs.Command.{command_of}
-use Rattle.pipe_cli.specs.Effects.{Before, Effect}
-use Rattle.pipe_cli.specs.Meaning.{HasRun, IsNetOf, IsRunOf, IsSpecRefused, IsTooLarge, IsUnrun, Means, RunMeans, RunsNet, fed_size, input_limit, is_later, net_on}
-use Rattle.pipe_cli.specs.Meaning.IsUnrun.{no_command, later_form, refused}
-use Rattle.pipe_cli.specs.Meaning.Means.{unrun, too_large, ran}
+use Rattle.pipe_cli.specs.declared.status.Outcome.TheVariants.{SpecRefused, InputTooLarge, JournalAbsent, JournalEntry, JournalLine}
+use Rattle.pipe_cli.specs.Effects.{Before, Effect, no_effect, output_of, untraced}
+use Rattle.pipe_cli.specs.Meaning.{CheckMeans, ChecksNet, FeedsNet, IsNetOf, IsSpecRefused, IsUnrun, Means, RunMeans, RunsNet, SampleMeans, SamplesNet, TakesSteps, fed_size, input_limit, legal_line, net_on, spec_of}
+use Rattle.pipe_cli.specs.Meaning.CheckMeans.{legal, illegal}
+use Rattle.pipe_cli.specs.Meaning.ComesTo.{ran, checked, sampled}
+use Rattle.pipe_cli.specs.Meaning.FeedsNet.{of_run, of_check}
+use Rattle.pipe_cli.specs.Meaning.IsUnchecked.{absent, unread}
+use Rattle.pipe_cli.specs.Meaning.IsUnrun.{no_command, refused}
+use Rattle.pipe_cli.specs.Meaning.Means.{unrun, unchecked, too_large, came}
+use Rattle.pipe_cli.specs.Meaning.TakesSteps.{of_run as steps_of_run, of_sample}
 use Rattle.pipe_cli.specs.Refusals.{HasLeastFault}
-use Rattle.pipe_cli.proofs.OneRuns.{one_run}
+use Rattle.pipe_cli.specs.Sample.{sample_text}
+use Rattle.pipe_cli.specs.Steps.{IsCall}
+use Rattle.pipe_cli.proofs.OneRuns.{one_run, one_sample}
 use Rattle.pipe_cli.proofs.OneTexts.{net_formed, net_unrefused, one_least, one_net}
 
+-- What a command comes to
+
+-- a net is fed too much, or not, and comes to this
+abbrev pub IfFits : Before → Net → Outcome → Effect → Type 0 → Type 0
+IfFits before net outcome effect means = ((input_limit < fed_size before net) × (outcome ≡ InputTooLarge) × (effect ≡ no_effect)) ⊎ ((fed_size before net ≤ input_limit) × means)
+
+-- a check of the file of this name
+pub data ChecksOut (before : Before) (name : List ℕ) (net : Net) (outcome : Outcome) (effect : Effect) : Type 0 where
+  has_no_file : before.files name ≡ None → outcome ≡ JournalAbsent → effect ≡ no_effect → ChecksOut before name net outcome effect
+  has_fault : (text : List ℕ) (number : ℕ) → before.files name ≡ Some text → IsFirstFault text number → outcome ≡ JournalLine number → effect ≡ no_effect → ChecksOut before name net outcome effect
+  has_journal : (journal : List Entry) → before.files name ≡ Some (journal_text journal) → IsJournal journal → IfFits before net outcome effect (CheckMeans (net_on before net) journal outcome effect) →
+      ChecksOut before name net outcome effect
+
+abbrev pub CarriesOut : Before → Command → Net → Outcome → Effect → Type 0
+CarriesOut before (Run spec workers steps trace) net outcome effect = IfFits before net outcome effect (RunMeans (net_on before net) steps trace outcome effect)
+CarriesOut before (Check spec name) net outcome effect = ChecksOut before name net outcome effect
+CarriesOut before (Sample count workers steps) net outcome effect = SampleMeans count (with_input (sample_text count) net) steps outcome effect
+
+-- the words are this command, of this net, which comes to this
+pub record IsCarriedOut (words : List (List ℕ)) (before : Before) (outcome : Outcome) (effect : Effect) : Type 0 where
+  pub command : Command
+  pub net : Net
+  pub call : IsCall words command net
+  pub comes : CarriesOut before command net outcome effect
+
 module _ (words : List (List ℕ)) where
-  -- words are a run of one specification in one number of steps
-  pub same_run : (a b : List ℕ) (n m : ℕ) → IsRunOf words a n → IsRunOf words b m → (a ≡ b) × (n ≡ m)
-  same_run a b n m first second =
-      let both : Some (Run a first.workers n None) ≡ Some (Run b second.workers m None) = sym first.command ∙ second.command in
-      (cc, cc)
+  -- a run is a command, and so are a check and the sample
+  pub run_called : (net : Net) (steps : ℕ) (trace : Option (List ℕ)) (runs : RunsNet words net steps trace) → IsCall words (Run runs.spec runs.run.workers steps trace) net
+  run_called net steps trace runs = record { command_is = runs.run.command; net_of = runs.net_of }
 
-  -- of one net
-  pub same_net : (a b : Net) (n m : ℕ) → RunsNet words a n → RunsNet words b m → a ≡ b
-  same_net a b n m first second =
-      let same = (same_run first.spec second.spec n m first.run second.run).0 in
-      one_net second.spec a b (subst (λ z. IsNetOf z a) same first.net_of) second.net_of
+  check_called : (net : Net) (name : List ℕ) (checks : ChecksNet words net name) → IsCall words (Check checks.spec name) net
+  check_called net name checks = record { command_is = checks.command; net_of = checks.net_of }
 
-  -- a run is a command
-  run_usage : (spec : List ℕ) (steps : ℕ) → IsRunOf words spec steps → command_of words ≡ None → ⊥
-  run_usage spec steps run none = (let both : Some (Run spec run.workers steps None) ≡ None = sym run.command ∙ none in cc)
+  sample_called : (net : Net) (count steps : ℕ) (samples : SamplesNet words net count steps) → IsCall words (Sample count samples.workers steps) net
+  sample_called net count steps samples = record { command_is = samples.command; net_of = samples.net_of }
 
-  -- and one that is made now
-  run_later : (spec : List ℕ) (steps : ℕ) (command : Command) → IsRunOf words spec steps → command_of words ≡ Some command → is_later command ≡ true → ⊥
-  run_later spec steps command run read later =
-      let both : Some (Run spec run.workers steps None) ≡ Some command = sym run.command ∙ read in
-      let same : Run spec run.workers steps None ≡ command = cc in
-      let no : false ≡ true = ap is_later same ∙ later in
-      cc
+  -- words are one command, of one net
+  same_call : (c d : Command) (a b : Net) → IsCall words c a → IsCall words d b → (c ≡ d) × (a ≡ b)
+  same_call c d a b first second =
+      let both : Some c ≡ Some d = sym first.command_is ∙ second.command_is in
+      let same : c ≡ d = cc in
+      (same, one_net (spec_of d) a b (subst (λ z. IsNetOf (spec_of z) a) same first.net_of) second.net_of)
 
-  -- words that run a net aren't refused
-  run_unrefused : (net : Net) (steps : ℕ) (fault : Fault) → RunsNet words net steps → IsSpecRefused words fault → ⊥
-  run_unrefused net steps fault runs is =
-      let same = (same_run is.spec runs.spec is.steps steps is.run runs.run).0 in
-      net_unrefused runs.spec net fault runs.net_of (subst (λ z. HasLeastFault z fault) same is.refused)
-
-  pub runs_or_not : (net : Net) (steps : ℕ) (outcome : Outcome) → RunsNet words net steps → IsUnrun words outcome → ⊥
-  runs_or_not net steps outcome runs (no_command none is) = run_usage runs.spec steps runs.run none
-  runs_or_not net steps outcome runs (later_form command read later is) = run_later runs.spec steps command runs.run read later
-  runs_or_not net steps outcome runs (refused fault least is) = run_unrefused net steps fault runs least
+  -- which isn't refused
+  called_or_not : (command : Command) (net : Net) (outcome : Outcome) → IsCall words command net → IsUnrun words outcome → ⊥
+  called_or_not command net outcome call (no_command none is) = (let both : Some command ≡ None = sym call.command_is ∙ none in cc)
+  called_or_not command net outcome call (refused fault least is) =
+      let both : Some least.command ≡ Some command = sym least.command_is ∙ call.command_is in
+      let same : least.command ≡ command = cc in
+      net_unrefused (spec_of command) net fault call.net_of (subst (λ z. HasLeastFault (spec_of z) fault) same least.refused)
 
   refused_same : (a b : Fault) → IsSpecRefused words a → IsSpecRefused words b → a ≡ b
   refused_same a b first second =
-      let same = (same_run first.spec second.spec first.steps second.steps first.run second.run).0 in
-      one_least second.spec a b (subst (λ z. HasLeastFault z a) same first.refused) second.refused
+      let both : Some first.command ≡ Some second.command = sym first.command_is ∙ second.command_is in
+      let same : first.command ≡ second.command = cc in
+      one_least (spec_of second.command) a b (subst (λ z. HasLeastFault (spec_of z) a) same first.refused) second.refused
 
-  -- words that aren't run have one outcome
+  -- words that aren't carried out have one outcome
   one_unrun : (a b : Outcome) → IsUnrun words a → IsUnrun words b → a ≡ b
   one_unrun a b (no_command none a_is) (no_command none' b_is) = a_is ∙ sym b_is
-  one_unrun a b (no_command none a_is) (later_form command read later b_is) = (let both : None ≡ Some command = sym none ∙ read in cc)
-  one_unrun a b (no_command none a_is) (refused fault least b_is) = absurd (run_usage least.spec least.steps least.run none)
-  one_unrun a b (later_form command read later a_is) (no_command none b_is) = (let both : None ≡ Some command = sym none ∙ read in cc)
-  one_unrun a b (later_form command read later a_is) (later_form command' read' later' b_is) = a_is ∙ sym b_is
-  one_unrun a b (later_form command read later a_is) (refused fault least b_is) = absurd (run_later least.spec least.steps command least.run read later)
-  one_unrun a b (refused fault least a_is) (no_command none b_is) = absurd (run_usage least.spec least.steps least.run none)
-  one_unrun a b (refused fault least a_is) (later_form command read later b_is) = absurd (run_later least.spec least.steps command least.run read later)
+  one_unrun a b (no_command none a_is) (refused fault least b_is) = (let both : None ≡ Some least.command = sym none ∙ least.command_is in cc)
+  one_unrun a b (refused fault least a_is) (no_command none b_is) = (let both : None ≡ Some least.command = sym none ∙ least.command_is in cc)
   one_unrun a b (refused fault least a_is) (refused fault' least' b_is) = a_is ∙ ap (λ (f : Fault). SpecRefused f.number f.argument f.place) (refused_same fault fault' least least') ∙ sym b_is
 
-  module _ (before : Before) (settled : (net : Net) (steps : ℕ) → RunsNet words net steps → IsSettled (net_on before net)) where
-    -- what is too large doesn't fit
-    large_or_not : (outcome : Outcome) (effect : Effect) → IsTooLarge words before → HasRun words before outcome effect → ⊥
-    large_or_not outcome effect large run =
-        let same = same_net run.net large.net run.steps large.steps run.runs large.runs in
-        let within : fed_size before large.net ≤ input_limit = subst (λ z. fed_size before z ≤ input_limit) same run.fits in
-        let past = large.large in
-        absurd (omega (arith, within, past))
+  module _ (before : Before) where
+    large_carried : (net : Net) (outcome : Outcome) (effect : Effect) → FeedsNet words before.files net → input_limit < fed_size before net → outcome ≡ InputTooLarge → effect ≡ no_effect → IsCarriedOut words before outcome effect
+    large_carried net outcome effect (of_run steps trace runs) large is done = record { command = Run runs.spec runs.run.workers steps trace; net = net; call = run_called net steps trace runs; comes = inl (large, is, done) }
+    large_carried net outcome effect (of_check journal c) large is done =
+        record { command = Check c.checks.spec c.name; net = net; call = check_called net c.name c.checks; comes = has_journal journal c.stored c.is_journal (inl (large, is, done)) }
 
-    both_ran : (a b : Outcome) (x y : Effect) → HasRun words before a x → HasRun words before b y → (a ≡ b) × (x ≡ y)
-    both_ran a b x y first second =
-        let one = same_net second.net first.net second.steps first.steps second.runs first.runs in
-        let count = (same_run second.runs.spec first.runs.spec second.steps first.steps second.runs.run first.runs.run).1 in
-        let formed = fed_formed before.input before.files first.net (net_formed first.runs.spec first.net first.runs.net_of) in
-        one_run (net_on before first.net) first.steps formed (settled first.net first.steps first.runs) a b x y first.means
-        (subst (λ n. RunMeans (net_on before first.net) n b y) count (subst (λ z. RunMeans (net_on before z) second.steps b y) one second.means))
+    -- words that mean something aren't carried out, or are
+    carried : (outcome : Outcome) (effect : Effect) → Means words before outcome effect → (IsUnrun words outcome × (effect ≡ no_effect)) ⊎ IsCarriedOut words before outcome effect
+    carried outcome effect (unrun why done) = inl (why, done)
+    carried outcome effect (unchecked (absent net name checks none is) done) = inr (record { command = Check checks.spec name; net = net; call = check_called net name checks; comes = has_no_file none is done })
+    carried outcome effect (unchecked (unread net name text number checks some fault is) done) =
+        inr (record { command = Check checks.spec name; net = net; call = check_called net name checks; comes = has_fault text number some fault is done })
+    carried outcome effect (too_large large is done) = inr (large_carried large.net outcome effect large.feeds large.large is done)
+    carried outcome effect (came (ran r)) =
+        inr (record { command = Run r.runs.spec r.runs.run.workers r.steps r.trace; net = r.net; call = run_called r.net r.steps r.trace r.runs; comes = inr (r.fits, r.means) })
+    carried outcome effect (came (checked c)) =
+        let j = c.checks in
+        inr (record { command = Check j.checks.spec j.name; net = c.net; call = check_called c.net j.name j.checks; comes = has_journal c.journal j.stored j.is_journal (inr (c.fits, c.means)) })
+    carried outcome effect (came (sampled s)) =
+        inr (record { command = Sample s.count s.samples.workers s.steps; net = s.net; call = sample_called s.net s.count s.steps s.samples; comes = s.means })
 
-    pub one_of_each : (a b : Outcome) (x y : Effect) → Means words before a x → Means words before b y → (a ≡ b) × (x ≡ y)
-    one_of_each a b x y (unrun why done) (unrun why' done') = (one_unrun a b why why', done ∙ sym done')
-    one_of_each a b x y (unrun why done) (too_large large is done') = absurd (runs_or_not large.net large.steps a large.runs why)
-    one_of_each a b x y (unrun why done) (ran run) = absurd (runs_or_not run.net run.steps a run.runs why)
-    one_of_each a b x y (too_large large is done) (unrun why done') = absurd (runs_or_not large.net large.steps b large.runs why)
-    one_of_each a b x y (too_large large is done) (too_large large' is' done') = (is ∙ sym is', done ∙ sym done')
-    one_of_each a b x y (too_large large is done) (ran run) = absurd (large_or_not b y large run)
-    one_of_each a b x y (ran run) (unrun why done) = absurd (runs_or_not run.net run.steps b run.runs why)
-    one_of_each a b x y (ran run) (too_large large is done) = absurd (large_or_not a x large run)
-    one_of_each a b x y (ran run) (ran run') = both_ran a b x y run run'
+    module _ (command : Command) (net : Net) (call : IsCall words command net) (outcome : Outcome) (effect : Effect) where
+      carried_at : IsCarriedOut words before outcome effect → CarriesOut before command net outcome effect
+      carried_at is =
+          let same = same_call is.command command is.net net is.call call in
+          subst (λ z. CarriesOut before command z outcome effect) same.1 (subst (λ c. CarriesOut before c is.net outcome effect) same.0 is.comes)
+
+      -- what the words of a command mean is what it comes to
+      pub meaning_at : Means words before outcome effect → CarriesOut before command net outcome effect
+      meaning_at means = by (carried outcome effect means)
+        where
+          by : (IsUnrun words outcome × (effect ≡ no_effect)) ⊎ IsCarriedOut words before outcome effect → CarriesOut before command net outcome effect
+          by (inl stopped) = absurd (called_or_not command net outcome call stopped.0)
+          by (inr is) = carried_at is
+
+    module _ (a b : Outcome) (x y : Effect) where
+      -- one outcome, and one effect but for the file of a journal
+      abbrev AreOne : Type 0
+      AreOne = (a ≡ b) × (untraced x ≡ untraced y)
+
+      none_done : a ≡ b → x ≡ no_effect → y ≡ no_effect → AreOne
+      none_done same x_is y_is = (same, ap untraced (x_is ∙ sym y_is))
+
+      one_fitting : {P Q : Type 0} (net : Net) → (P → Q → AreOne) → IfFits before net a x P → IfFits before net b y Q → AreOne
+      one_fitting net one (inl (large, a_is, x_is)) (inl (large', b_is, y_is)) = none_done (a_is ∙ sym b_is) x_is y_is
+      one_fitting net one (inl (large, a_is, x_is)) (inr (fits, q)) = absurd (omega (arith, large, fits))
+      one_fitting net one (inr (fits, p)) (inl (large, b_is, y_is)) = absurd (omega (arith, large, fits))
+      one_fitting net one (inr (fits, p)) (inr (fits', q)) = one p q
+
+      one_check : (net : Net) (journal : List Entry) → CheckMeans net journal a x → CheckMeans net journal b y → AreOne
+      one_check net journal (legal c p a_is x_is) (legal d q b_is y_is) =
+          let same : Legal c ≡ Legal d = one_judgement net journal (Legal c) (Legal d) p q in
+          let is : c ≡ d = cc in
+          (a_is ∙ sym b_is, ap untraced (x_is ∙ ap (λ z. output_of (legal_line (length journal) z)) is ∙ sym y_is))
+      one_check net journal (legal c p a_is x_is) (illegal j q b_is y_is) = (let same : Legal c ≡ Illegal j = one_judgement net journal (Legal c) (Illegal j) p q in cc)
+      one_check net journal (illegal j p a_is x_is) (legal d q b_is y_is) = (let same : Illegal j ≡ Legal d = one_judgement net journal (Illegal j) (Legal d) p q in cc)
+      one_check net journal (illegal j p a_is x_is) (illegal k q b_is y_is) =
+          let same : Illegal j ≡ Illegal k = one_judgement net journal (Illegal j) (Illegal k) p q in
+          let is : j ≡ k = cc in
+          none_done (a_is ∙ ap JournalEntry is ∙ sym b_is) x_is y_is
+
+      -- a text with a fault is no journal's
+      faulty_or_not : (name text : List ℕ) (number : ℕ) (journal : List Entry) → before.files name ≡ Some text → IsFirstFault text number → before.files name ≡ Some (journal_text journal) → IsJournal journal → ⊥
+      faulty_or_not name text number journal some fault stored is =
+          let both : Some text ≡ Some (journal_text journal) = sym some ∙ stored in
+          let same : text ≡ journal_text journal = cc in
+          journal_faultless journal number is (subst (λ z. IsFirstFault z number) same fault)
+
+      one_checked : (name : List ℕ) (net : Net) → ChecksOut before name net a x → ChecksOut before name net b y → AreOne
+      one_checked name net (has_no_file none a_is x_is) (has_no_file none' b_is y_is) = none_done (a_is ∙ sym b_is) x_is y_is
+      one_checked name net (has_no_file none a_is x_is) (has_fault text number some fault b_is y_is) = (let both : None ≡ Some text = sym none ∙ some in cc)
+      one_checked name net (has_no_file none a_is x_is) (has_journal journal stored is fed) = (let both : None ≡ Some (journal_text journal) = sym none ∙ stored in cc)
+      one_checked name net (has_fault text number some fault a_is x_is) (has_no_file none b_is y_is) = (let both : None ≡ Some text = sym none ∙ some in cc)
+      one_checked name net (has_fault text number some fault a_is x_is) (has_fault text' number' some' fault' b_is y_is) =
+          let both : Some text ≡ Some text' = sym some ∙ some' in
+          let same : text ≡ text' = cc in
+          none_done (a_is ∙ ap JournalLine (faults_same text' number number' (subst (λ z. IsFirstFault z number) same fault) fault') ∙ sym b_is) x_is y_is
+      one_checked name net (has_fault text number some fault a_is x_is) (has_journal journal stored is fed) = absurd (faulty_or_not name text number journal some fault stored is)
+      one_checked name net (has_journal journal stored is fed) (has_no_file none b_is y_is) = (let both : None ≡ Some (journal_text journal) = sym none ∙ stored in cc)
+      one_checked name net (has_journal journal stored is fed) (has_fault text number some fault b_is y_is) = absurd (faulty_or_not name text number journal some fault stored is)
+      one_checked name net (has_journal journal stored is fed) (has_journal journal' stored' is' fed') =
+          let both : Some (journal_text journal) ≡ Some (journal_text journal') = sym stored ∙ stored' in
+          let texts : journal_text journal ≡ journal_text journal' = cc in
+          let same = journals_same journal journal' is is' texts in
+          one_fitting net (one_check (net_on before net) journal') (subst (λ j. IfFits before net a x (CheckMeans (net_on before net) j a x)) same fed) fed'
+
+      module _ (settled : (net : Net) → TakesSteps words before net → IsSettled net) where
+        one_command : (command : Command) (net : Net) → IsCall words command net → CarriesOut before command net a x → CarriesOut before command net b y → AreOne
+        one_command (Run spec workers steps trace) net call first second =
+            let runs : RunsNet words net steps trace = record { spec = spec; run = record { workers = workers; command = call.command_is }; net_of = call.net_of } in
+            one_fitting net (one_run (net_on before net) steps (fed_formed before.input before.files net (net_formed spec net call.net_of)) (settled (net_on before net) (steps_of_run net steps trace runs refl)) trace a b x y) first second
+        one_command (Check spec name) net call first second = one_checked name net first second
+        one_command (Sample count workers steps) net call first second =
+            let samples : SamplesNet words net count steps = record { workers = workers; command = call.command_is; net_of = call.net_of } in
+            let fed = with_input (sample_text count) net in
+            let one = one_sample fed steps (input_formed (sample_text count) net (net_formed (spec_of (Sample count workers steps)) net call.net_of)) (settled fed (of_sample net count steps samples refl)) count a b x y first second in
+            (one.0, ap untraced one.1)
+
+        pub one_of_each : Means words before a x → Means words before b y → AreOne
+        one_of_each first second = by (carried a x first) (carried b y second)
+          where
+            by : (IsUnrun words a × (x ≡ no_effect)) ⊎ IsCarriedOut words before a x → (IsUnrun words b × (y ≡ no_effect)) ⊎ IsCarriedOut words before b y → AreOne
+            by (inl p) (inl q) = none_done (one_unrun a b p.0 q.0) p.1 q.1
+            by (inl p) (inr is) = absurd (called_or_not is.command is.net a is.call p.0)
+            by (inr is) (inl q) = absurd (called_or_not is.command is.net b is.call q.0)
+            by (inr is) (inr other) = one_command is.command is.net is.call is.comes (carried_at is.command is.net is.call b y other)

@@ -1,5 +1,5 @@
 -- The files that a run is to replace, in the order of their names, and how far they were replaced.
-use Rattle.std.proofs.Common.{◌≡◌, ℕ, suc, ◌+◌, ◌<◌, ◌≤◌, Bool, true, false, cond, not, ltb, zero, List, [], ◌∷◌, ◌++◌, length, map, drop, refl, sym, ◌∙◌, ap, subst, arith, add-one, Option, Some, None, ℤ, pos}
+use Rattle.std.proofs.Common.{◌≡◌, ◌⊎◌, inl, inr, ℕ, suc, ◌+◌, ◌<◌, ◌≤◌, Bool, true, false, cond, not, ltb, zero, List, [], ◌∷◌, ◌++◌, length, map, drop, refl, sym, ◌∙◌, ap, subst, arith, add-one, Option, Some, None, ℤ, pos}
 use Rattle.std.proofs.lemmas.Bool.{ltb-false}
 use Rattle.std.proofs.lemmas.List.{map-append}
 use Rattle.std.proofs.lemmas.List.Edits.{insert_end}
@@ -28,15 +28,17 @@ use Rattle.stage_steps.specs.Coroutine.{kept_by}
 use Rattle.core_machine.specs.Machine.{Machine, state_of}
 use Rattle.pipe_cli.specs.declared.replace.Put.{Put}
 use Rattle.pipe_cli.specs.declared.status.Outcome.{Outcome}
-use Rattle.pipe_cli.specs.declared.status.Outcome.TheVariants.{ShelfFault, Stalled}
+use Rattle.pipe_cli.specs.declared.status.Outcome.TheVariants.{ShelfFault, Spent, Stalled}
 use Rattle.pipe_cli.specs.Kept.{keeping_of}
 use Rattle.pipe_cli.specs.Devices.{Store}
-use Rattle.pipe_cli.specs.Effects.{AreReplaced, in_order, in_order_after, inserted}
+use Rattle.pipe_cli.specs.Effects.{AreReplaced, Effect, in_order, in_order_after, inserted}
 use Rattle.pipe_cli.specs.Meaning.{outcome_by, outcome_of}
 use Rattle.pipe_cli.specs.Status.{text_of}
-use Rattle.pipe_cli.specs.Steps.{ArePuts, AreStored, AreStoredPart, IsPut, StopsStoring, file_at, put_text, with_put}
+use Rattle.pipe_cli.specs.Steps.{ArePuts, AreStored, AreStoredPart, EndsAs, IsPut, StopsStoring, file_at, put_text, run_effect, with_put}
+use Rattle.pipe_cli.specs.Steps.EndsAs.{completes, spends}
 use Rattle.pipe_cli.proofs.Orders.{among_files, order_append}
 use Rattle.pipe_cli.proofs.Replacements.{replaced_all, replaced_more, replaced_part}
+use Rattle.pipe_cli.proofs.RunEffects.{unspent_effect}
 use Rattle.pipe_cli.proofs.Runs.{drop_at, drop_none}
 
 -- One more file
@@ -188,33 +190,49 @@ module _ (core : Machine) where
       ap (λ n. in_order_after before (files_from (state_of core) n (drop n core.net.strands))) is
       ∙ ap (λ z. in_order_after before (files_from (state_of core) (length core.net.strands) z)) (drop_none core.net.strands)
 
--- The files of a reply
+-- The files of a run
 
 -- none where a strand waits
-stalled_none : (net : Net) (st : State) (lines : List ℕ) (ws : List WaitLine) → outcome_of net (replied st net.strands ws) ≡ Stalled lines → (replied st net.strands ws).files ≡ []
+stalled_none : (net : Net) (st : State) (lines : List ℕ) (ws : List WaitLine) → Stalled lines ≡ outcome_of net (replied st net.strands ws) → (replied st net.strands ws).files ≡ []
 stalled_none net st lines (w ∷ ws) is = refl
 stalled_none net st lines [] is = absurd (by (code_from st 0 net.strands) is)
   where
-    by : (code : ℤ) → outcome_by net [] code ≡ Stalled lines → ⊥
+    by : (code : ℤ) → Stalled lines ≡ outcome_by net [] code → ⊥
     by (pos zero) is = cc
     by _ is = cc
-
-pub stalled_puts : (core : Machine) (lines : List ℕ) (puts : List Put) → outcome_of core.net (reply core.net (state_of core)) ≡ Stalled lines → puts ≡ [] → ArePuts core (reply core.net (state_of core)).files puts
-stalled_puts core lines puts is none =
-    subst (λ fs. ArePuts core fs puts) (sym (stalled_none core.net (state_of core) lines (waits_from (state_of core) 0 core.net.strands) is))
-    (subst (λ ps. ArePuts core [] ps) (sym none) (record { each = All-nil (IsPut core); files_are = refl }))
 
 -- else those of the strands
 ended_all : (net : Net) (st : State) (ws : List WaitLine) → ((lines : List ℕ) → outcome_of net (replied st net.strands ws) ≡ Stalled lines → ⊥) → (replied st net.strands ws).files ≡ files_from st 0 net.strands
 ended_all net st [] ended = refl
 ended_all net st (w ∷ ws) ended = absurd (ended _ refl)
 
-pub ended_puts : (core : Machine) (puts : List Put) → ((lines : List ℕ) → outcome_of core.net (reply core.net (state_of core)) ≡ Stalled lines → ⊥) → All (IsPut core) puts →
-    map (put_text core) puts ≡ in_order (files_from (state_of core) 0 core.net.strands) → ArePuts core (reply core.net (state_of core)).files puts
-ended_puts core puts ended each texts = record {
-  each = each;
-  files_are = texts ∙ ap in_order (sym (ended_all core.net (state_of core) (waits_from (state_of core) 0 core.net.strands) ended));
-}
+module _ (core : Machine) (steps : ℕ) where
+  stalled_files : (lines : List ℕ) → EndsAs steps core (Stalled lines) → (reply core.net (state_of core)).files ≡ []
+  stalled_files lines (completes stopped of) = stalled_none core.net (state_of core) lines (waits_from (state_of core) 0 core.net.strands) of
+  stalled_files lines (spends is full more) = cc
+
+  no_puts : (outcome : Outcome) (puts : List Put) → (run_effect core outcome).files ≡ [] → puts ≡ [] → ArePuts core (run_effect core outcome).files puts
+  no_puts outcome puts is none =
+      subst (λ fs. ArePuts core fs puts) (sym is)
+      (subst (λ ps. ArePuts core [] ps) (sym none) (record { each = All-nil (IsPut core); files_are = refl }))
+
+  -- or where too few steps are allowed
+  pub early_puts : (outcome : Outcome) (puts : List Put) → EndsAs steps core outcome → ((lines : List ℕ) × (outcome ≡ Stalled lines)) ⊎ ((spent : ℕ) × (outcome ≡ Spent spent)) → puts ≡ [] →
+      ArePuts core (run_effect core outcome).files puts
+  early_puts outcome puts ends (inl stalled) none =
+      no_puts outcome puts (ap (λ o. (run_effect core o).files) stalled.1 ∙ stalled_files stalled.0 (subst (EndsAs steps core) stalled.1 ends)) none
+  early_puts outcome puts ends (inr spent) none = no_puts outcome puts (ap (λ o. (run_effect core o).files) spent.1) none
+
+  pub ended_puts : (outcome : Outcome) (puts : List Put) → EndsAs steps core outcome → ((lines : List ℕ) → outcome ≡ Stalled lines → ⊥) → ((spent : ℕ) → outcome ≡ Spent spent → ⊥) → All (IsPut core) puts →
+      map (put_text core) puts ≡ in_order (files_from (state_of core) 0 core.net.strands) → ArePuts core (run_effect core outcome).files puts
+  ended_puts outcome puts (completes stopped of) ended unspent each texts = record {
+    each = each;
+    files_are =
+        texts
+        ∙ ap in_order (sym (ended_all core.net (state_of core) (waits_from (state_of core) 0 core.net.strands) (λ lines is. ended lines (of ∙ is))))
+        ∙ ap (λ (effect : Effect). in_order effect.files) (sym (unspent_effect core outcome unspent));
+  }
+  ended_puts outcome puts (spends is full more) ended unspent each texts = absurd (unspent steps is)
 
 -- Their replacement
 

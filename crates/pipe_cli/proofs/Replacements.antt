@@ -8,8 +8,8 @@ use Rattle.outside.specs.declared.shelf.Replaced.TheVariants.{Stored}
 use Rattle.outside.specs.Files.{Files}
 use Rattle.outside.specs.Shelf.{Replaces}
 use Rattle.pipe_model.specs.Reply.{FileText}
-use Rattle.pipe_cli.specs.Effects.{AreReplaced, AreReplacedBelow, files_after, in_order}
-use Rattle.pipe_cli.proofs.Orders.{after_append, after_in_order, after_part}
+use Rattle.pipe_cli.specs.Effects.{AreReplaced, AreReplacedBelow, AreReplacedBut, files_after, in_order}
+use Rattle.pipe_cli.proofs.Orders.{after_append, after_at, after_in_order, after_part}
 
 -- nothing is replaced at first
 pub none_replaced : (told : Option Files) → AreReplaced [] told told
@@ -45,3 +45,22 @@ replaced_part files done later file is bytes answer None (Some now) new replaced
 replaced_part files done later file is bytes answer (Some old) None new replaced leaves = absurd replaced
 replaced_part files done later file is bytes answer (Some old) (Some now) None replaced leaves = absurd leaves
 replaced_part files done later file is bytes answer (Some old) (Some now) (Some new) replaced leaves = λ name other. leaves.1 name other ∙ replaced name ∙ after_part files done later file is old name other
+
+-- One replacement after another
+
+-- these and then those were replaced
+pub replaced_after : (files later : List FileText) (old now new : Option Files) → AreReplaced files old now → AreReplaced later now new → AreReplaced (files ++ later) old new
+replaced_after files later None None new first next = next
+replaced_after files later None (Some now) new first next = cc
+replaced_after files later (Some old) None new first next = absurd first
+replaced_after files later (Some old) (Some now) None first next = absurd next
+replaced_after files later (Some old) (Some now) (Some new) first next = λ name.
+    next name ∙ after_at later now (files_after files old) name (first name) ∙ ap (λ (f : Files). f name) (sym (after_append files later old))
+
+-- these were, and then at most one name changed
+pub replaced_but : (files : List FileText) (name : List ℕ) (old now new : Option Files) → AreReplaced files old now → AreReplacedBut name [] now new → AreReplacedBut name files old new
+replaced_but files name None None new first others = others
+replaced_but files name None (Some now) new first others = cc
+replaced_but files name (Some old) None new first others = absurd first
+replaced_but files name (Some old) (Some now) None first others = absurd others
+replaced_but files name (Some old) (Some now) (Some new) first others = λ other differs. others other differs ∙ first other

@@ -4,6 +4,7 @@ use Rattle.std.specs.Option.{IfSome}
 use Rattle.std.specs.Io.KnownBytes.{Consumes, Appends}
 use Rattle.outside.specs.Device.{Device}
 use Rattle.outside.specs.Faults.{Rose}
+use Rattle.outside.specs.Files.{Files}
 use Rattle.pipe_model.specs.declared.net.Net.{Net}
 use Rattle.net_graph.specs.Fed.{reads_any}
 use Rattle.pipe_cli.specs.declared.status.Status.{Status}
@@ -13,7 +14,8 @@ use Rattle.pipe_cli.specs.declared.status.Outcome.TheVariants.{ReadFault, WriteF
 use Rattle.pipe_cli.specs.Effects.{Before, Effect, no_effect, output_of}
 use Rattle.pipe_cli.specs.Status.{status_of, text_of}
 use Rattle.pipe_cli.specs.Devices.{Outside, Steady, Failed, IsRead, AllSteady, NoneFailed, IsDone, IsPartDone}
-use Rattle.pipe_cli.specs.Meaning.{HasRun, IsFileOf, IsTooLarge, IsUnrun, Means, RunsNet, fed_size, input_limit}
+use Rattle.pipe_cli.specs.Meaning.{ChecksNet, ComesTo, FeedsNet, HasRun, IsFileOf, IsTooLarge, IsUnchecked, IsUnrun, Means, fed_size, input_limit}
+use Rattle.pipe_cli.specs.Meaning.ComesTo.{ran, checked, sampled}
 
 -- the bytes are the front of these and not all of them
 pub record IsCutShort (front whole : List ℕ) : Type 0 where
@@ -26,27 +28,32 @@ pub record IsUsed (net : Net) (given : Before) (input : Device) : Type 0 where
   pub reads : reads_any net ≡ true → IsRead input
   pub leaves : reads_any net ≡ false → given.input ≡ []
 
--- the words are a run that reads the file of this name
-pub record IsFetching (words : List (List ℕ)) (name : List ℕ) : Type 0 where
-  pub net : Net
-  pub steps : ℕ
-  pub runs : RunsNet words net steps
-  pub file : IsFileOf net name
+-- the words fetch the file of this name
+pub data IsFetching (words : List (List ℕ)) (files : Files) (name : List ℕ) : Type 0 where
+  -- a stage reads it
+  of_stage : (net : Net) → FeedsNet words files net → IsFileOf net name → IsFetching words files name
+  -- or it is to have the journal that they check
+  of_journal : (net : Net) → ChecksNet words net name → IsFetching words files name
 
--- the words are a run that reads the input, of which no more was read than fits
+-- the words read the input, of which no more was read than fits
 pub record IsReading (words : List (List ℕ)) (given : Before) : Type 0 where
   pub net : Net
-  pub steps : ℕ
-  pub runs : RunsNet words net steps
+  pub feeds : FeedsNet words given.files net
   pub reads : reads_any net ≡ true
   pub fits : fed_size given net ≤ input_limit
 
--- a run has an outcome and an effect, of whose output not all was written, and of which nothing else was done
+-- where the net that is carried out reads the input it was read to its end, and else not at all
+abbrev pub HasUsed : (words : List (List ℕ)) (given : Before) (outcome : Outcome) (effect : Effect) → ComesTo words given outcome effect → Device → Type 0
+HasUsed words given outcome effect (ran run) input = IsUsed run.net given input
+HasUsed words given outcome effect (checked check) input = IsUsed check.net given input
+HasUsed words given outcome effect (sampled sample) input = given.input ≡ []
+
+-- the words come to an outcome and an effect, of whose output not all was written, and of which nothing else was done
 pub record IsHalfWritten (words : List (List ℕ)) (given : Before) (input : Device) (effect : Effect) : Type 0 where
   pub outcome : Outcome
   pub whole : Effect
-  pub run : HasRun words given outcome whole
-  pub used : IsUsed run.net given input
+  pub comes : ComesTo words given outcome whole
+  pub used : HasUsed words given outcome whole comes input
   pub wrote : List ℕ
   pub cut : IsCutShort wrote whole.output
   pub effect_is : effect ≡ output_of wrote
@@ -58,14 +65,16 @@ pub data IsTorn (old new : Outside) (name : List ℕ) (decided : Outcome) : Type
 
 -- why an outcome was decided, where the call was given this and its effect is this, which was carried out
 pub data HasCause (words : List (List ℕ)) (old new : Outside) (given : Before) (effect : Effect) (decided : Outcome) : Type 0 where
-  -- the words aren't run: nothing is read and nothing done
+  -- the words aren't carried out: nothing is read and nothing done
   unrun : IsUnrun words decided → given.input ≡ [] → effect ≡ no_effect → AllSteady old new → HasCause words old new given effect decided
+  -- they are a check of a file that has no journal: nothing else is read, and nothing done
+  unchecked : IsUnchecked words given.files decided → given.input ≡ [] → effect ≡ no_effect → AllSteady old new → HasCause words old new given effect decided
   -- what was read is more than fits
   too_large : IsTooLarge words given → decided ≡ InputTooLarge → effect ≡ no_effect → AllSteady old new → HasCause words old new given effect decided
-  -- the words run a net, which came to this
-  ran : (run : HasRun words given decided effect) → IsUsed run.net given new.input → AllSteady old new → HasCause words old new given effect decided
-  -- a file failed that a stage reads
-  fetch_failed : (name : List ℕ) → IsFetching words name → given.input ≡ [] → decided ≡ ShelfFault name → effect ≡ no_effect → Steady old.input new.input → Steady old.output new.output →
+  -- the words were carried out, and came to this
+  came : (comes : ComesTo words given decided effect) → HasUsed words given decided effect comes new.input → AllSteady old new → HasCause words old new given effect decided
+  -- a file failed that is fetched
+  fetch_failed : (name : List ℕ) → IsFetching words given.files name → given.input ≡ [] → decided ≡ ShelfFault name → effect ≡ no_effect → Steady old.input new.input → Steady old.output new.output →
       Rose old.shelf.faults new.shelf.faults → HasCause words old new given effect decided
   -- the input failed
   read_failed : IsReading words given → decided ≡ ReadFault → effect ≡ no_effect → Failed old.input new.input → Steady old.output new.output → new.shelf.faults ≡ old.shelf.faults →
@@ -76,7 +85,7 @@ pub data HasCause (words : List (List ℕ)) (old new : Outside) (given : Before)
   -- memory was wanted: nothing is done
   no_memory : decided ≡ NoMemory → effect ≡ no_effect → AllSteady old new → HasCause words old new given effect decided
 
--- a run has an outcome and an effect, of whose files those of lesser names than this one were replaced
+-- a run has an outcome and an effect, of whose files those before the one of this name were replaced
 pub record IsHalfReplaced (words : List (List ℕ)) (old new : Outside) (given : Before) (effect : Effect) (decided : Outcome) : Type 0 where
   pub outcome : Outcome
   pub run : HasRun words given outcome effect

@@ -2,10 +2,11 @@
 use Rattle.std.specs.Prelude.{◌≡◌, ℕ, List}
 use Rattle.std.specs.Io.KnownBytes.{Appends, IsAtEnd}
 use Rattle.std.specs.declared.option.Option.{Option}
+use Rattle.std.specs.declared.option.Option.TheVariants.{Some}
 use Rattle.outside.specs.Faults.{Rose}
 use Rattle.outside.specs.Files.{Files}
 use Rattle.outside.specs.Device.{Device}
-use Rattle.pipe_cli.specs.Effects.{Effect, AreReplaced, AreReplacedBelow, IsNameOf, replaced_by}
+use Rattle.pipe_cli.specs.Effects.{Effect, AreReplaced, AreReplacedBelow, AreReplacedBut, IsNameOf, replaced_by}
 
 -- no call failed
 abbrev pub Steady : Device → Device → Type 0
@@ -48,12 +49,17 @@ pub record NoneFailed (old new : Outside) : Type 0 where
   pub output : ¬ Failed old.output new.output
   pub shelf : ¬ Rose old.shelf.faults new.shelf.faults
 
--- the output of the effect was written, and of its files those of lesser names than this one were replaced, and nothing else was written: what this one
--- holds is open
+-- which files of the effect were replaced, and no others, where the replacement of the one of this name ended the call: what this one holds is open
+pub data IsPartReplaced (name : List ℕ) (effect : Effect) (old new : Option Files) : Type 0 where
+  -- it is a stage's: those of lesser names
+  at_file : IsNameOf effect.files name → AreReplacedBelow name effect.files old new → IsPartReplaced name effect old new
+  -- it is the journal's: all of the stages
+  at_trace : (text : List ℕ) → effect.trace ≡ Some (name, text) → AreReplacedBut name effect.files old new → IsPartReplaced name effect old new
+
+-- the output of the effect was written, and of its files those before this one were replaced, and nothing else was written
 pub record IsPartDone (name : List ℕ) (effect : Effect) (old new : Outside) : Type 0 where
   pub output : Appends old.output.bytes new.output.bytes effect.output
-  pub among : IsNameOf (replaced_by effect) name
-  pub files : AreReplacedBelow name (replaced_by effect) old.shelf.files new.shelf.files
+  pub files : IsPartReplaced name effect old.shelf.files new.shelf.files
 
 -- the effect was carried out, and nothing else was written
 pub record IsDone (effect : Effect) (old new : Outside) : Type 0 where

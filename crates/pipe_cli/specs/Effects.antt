@@ -5,6 +5,8 @@ use Rattle.std.specs.Str.{bytes_eq}
 use Rattle.std.specs.declared.option.Option.{Option}
 use Rattle.std.specs.declared.option.Option.TheVariants.{Some, None}
 use Rattle.outside.specs.Files.{Files}
+use Rattle.journal_file.specs.Text.{journal_text}
+use Rattle.pipe_model.specs.declared.step.Entry.{Entry}
 use Rattle.pipe_model.specs.Keys.{is_less}
 use Rattle.pipe_model.specs.Reply.{FileText, Reply}
 
@@ -30,6 +32,15 @@ output_of bytes = record no_effect { output = bytes }
 -- the effect of a run with this reply
 abbrev pub effect_of : Reply → Effect
 effect_of answer = record { output = answer.console; files = answer.files; trace = None }
+
+-- the same with the text of a journal for the file of this name, if one is named
+abbrev pub traced : Option (List ℕ) → List Entry → Effect → Effect
+traced None journal effect = effect
+traced (Some name) journal effect = record effect { trace = Some (name, journal_text journal) }
+
+-- the same but for the journal's file
+abbrev pub untraced : Effect → Effect
+untraced effect = record effect { trace = None }
 
 -- all files that are replaced, in their order
 abbrev pub replaced_by : Effect → List FileText
@@ -64,6 +75,12 @@ abbrev pub AreReplacedBelow : List ℕ → List FileText → Option Files → Op
 AreReplacedBelow name replaced None new = new ≡ None
 AreReplacedBelow name replaced (Some old) None = ⊥
 AreReplacedBelow name replaced (Some old) (Some new) = (other : List ℕ) → other ≢ name → new other ≡ (if is_less other name then files_after replaced old other else old other)
+
+-- these files were replaced and no others, where the files are told, but for the one of this name: what it holds is open
+abbrev pub AreReplacedBut : List ℕ → List FileText → Option Files → Option Files → Type 0
+AreReplacedBut name replaced None new = new ≡ None
+AreReplacedBut name replaced (Some old) None = ⊥
+AreReplacedBut name replaced (Some old) (Some new) = (other : List ℕ) → other ≢ name → new other ≡ files_after replaced old other
 
 -- these files were replaced and no others, where the files are told
 abbrev pub AreReplaced : List FileText → Option Files → Option Files → Type 0

@@ -1,11 +1,10 @@
 pub mod Answer
-pub mod Command
 pub mod Devices
 pub mod Effects
 pub mod Headline
 pub mod Kept
 pub mod Meaning
-pub mod Outcome
 pub mod Refusals
+pub mod Sample
 pub mod Status
 pub mod Steps

@@ -2,7 +2,7 @@
 use Rattle.std.specs.Prelude.{ℕ, ◌==◌, if◌then◌else◌, List, [], ◌∷◌, ◌++◌, codes, decimal}
 use Rattle.std.specs.Fmt.{signed_decimal}
 use Rattle.pipe_cli.specs.declared.status.Status.{Status}
-use Rattle.pipe_cli.specs.declared.status.Status.TheVariants.{Zero, Coded, SpecRefused, Stalled, Spent, ReadFault, WriteFault, ShelfFault, NoMemory, Usage, InputTooLarge, NotYet}
+use Rattle.pipe_cli.specs.declared.status.Status.TheVariants.{Zero, Coded, SpecRefused, Stalled, Spent, ReadFault, WriteFault, ShelfFault, NoMemory, Usage, InputTooLarge, JournalRefused}
 use Rattle.pipe_cli.specs.declared.status.Outcome.{Outcome}
 use Rattle.pipe_cli.specs.declared.status.Outcome.TheVariants as Was
 use Rattle.spec_scanner.specs.declared.fault.SpecFaultKind.TheVariants.{BadArguments}
@@ -21,7 +21,7 @@ number_of ShelfFault = 7
 number_of NoMemory = 8
 number_of Usage = 9
 number_of InputTooLarge = 10
-number_of NotYet = 12
+number_of JournalRefused = 11
 
 -- a line with its line feed
 abbrev pub line : List ℕ → List ℕ
@@ -55,7 +55,9 @@ facts_of (Was.ShelfFault name) = facts ShelfFault (line (codes "shelf fault " ++
 facts_of Was.NoMemory = facts NoMemory (line (codes "out of memory"))
 facts_of Was.Usage = facts Usage (line usage)
 facts_of Was.InputTooLarge = facts InputTooLarge (line (codes "input too large"))
-facts_of Was.NotYet = facts NotYet (line (codes "not yet"))
+facts_of Was.JournalAbsent = facts JournalRefused (line (codes "journal absent"))
+facts_of (Was.JournalLine number) = facts JournalRefused (line (codes "journal line " ++ decimal number))
+facts_of (Was.JournalEntry number) = facts JournalRefused (line (codes "journal entry " ++ decimal number))
 
 abbrev pub status_of : Outcome → Status
 status_of outcome = (facts_of outcome).status

@@ -1,57 +1,51 @@
-ghost use Rattle.std.specs.Prelude.{◌≡◌, ◌≤◌, ℕ, map, MatchResult, IfOk, Some};
+ghost use Rattle.std.specs.Prelude.{◌≡◌, ℕ, map, MatchResult, IfOk};
 ghost use Rattle.std.specs.String.{string_bytes};
 ghost use Rattle.pipe_model.specs.WellFormed.{IsWellFormed};
 ghost use Rattle.net_graph.specs.Fed.{AreUnfiled};
-ghost use Rattle.pipe_cli.specs.Meaning.{IsNetOf, IsRunOf, RunsNet};
+ghost use Rattle.call_words.specs.Command.{StepsWithin};
+ghost use Rattle.pipe_cli.specs.Meaning.{IsNetOf, spec_of};
 ghost use Rattle.pipe_cli.specs.Refusals.{IsTextOutcome};
-ghost use Rattle.pipe_cli.specs.Steps.{StopsWords};
+ghost use Rattle.pipe_cli.specs.Steps.{IsCall, StopsWords};
 
-use crate::command::{Command, WordsFault};
+use crate::sample::SAMPLE_SPEC;
 use crate::status::Outcome;
-use crate::words::read_words;
+use call_words::{Command, WordsFault, read_words};
 use net_graph::{NetFault, build};
-use pipe_model::{Net, Rec};
+use pipe_model::Net;
 use spec_scanner::{SpecFault, scan};
 use std::alloc::Global;
 
-/// What a call runs: a net, whose stages are fed nothing yet, in so many steps at most.
+/// A command and the net of its specification, whose stages are fed nothing yet.
 #[derive(Drop)]
 pub(crate) struct Call {
+    pub command: Command,
     pub net: Net,
-    pub steps: u64,
 }
 
-// The net that words run. An error is that they aren't run, or want of memory.
+// The command that words mean, and its net. An error is that they aren't carried out, or want of memory.
 pub(crate) fn called(alloc: Global, words: &[String]) -> Result<Call, Outcome>
-    ensures called { MatchResult result (λ call. RunsNet (map (λ word. string_bytes word) words.now) call.net call.steps) (λ outcome. StopsWords (map (λ word. string_bytes word) words.now) outcome) }
+    ensures called { MatchResult result (λ call. IsCall (map (λ word. string_bytes word) words.now) call.command call.net) (λ outcome. StopsWords (map (λ word. string_bytes word) words.now) outcome) }
     ensures whole { IfOk result (λ call. IsWellFormed call.net) }
     ensures unfiled { IfOk result (λ call. AreUnfiled call.net) }
-    ensures few { IfOk result (λ call. call.steps ≤ 50000000) }
+    ensures few { IfOk result (λ call. StepsWithin call.command) }
 {
-    let (spec, steps) = spec_of(alloc, words)?;
-    let net = net_of(alloc, spec.bytes())?;
-    Ok(Call { net, steps })
+    let command = match read_words(alloc, words) {
+        Ok(command) => command,
+        Err(WordsFault::Usage) => return Err(Outcome::Usage),
+        Err(WordsFault::NoMemory) => return Err(Outcome::NoMemory),
+    };
+    let net = net_of(alloc, spec_of(&command))?;
+    Ok(Call { command, net })
 }
 
-// The specification that words run, and the most steps.
-fn spec_of(alloc: Global, words: &[String]) -> Result<(Rec, u64), Outcome>
-    ensures run { MatchResult result (λ run. IsRunOf (map (λ word. string_bytes word) words.now) run.0 run.1) (λ outcome. StopsWords (map (λ word. string_bytes word) words.now) outcome) }
-    ensures few { IfOk result (λ run. run.1 ≤ 50000000) }
+// The specification that a command runs, or checks a journal of.
+fn spec_of(command: &Command) -> &[u8]
+    ensures { result.now ≡ spec_of command.now }
 {
-    match read_words(alloc, words) {
-        Ok(
-            Command::Run {
-                spec,
-                workers: _,
-                steps,
-                trace: None,
-            },
-        ) => Ok((spec, steps)),
-        Ok(Command::Run { trace: Some(_), .. }) => Err(Outcome::NotYet),
-        Ok(Command::Check { .. }) => Err(Outcome::NotYet),
-        Ok(Command::Sample { .. }) => Err(Outcome::NotYet),
-        Err(WordsFault::Usage) => Err(Outcome::Usage),
-        Err(WordsFault::NoMemory) => Err(Outcome::NoMemory),
+    match command {
+        Command::Run { spec, .. } => spec.bytes(),
+        Command::Check { spec, .. } => spec.bytes(),
+        Command::Sample { .. } => SAMPLE_SPEC.as_bytes(),
     }
 }
 

@@ -7,7 +7,7 @@ ghost use Rattle.pipe_model.specs.WellFormed.{IsWellFormed};
 ghost use Rattle.net_graph.specs.Fed.{AreUnfiled, filed};
 ghost use Rattle.pipe_cli.specs.Devices.{store};
 ghost use Rattle.pipe_cli.specs.Meaning.{files_size};
-ghost use Rattle.pipe_cli.specs.Steps.{AreFetched, AreFetchedPart, IsGiven, IsTelling, IsUngiven, has_name};
+ghost use Rattle.pipe_cli.specs.Steps.{AreFetched, AreFetchedPart, AreOf, IsGiven, IsTelling, IsUngiven, files_known, has_name};
 
 use crate::read::INPUT_LIMIT;
 use crate::status::Outcome;
@@ -31,18 +31,24 @@ pub(crate) struct Found {
     pub bytes: Option<Rec>,
 }
 
-// Gives each `<` of a net its file, in the order of the strands. A name that several have is fetched once. An error is a
-// fault of the shelf, too many bytes or want of memory, with its text.
-pub(crate) fn fetch_files<F: Shelf>(alloc: Global, net: Net, shelf: &mut F) -> Result<Filed, Told>
+// Gives each `<` of a net its file, in the order of the strands. A name that several have, or one that was found before, is fetched once.
+// An error is a fault of the shelf, too many bytes or want of memory, with its text.
+pub(crate) fn fetch_files<F: Shelf>(
+    alloc: Global,
+    net: Net,
+    found: Vec<Found>,
+    shelf: &mut F,
+) -> Result<Filed, Told>
     requires whole { IsWellFormed net }
     requires unfiled { AreUnfiled net }
+    requires known { AreOf (files_known (F.files shelf.old) found.items) found.items }
     ensures fetched { let old = store (F.files shelf.old) (F.faults shelf.old) in let new = store (F.files shelf.new) (F.faults shelf.new) in
-        MatchResult result (λ after. (files : Files) × AreFetched net old new files × (after.net ≡ filed files net) × (after.size ≡ files_size files net)) (λ told. AreFetchedPart net old new told.outcome) }
+        MatchResult result (λ after. (files : Files) × AreFetched net found.items old new files × (after.net ≡ filed files net) × (after.size ≡ files_size files net)) (λ told. AreFetchedPart net found.items old new told.outcome) }
     ensures whole { IfOk result (λ after. IsWellFormed after.net) }
     ensures text { IfErr result IsTelling }
 {
     let mut net = net;
-    let mut found = Vec::new(alloc);
+    let mut found = found;
     let mut size = 0;
     for strand in 0..net.strands.as_slice().len() {
         let kind = &net.strands.as_slice()[strand].kind;
@@ -106,7 +112,7 @@ fn copy_of(alloc: Global, bytes: &Option<Rec>) -> Result<Option<Rec>, NoMemory>
 }
 
 // Fetches a file that wasn't fetched before. The text of its fault is made before.
-fn fetch<F: Shelf>(
+pub(crate) fn fetch<F: Shelf>(
     alloc: Global,
     name: &Rec,
     found: &mut Vec<Found>,

@@ -36,7 +36,7 @@ pub(crate) fn take_input<I: Source>(
 }
 
 // Gives the bytes of the input to all that read it, which hold them once among them.
-fn feed_input(alloc: Global, net: &mut Net, bytes: Vec<u8>) -> Result<(), NoMemory>
+pub(crate) fn feed_input(alloc: Global, net: &mut Net, bytes: Vec<u8>) -> Result<(), NoMemory>
     requires { IsWellFormed net.old }
     ensures fed { OnOk result (net.new ≡ with_input bytes.items net.old) }
     ensures whole { OnOk result (IsWellFormed net.new) }

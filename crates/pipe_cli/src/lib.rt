@@ -2,27 +2,27 @@
 #![tactic(auto)]
 
 mod called;
-mod command;
-mod demands;
+mod check_call;
+mod feed;
 mod fetch;
-mod grammar;
 mod input;
 mod main_call;
 mod meaning;
 mod net_run;
 mod read;
 mod replace;
+mod run_call;
+mod sample;
+mod sample_call;
 mod status;
 mod text;
-mod values;
-mod words;
+mod trace;
 mod write;
 
-pub use command::{Command, WordsFault};
+pub use call_words::{Command, WordsFault, read_words};
 pub use main_call::pipe_main;
 pub use meaning::{one_meaning, straight_line_is_plain, straight_line_means};
 pub use status::{Outcome, Status};
-pub use words::read_words;
 
 #[cfg(test)]
 mod gate_tests;
@@ -30,5 +30,3 @@ mod gate_tests;
 mod order_tests;
 #[cfg(test)]
 mod tests;
-#[cfg(test)]
-mod word_tests;

@@ -6,26 +6,27 @@ ghost use Rattle.pipe_cli.specs.Answer.{Answers, Decides, Reports};
 ghost use Rattle.pipe_cli.specs.Headline.{Headline};
 ghost use Rattle.pipe_cli.specs.Steps.{IsTelling};
 
-use crate::called::called;
-use crate::fetch::fetch_files;
-use crate::input::take_input;
-use crate::net_run::{outcome_of, run_net, write_kept};
-use crate::read::INPUT_LIMIT;
-use crate::replace::{files_of, replace_files};
+use crate::called::{Call, called};
+use crate::check_call::check_call;
+use crate::run_call::run_call;
+use crate::sample_call::sample_call;
 use crate::status::Status;
-use crate::text::{Told, no_memory, tell, with_text, write_fault};
+use crate::text::{Told, tell};
 use crate::write::write_all;
+use call_words::Command;
 use outside::{Gate, Shelf, Sink, Source};
-use pipe_model::NoMemory;
 use std::alloc::Global;
 use std::sync::Wait;
 use std::thread::Threads;
 
-/// Does what the words after the program's name say: reads `input` and the files of `shelf` that stages read, writes `output`, replaces the
-/// files that stages replace, and tells a status other than `Zero` as a text on `diag`. It reads its words first, then the specification,
-/// then the files in the order of their stages, then the input, where a CONSOLE reads it, runs, makes the text of the status, then writes
-/// the output, replaces the files in the order of the bytes of their names, and tells the status last. After a fault of the output no file
-/// is replaced; after one of the shelf the files of lesser names are. The gate is entered before the work on each record that a stage saw.
+/// Does what the words after the program's name say, and tells a status other than `Zero` as a text on `diag`.
+///
+/// A run reads `input` and the files of `shelf` that its stages read, writes `output`, replaces the files that its stages replace and then,
+/// where a file is named for it, the one of its journal. It reads its words first, then the specification, then the files in the order of
+/// their stages, then the input, where a CONSOLE reads it, runs, makes all texts, then writes the output, replaces the files in the order of
+/// the bytes of their names and the journal's last, and tells the status. After a fault of the output no file is replaced; after one of the
+/// shelf the files before are. A check fetches the journal before the files, plays it instead of a run, and writes what it is. The sample
+/// reads nothing. The gate is entered before the work on each record that a stage saw.
 pub fn pipe_main<Rt: Threads + Wait + Sync, I: Source, O: Sink, E: Sink, F: Shelf, G: Gate + Sync>(
     _rt: &Rt,
     alloc: Global,
@@ -66,40 +67,16 @@ fn run<I: Source, O: Sink, F: Shelf, G: Gate>(
         result.outcome }
     ensures text { IsTelling result }
 {
-    let call = match called(alloc, words) {
+    let Call { command, net } = match called(alloc, words) {
         Ok(call) => call,
         Err(outcome) => return tell(alloc, outcome),
     };
-    let filed = match fetch_files(alloc, call.net, shelf) {
-        Ok(filed) => filed,
-        Err(told) => return told,
-    };
-    let net = match take_input(alloc, filed.net, input, INPUT_LIMIT - filed.size) {
-        Ok(net) => net,
-        Err(outcome) => return tell(alloc, outcome),
-    };
-    let core = match run_net(alloc, net, call.steps, gate) {
-        Ok(core) => core,
-        Err(outcome) => return tell(alloc, outcome),
-    };
-    let outcome = match outcome_of(alloc, &core) {
-        Ok(outcome) => outcome,
-        Err(NoMemory) => return no_memory(),
-    };
-    let puts = match files_of(alloc, &core, &outcome) {
-        Ok(puts) => puts,
-        Err(NoMemory) => return no_memory(),
-    };
-    let told = match with_text(alloc, outcome) {
-        Ok(told) => told,
-        Err(NoMemory) => return no_memory(),
-    };
-    if write_kept(output, &core).is_err() {
-        return write_fault();
-    }
-    match replace_files(alloc, shelf, &core, puts) {
-        Ok(()) => told,
-        Err(fault) => fault,
+    match command {
+        Command::Run { steps, trace, .. } => {
+            run_call(alloc, net, steps, trace, input, output, shelf, gate)
+        }
+        Command::Check { name, .. } => check_call(alloc, net, name, input, output, shelf),
+        Command::Sample { lines, steps, .. } => sample_call(alloc, net, lines, steps, output, gate),
     }
 }
 

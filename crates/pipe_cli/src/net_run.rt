@@ -1,4 +1,5 @@
-ghost use Rattle.std.specs.Prelude.{◌≡◌, ◌≤◌, ◌<◌, ℕ, List, Bool, [], ◌∷◌, length, IfOk, MatchOption, MatchResult};
+//! A net is run, and what comes of it is told.
+ghost use Rattle.std.specs.Prelude.{◌≡◌, ◌≤◌, List, [], ◌∷◌, length, IfOk, MatchOption, MatchResult};
 ghost use Rattle.pipe_model.specs.Reply.{WaitLine, reply, console_from};
 ghost use Rattle.pipe_model.specs.WellFormed.{IsWellFormed};
 ghost use Rattle.core_machine.specs.Machine.{HasStopped, started, state_of};
@@ -6,7 +7,7 @@ ghost use Rattle.pipe_model.specs.Form.{is_shown};
 ghost use Rattle.pipe_cli.specs.Kept.{keeping_of};
 ghost use Rattle.outside.specs.Device.{device};
 ghost use Rattle.pipe_cli.specs.Meaning.{outcome_of};
-ghost use Rattle.pipe_cli.specs.Steps.{HasCompleted, StopsRunning, IsWritten, IsPartWritten};
+ghost use Rattle.pipe_cli.specs.Steps.{IsRun, IsWritten, IsPartWritten};
 
 use crate::status::Outcome;
 use crate::write::write_all;
@@ -17,25 +18,31 @@ use stage_table::{BuiltIn, make_all};
 use stall_report::{report, text};
 use std::alloc::Global;
 
-// The core of a net, after it ran to its end. An error is that its journal was full before, or want of memory.
+/// A core that ran a net to its end, or as far as the steps allow, and how that ended.
+#[derive(Drop)]
+pub(crate) struct Ran {
+    pub core: Core<BuiltIn>,
+    pub outcome: Outcome,
+}
+
+// The net's core, after it ran so.
 pub(crate) fn run_net<G: Gate>(
     alloc: Global,
     net: Net,
     steps: u64,
     gate: &G,
-) -> Result<Core<BuiltIn>, Outcome>
+) -> Result<Ran, NoMemory>
     requires whole { IsWellFormed net }
     requires few { steps ≤ 50000000 }
-    ensures { MatchResult result (λ core. HasCompleted net steps core) (λ outcome. StopsRunning net steps outcome) }
+    ensures run { IfOk result (λ ran. IsRun net steps ran.core ran.outcome) }
+    ensures few { IfOk result (λ ran. length ran.core.net.strands ≤ 65536) }
 {
-    let Ok(mut core) = start_net(alloc, net, steps) else {
-        return Err(Outcome::NoMemory);
+    let mut core = start_net(alloc, net, steps)?;
+    let outcome = match core.run_one_thread(alloc, gate)? {
+        RunEnd::Complete => outcome_of(alloc, &core)?,
+        RunEnd::Spent => Outcome::Spent(steps),
     };
-    match core.run_one_thread(alloc, gate) {
-        Ok(RunEnd::Complete) => Ok(core),
-        Ok(RunEnd::Spent) => Err(Outcome::Spent(steps)),
-        Err(NoMemory) => Err(Outcome::NoMemory),
-    }
+    Ok(Ran { core, outcome })
 }
 
 // Its core before the first step.
@@ -49,7 +56,7 @@ pub(crate) fn start_net(alloc: Global, net: Net, steps: u64) -> Result<Core<Buil
 }
 
 // How a run that is complete ended.
-pub(crate) fn outcome_of(alloc: Global, core: &Core<BuiltIn>) -> Result<Outcome, NoMemory>
+fn outcome_of(alloc: Global, core: &Core<BuiltIn>) -> Result<Outcome, NoMemory>
     requires few { length core.now.net.strands ≤ 65536 }
     requires stopped { HasStopped core.now }
     ensures { IfOk result (λ outcome. outcome ≡ outcome_of core.now.net (reply core.now.net (state_of core.now))) }
@@ -94,4 +101,20 @@ pub(crate) fn write_kept<O: Sink>(output: &mut O, core: &Core<BuiltIn>) -> Resul
         }
     }
     Ok(())
+}
+
+// What the writing CONSOLE kept, in a text.
+pub(crate) fn console_text(alloc: Global, core: &Core<BuiltIn>) -> Result<Vec<u8>, NoMemory>
+    requires home { core.now.out ≡ [] }
+    requires few { length core.now.net.strands ≤ 65536 }
+    ensures { IfOk result (λ text. text.items ≡ console_from (state_of core.now) 0 core.now.net.strands) }
+{
+    let mut text = Vec::new(alloc);
+    let strands = core.net().strands.as_slice();
+    for k in 0..strands.len() {
+        if is_shown(&strands[k].kind) {
+            text.extend_from_slice(core.kept(k as u32))?;
+        }
+    }
+    Ok(text)
 }

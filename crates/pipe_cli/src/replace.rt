@@ -1,14 +1,12 @@
 //! The files that a run replaces, in the order of their names.
-ghost use Rattle.std.specs.Prelude.{◌≡◌, ◌≤◌, ◌<◌, List, [], length, map, position, IfOk, MatchResult, OnOk};
+ghost use Rattle.std.specs.Prelude.{◌≡◌, ◌≤◌, ◌<◌, ℕ, List, [], length, map, position, IfOk, MatchResult, OnOk};
 ghost use Rattle.std.specs.List.{All};
-ghost use Rattle.core_machine.specs.Machine.{HasStopped, state_of};
 ghost use Rattle.pipe_model.specs.Keys as Keys;
-ghost use Rattle.pipe_model.specs.Reply.{FileText, reply};
+ghost use Rattle.pipe_model.specs.Reply.{FileText};
 ghost use Rattle.pipe_cli.specs.Devices.{store};
 ghost use Rattle.pipe_cli.specs.Effects.{in_order, in_order_after};
-ghost use Rattle.pipe_cli.specs.Meaning.{outcome_of};
 ghost use Rattle.pipe_cli.specs.Status.{text_of};
-ghost use Rattle.pipe_cli.specs.Steps.{ArePuts, AreStored, AreStoredPart, IsPut, IsTelling, file_at, put_text, with_put};
+ghost use Rattle.pipe_cli.specs.Steps.{ArePuts, AreStored, AreStoredPart, EndsAs, IsPut, IsTelling, file_at, put_text, run_effect, with_put};
 
 use crate::status::Outcome;
 use crate::text::{Text, Told, no_memory, shelf_fault};
@@ -27,19 +25,18 @@ pub(crate) struct Put {
     pub fault: Rec,
 }
 
-// The files that a run replaces, in the order of their names: none where a strand waits.
+// The files that a run replaces, in the order of their names: none where a strand waits, or where too few steps are allowed.
 pub(crate) fn files_of(
     alloc: Global,
     core: &Core<BuiltIn>,
     outcome: &Outcome,
 ) -> Result<Vec<Put>, NoMemory>
     requires few { length core.now.net.strands ≤ 65536 }
-    requires stopped { HasStopped core.now }
-    requires outcome { outcome.now ≡ outcome_of core.now.net (reply core.now.net (state_of core.now)) }
-    ensures { IfOk result (λ puts. ArePuts core.now (reply core.now.net (state_of core.now)).files puts.items) }
+    requires ends { (steps : ℕ) × EndsAs steps core.now outcome.now }
+    ensures { IfOk result (λ puts. ArePuts core.now (run_effect core.now outcome.now).files puts.items) }
 {
     let mut puts = Vec::new(alloc);
-    if let Outcome::Stalled(_) = outcome {
+    if let Outcome::Stalled(_) | Outcome::Spent(_) = outcome {
         return Ok(puts);
     }
     for strand in 0..core.net().strands.as_slice().len() {

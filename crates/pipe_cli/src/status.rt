@@ -28,8 +28,8 @@ pub enum Status {
     Usage = 9,
     /// Standard input and the files that are read gave more than 67,108,864 bytes.
     InputTooLarge = 10,
-    /// The command is of a form that isn't built yet.
-    NotYet = 12,
+    /// A file has no journal, or one that the specification doesn't allow.
+    JournalRefused = 11,
 }
 
 impl Status {
@@ -61,7 +61,12 @@ pub enum Outcome {
     NoMemory,
     Usage,
     InputTooLarge,
-    NotYet,
+    /// The file that is to have the journal isn't there.
+    JournalAbsent,
+    /// The first line of the file that isn't of the format. Line 1 is the first.
+    JournalLine(u64),
+    /// The first entry without a licence after those before it, counted from 1.
+    JournalEntry(u64),
 }
 
 impl Outcome {
@@ -81,7 +86,9 @@ impl Outcome {
             Outcome::NoMemory => Status::NoMemory,
             Outcome::Usage => Status::Usage,
             Outcome::InputTooLarge => Status::InputTooLarge,
-            Outcome::NotYet => Status::NotYet,
+            Outcome::JournalAbsent | Outcome::JournalLine(_) | Outcome::JournalEntry(_) => {
+                Status::JournalRefused
+            }
         }
     }
 }

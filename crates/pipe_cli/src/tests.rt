@@ -111,7 +111,7 @@ const TWO: &str = "(endchar ?) console | a: locate /x/ | console ? a: | locate /
 #[test]
 fn words_and_bytes_give_bytes_and_a_status(rt: HostRuntime) -> Result<(), Fail> {
     let alloc = rt.alloc();
-    let cases: [(&[&str], &[u8], u8, &[u8], &[u8]); 13] = [
+    let cases: [(&[&str], &[u8], u8, &[u8], &[u8]); 14] = [
         (&[LINE], TEXT, 0, b"ab\nb\n", b""),
         (
             &["Console|LOCATE /a/|locate  /b/|CONSOLE"],
@@ -148,7 +148,14 @@ fn words_and_bytes_give_bytes_and_a_status(rt: HostRuntime) -> Result<(), Fail> 
         (&["console |"], TEXT, 2, b"", b"spec 2 at 9\n"),
         (&[LINE, LINE], TEXT, 9, b"", USAGE),
         (&[LINE, "--workers", "65"], TEXT, 9, b"", USAGE),
-        (&[LINE, "--trace", "t"], TEXT, 12, b"", b"not yet\n"),
+        (
+            &["--sample", "3"],
+            TEXT,
+            0,
+            b"sample 3 lines 3 bytes 15 steps 49\n",
+            b"",
+        ),
+        (&["--sample=3", "--steps=48"], TEXT, 4, b"", b"spent 48\n"),
     ];
     for (words, input, status, output, diag) in cases {
         let streams = in_memory(alloc, input, 2, &[], &[], 128)?;
@@ -197,6 +204,104 @@ fn files_are_read_before_the_run_and_replaced_after_it(rt: HostRuntime) -> Resul
         assert_eq!(rt; streams.diag.written(), diag);
         assert_eq!(rt; shelf.content(b"b"), Some(b));
         assert_eq!(rt; shelf.content(b"c"), c);
+    }
+    Ok(())
+}
+
+// The journal of `literal a | console`, and of `literal a | > x`.
+const JOURNAL: &[u8] =
+    b"pipe-journal 1\n0 0\n1 0\n0 0\n1 0\n1 0\n1 0\n0 0\n0 0\n0 0\n1 0\n1 0\nend 11\n";
+
+const STORING: &[&str] = &["literal a | > x", "--trace", "j"];
+
+const CHECKING: &[&str] = &["literal a | console", "--check", "j"];
+
+#[test]
+fn a_journal_is_stored_and_checked(rt: HostRuntime) -> Result<(), Fail> {
+    let alloc = rt.alloc();
+    let spent: &[&str] = &["literal a | > x", "--trace", "j", "--steps", "2"];
+    let two: &[u8] = b"pipe-journal 1\n0 0\n1 0\nend 2\n";
+    let (x, bad): (Option<&[u8]>, &[u8]) = (Some(b"a\n"), b"pipe-journal 1\n9 0\nend 1\n");
+    // Words, the calls of the shelf that fail, the file `j`, and what comes: status, output, text, and the files `j` and `x`.
+    let cases: [(
+        &[&str],
+        &[u32],
+        Option<&[u8]>,
+        u8,
+        &[u8],
+        &[u8],
+        Option<&[u8]>,
+        Option<&[u8]>,
+    ); 10] = [
+        (STORING, &[], None, 0, b"", b"", Some(JOURNAL), x),
+        (STORING, &[1], None, 7, b"", b"shelf fault x\n", None, None),
+        (STORING, &[2], None, 7, b"", b"shelf fault j\n", None, x),
+        (spent, &[], Some(bad), 4, b"", b"spent 2\n", Some(two), None),
+        (
+            CHECKING,
+            &[],
+            None,
+            11,
+            b"",
+            b"journal absent\n",
+            None,
+            None,
+        ),
+        (CHECKING, &[1], None, 7, b"", b"shelf fault j\n", None, None),
+        (
+            CHECKING,
+            &[],
+            Some(b"pipe-journal 1\nend 1\n"),
+            11,
+            b"",
+            b"journal line 2\n",
+            Some(b"pipe-journal 1\nend 1\n"),
+            None,
+        ),
+        (
+            CHECKING,
+            &[],
+            Some(bad),
+            11,
+            b"",
+            b"journal entry 1\n",
+            Some(bad),
+            None,
+        ),
+        (
+            CHECKING,
+            &[],
+            Some(two),
+            0,
+            b"legal 2 open\n",
+            b"",
+            Some(two),
+            None,
+        ),
+        (
+            CHECKING,
+            &[],
+            Some(JOURNAL),
+            0,
+            b"legal 11 complete\n",
+            b"",
+            Some(JOURNAL),
+            None,
+        ),
+    ];
+    for (words, fails, journal, status, output, diag, j, x) in cases {
+        let words = strings(alloc, words)?;
+        let mut streams = in_memory(alloc, b"", 2, &[], &[], 64)?;
+        let mut shelf = MemShelf::new(alloc, fails.to_vec(alloc)?);
+        if let Some(bytes) = journal {
+            shelf.preset(b"j", bytes)?;
+        }
+        let answered = call_with(&rt, alloc, &words, &mut streams, &mut shelf, &OpenGate);
+        assert_eq!(rt; answered, status);
+        assert_eq!(rt; streams.output.written(), output);
+        assert_eq!(rt; streams.diag.written(), diag);
+        assert_eq!(rt; shelf.content(b"j"), j);
+        assert_eq!(rt; shelf.content(b"x"), x);
     }
     Ok(())
 }

@@ -98,6 +98,8 @@ fn text_of(alloc: Global, outcome: &Outcome) -> Result<Text, NoMemory>
         } => refusal(alloc, *number, *argument, *place)?,
         Outcome::Stalled(lines) => stall(alloc, lines.bytes())?,
         Outcome::Spent(steps) => numbered(alloc, "spent ", *steps)?,
+        Outcome::JournalLine(number) => numbered(alloc, "journal line ", *number)?,
+        Outcome::JournalEntry(number) => numbered(alloc, "journal entry ", *number)?,
         Outcome::ShelfFault(name) => shelf_fault(alloc, name.bytes())?,
         Outcome::Done => return Ok(Text::Fixed("")),
         Outcome::ReadFault => return Ok(Text::Fixed("read fault\n")),
@@ -105,7 +107,7 @@ fn text_of(alloc: Global, outcome: &Outcome) -> Result<Text, NoMemory>
         Outcome::NoMemory => return Ok(Text::Fixed(OUT_OF_MEMORY)),
         Outcome::Usage => return Ok(Text::Fixed(USAGE)),
         Outcome::InputTooLarge => return Ok(Text::Fixed("input too large\n")),
-        Outcome::NotYet => return Ok(Text::Fixed("not yet\n")),
+        Outcome::JournalAbsent => return Ok(Text::Fixed("journal absent\n")),
     };
     Ok(Text::Made(Rec::from_vec(made)))
 }
@@ -160,13 +162,15 @@ pub(crate) fn shelf_fault(alloc: Global, name: &[u8]) -> Result<Vec<u8>, NoMemor
     Ok(text)
 }
 
-fn add(text: &mut Vec<u8>, more: &str) -> Result<(), NoMemory>
+// More of a text.
+pub(crate) fn add(text: &mut Vec<u8>, more: &str) -> Result<(), NoMemory>
     ensures { OnOk result (text.new.items ≡ text.old.items ++ more.now) }
 {
     Ok(text.extend_from_slice(more.as_bytes())?)
 }
 
-fn add_number<N: Integer>(text: &mut Vec<u8>, number: N) -> Result<(), NoMemory>
+// A number more.
+pub(crate) fn add_number<N: Integer>(text: &mut Vec<u8>, number: N) -> Result<(), NoMemory>
     ensures { OnOk result (text.new.items ≡ text.old.items ++ N.text number) }
 {
     let mut buffer = Buffer::new();

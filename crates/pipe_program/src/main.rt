@@ -6,6 +6,7 @@ ghost use Rattle.std.specs.String.{string_bytes};
 ghost use Rattle.outside.specs.Device.{Device, device};
 ghost use Rattle.pipe_cli.specs.Devices.{Outside};
 ghost use Rattle.pipe_cli.specs.Answer.{Answers};
+ghost use Rattle.pipe_cli.specs.Headline.{Headline};
 ghost use Rattle.pipe_program.specs.Call.{Leaves, objects};
 
 use outside::{FolderShelf, OpenGate, StdSink, StdSource};
@@ -39,6 +40,7 @@ fn call<Rt: Threads + Wait + Files + Sync, I: Read, O: Write, D: Write>(
 ) -> (Status, I, O, D)
     ensures { (after : Outside) × (told : Device)
         × Answers (map (λ word. string_bytes word) words.now) (objects (I.remaining input) (O.contents output)) after (device (D.contents diag) 0) told result.0
+        × Headline (map (λ word. string_bytes word) words.now) (objects (I.remaining input) (O.contents output)) after (device (D.contents diag) 0) told result.0
         × Leaves after told (I.remaining result.1) (O.contents result.2) (D.contents result.3) }
 {
     let mut source = StdSource::new(input);

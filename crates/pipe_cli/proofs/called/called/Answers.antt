@@ -7,8 +7,8 @@ use Rattle.pipe_cli.proofs.called.called.Goals as goal
 
 pub returns-in_err-net-clause-called : goal.returns-in_err-net-clause-called
 returns-in_err-net-clause-called c =
-    let p = err_from_is_err_and c.from_residual-in_err-net.result c.from_residual-in_err-net.ensures.1 in
-    rw (p.1, p.2) (stops_text _ c.in_ok-spec.spec c.in_ok-spec.steps c.in_err-net.field-0.0 c.in_ok-spec.ensures.run (subst (λ z. IsTextOutcome z c.in_err-net.field-0.0) c.bytes.ensures c.in_err-net.ensures.made))
+    let p = err_from_is_err_and c.from_residual.result c.from_residual.ensures.1 in
+    rw (p.1, p.2) (stops_text _ c.in-Ok.command c.in_err-net.field-0.0 c.in-Ok.ensures.read (subst (λ z. IsTextOutcome z c.in_err-net.field-0.0) c.spec_of.ensures c.in_err-net.ensures.made))
 
 pub returns-clause-unfiled : goal.returns-clause-unfiled
 returns-clause-unfiled c = let made = c.in_ok-net.ensures.made in graph_unfiled made.pipelines c.in_ok-net.net made.graph

@@ -1,4 +1,4 @@
-use Rattle.std.proofs.Common.{◌≡◌, ◌<◌, ◌+◌, length, sym, ◌∙◌, ap, subst, arith, Some, slice_get, get_or}
+use Rattle.std.proofs.Common.{◌≡◌, ◌<◌, ◌+◌, length, ◌∙◌, ap, subst, arith, Some, slice_get, get_or}
 use Rattle.std.proofs.lemmas.Option.{slice_get-get_or}
 use Rattle.std.proofs.lemmas.Result.{err_from_is_err_and}
 use Rattle.pipe_model.specs.Table.{line_of}
@@ -7,7 +7,7 @@ use Rattle.pipe_cli.specs.Devices.{store}
 use Rattle.pipe_cli.specs.Meaning.{input_limit}
 use Rattle.pipe_cli.specs.Steps.{IsGiven, files_known}
 use Rattle.pipe_cli.proofs.Feds.{with_length}
-use Rattle.pipe_cli.proofs.Fetches.{AreFiled, fetched_all, filed_absent, filed_all, filed_more, given_reads, still_known, stopped_at, stopped_full, told_too_large}
+use Rattle.pipe_cli.proofs.Fetches.{AreFiled, fetched_all, filed_absent, filed_more, given_reads, still_known, stopped_at, stopped_full, told_too_large}
 use Rattle.pipe_cli.proofs.fetch.fetch_files.Goals as goal
 use Rattle.pipe_cli.proofs.fetch.fetch_files.Goals.{in-Some+else-len-size, in_default}
 
@@ -42,7 +42,8 @@ returns-in_err-bytes-clause-fetched g c =
     let at : slice_get net.strands k ≡ Some p =
     subst (λ xs. slice_get xs k ≡ Some p) c.as_slice.ensures (slice_get-get_or c.as_slice.result.now k c.index-as_slice-strand.result within) in
     let e = err_from_is_err_and c.from_residual.result c.from_residual.ensures.1 in
-    rw (e.1, e.2) (stopped_at c.args.net k net c.loop-strand.size found was p at old middle new kept steady known c.in_err-bytes.field-0.0.outcome c.in_err-bytes.ensures.given)
+    rw (e.1, e.2) (stopped_at c.args.net k net c.loop-strand.size found was p at old middle new kept steady known c.args.found.items c.loop-strand.invariant.front
+    c.in_err-bytes.field-0.0.outcome c.in_err-bytes.ensures.given)
 
 pub returns-then-len-size-clause-fetched : goal.returns-then-len-size-clause-fetched
 returns-then-len-size-clause-fetched g c =
@@ -71,8 +72,8 @@ returns-then-len-size-clause-fetched g c =
     let more = c.if-len-size.true in
     let fits = c.loop-strand.invariant.fits in
     let large : input_limit < c.loop-strand.size + length c.in-Some.bytes = omega (arith, more, seen, fits) in
-    stopped_full c.args.net k net c.loop-strand.size found was p at old middle new kept steady known c.file_of.new.found.items c.in-Some.bytes c.tell.result.outcome given large
-    (told_too_large c.tell.result c.tell.ensures)
+    stopped_full c.args.net k net c.loop-strand.size found was p at old middle new kept steady known c.args.found.items c.loop-strand.invariant.front
+    c.file_of.new.found.items c.in-Some.bytes c.tell.result.outcome given large (told_too_large c.tell.result c.tell.ensures)
 
 pub feed-requires : goal.feed-requires
 feed-requires g c =
@@ -98,7 +99,7 @@ feed-requires g c =
     let given : IsGiven (line_of p.kind).feed middle new found c.file_of.new.found.items (Some c.in-Some.bytes) =
     subst (λ bytes. IsGiven (line_of p.kind).feed middle new found c.file_of.new.found.items bytes) c.in-Some.is c.in_ok-bytes.ensures.given in
     let after = files_known old.files c.file_of.new.found.items in
-    let of = still_known c.args.net k net c.loop-strand.size found was p at old middle new kept steady known c.file_of.new.found.items (Some c.in-Some.bytes) given in
+    let of = still_known c.args.net k net c.loop-strand.size found was p at old middle new kept steady known c.args.found.items c.loop-strand.invariant.front c.file_of.new.found.items (Some c.in-Some.bytes) given in
     record { reads = (p, at, given_reads after p.kind c.in-Some.bytes (given.file after of)) }
 
 pub loop-strand-preserved : goal.loop-strand-preserved
@@ -123,7 +124,7 @@ loop-strand-preserved g c =
     let at : slice_get net.strands k ≡ Some p =
     subst (λ xs. slice_get xs k ≡ Some p) c.as_slice.ensures (slice_get-get_or c.as_slice.result.now k c.index-as_slice-strand.result within) in
     let given : IsGiven (line_of p.kind).feed middle new found c.file_of.new.found.items c.in_ok-bytes.field-0 = c.in_ok-bytes.ensures.given in
-    let of = still_known c.args.net k net c.loop-strand.size found was p at old middle new kept steady known c.file_of.new.found.items c.in_ok-bytes.field-0 given in
+    let of = still_known c.args.net k net c.loop-strand.size found was p at old middle new kept steady known c.args.found.items c.loop-strand.invariant.front c.file_of.new.found.items c.in_ok-bytes.field-0 given in
     let fits = c.loop-strand.invariant.fits in
     elim c.match-branch-2.branch [
       | in-Some+else-len-size w ↦
@@ -134,6 +135,7 @@ loop-strand-preserved g c =
             within = omega (arith, end, some);
             end = end;
             filed = filed_more c.args.net k net c.loop-strand.size found was p at middle new c.file_of.new.found.items w.in-Some.bytes w.bytes-len.result.now _ w.bytes-len.ensures (w.feed.ensures.fed p at) one;
+            front = λ files are. c.loop-strand.invariant.front files (given.more files are);
             known = of;
             fits = omega (arith, less, fits);
             kept = given.kept ∙ kept;
@@ -146,6 +148,7 @@ loop-strand-preserved g c =
             end = end;
             filed = filed_absent c.args.net k net c.loop-strand.size found was p at middle new c.file_of.new.found.items c.requires.unfiled there known
                 (subst (λ bytes. IsGiven (line_of p.kind).feed middle new found c.file_of.new.found.items bytes) w.in_default.is given);
+            front = λ files are. c.loop-strand.invariant.front files (given.more files are);
             known = of;
             fits = fits;
             kept = given.kept ∙ kept;
@@ -160,8 +163,8 @@ returns-clause-fetched g c =
     let within = c.loop-strand.invariant.within in
     let none = c.loop-strand-test.false in
     let all : c.loop-strand.strand ≡ length c.args.net.strands = omega (arith, end, within, none) in
-    fetched_all c.args.net c.loop-strand.net c.loop-strand.size c.loop-strand.found.items
+    fetched_all c.args.net c.loop-strand.net c.loop-strand.size c.args.found.items c.loop-strand.found.items
     (store (g.F.Shelf.files c.args.shelf.now) (g.F.Shelf.faults c.args.shelf.now))
     (store (g.F.Shelf.files c.loop-strand.shelf) (g.F.Shelf.faults c.loop-strand.shelf))
     (subst (λ k. AreFiled c.args.net k c.loop-strand.net c.loop-strand.size c.loop-strand.found.items) all c.loop-strand.invariant.filed)
-    c.loop-strand.invariant.known c.loop-strand.invariant.fits c.loop-strand.invariant.kept c.loop-strand.invariant.steady
+    c.loop-strand.invariant.known c.loop-strand.invariant.front c.loop-strand.invariant.fits c.loop-strand.invariant.kept c.loop-strand.invariant.steady

@@ -1,5 +1,6 @@
 use Rattle.std.proofs.Common.{◌≡◌, ◌≤◌, length}
 use Rattle.pipe_model.specs.WellFormed.{IsWellFormed}
+use Rattle.outside.specs.Files.{Files}
 use Rattle.pipe_cli.specs.Meaning.{input_limit}
 use Rattle.pipe_cli.specs.Steps.{AreOf, files_known}
 use Rattle.pipe_cli.proofs.Fetches.{AreFiled}
@@ -10,6 +11,7 @@ invariant-loop-strand g l = record {
   within : l.strand ≤ length l.fn.net.strands;
   end : l.strand-end ≡ length l.fn.net.strands;
   filed : AreFiled l.fn.net l.strand l.net l.size l.found.items;
+  front : (files : Files) → AreOf files l.found.items → AreOf files l.fn.found.items;
   known : AreOf (files_known (g.F.Shelf.files l.fn.shelf) l.found.items) l.found.items;
   fits : l.size ≤ input_limit;
   kept : g.F.Shelf.files l.shelf ≡ g.F.Shelf.files l.fn.shelf;

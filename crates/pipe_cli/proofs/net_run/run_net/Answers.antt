@@ -1,14 +1,20 @@
-use Rattle.std.proofs.Common.{inr, refl, subst}
+use Rattle.std.proofs.Common.{sym, ◌∙◌, subst}
 use Rattle.core_machine.specs.Answered.{Ends}
+use Rattle.pipe_cli.specs.declared.status.Outcome.{Outcome}
+use Rattle.pipe_cli.specs.Steps.{IsRun}
 use Rattle.pipe_cli.proofs.CoreRuns.{run_completed, run_spent}
 use Rattle.pipe_cli.proofs.net_run.run_net.Goals as goal
+use Rattle.pipe_cli.proofs.net_run.run_net.Goals.{in-Complete+in_ok-outcome-in-Complete, in-Spent}
 
-pub returns-in-Ok-Complete : goal.returns-in-Ok-Complete
-returns-in-Ok-Complete g c =
-    let ends = subst (λ end. Ends end c.run_one_thread.new.self) c.in-Ok-Complete.field-0-is c.in-Ok-Complete.ensures.runs.1 in
-    run_completed c.args.net c.args.steps c.in-Ok.core c.run_one_thread.new.self c.in-Ok.ensures c.in-Ok-Complete.ensures.runs.0 c.in-Ok-Complete.ensures.lawful ends
-
-pub returns-in-Ok-Spent : goal.returns-in-Ok-Spent
-returns-in-Ok-Spent g c =
-    let ends = subst (λ end. Ends end c.run_one_thread.new.self) c.in-Ok-Spent.field-0-is c.in-Ok-Spent.ensures.runs.1 in
-    inr (refl, run_spent c.args.net c.args.steps c.in-Ok.core c.run_one_thread.new.self c.in-Ok.ensures c.in-Ok-Spent.ensures.runs.0 c.in-Ok-Spent.ensures.lawful c.requires.whole ends)
+pub returns-clause-run : goal.returns-clause-run
+returns-clause-run g c =
+    let core = c.run_one_thread.new.self in
+    let did = c.in_ok-run_one_thread.ensures in
+    elim c.match-branch-3.branch [
+      | in-Complete+in_ok-outcome-in-Complete w ↦
+          run_completed c.args.net c.args.steps c.in_ok-core.core core c.in_ok-core.ensures did.runs.0 did.lawful (subst (λ end. Ends end core) w.in-Complete.is did.runs.1)
+          c.match-branch-3.outcome (w.outcome-is ∙ w.in_ok-outcome-in-Complete.ensures)
+      | in-Spent w ↦
+          subst (λ (o : Outcome). IsRun c.args.net c.args.steps core o) (sym w.outcome-is)
+          (run_spent c.args.net c.args.steps c.in_ok-core.core core c.in_ok-core.ensures did.runs.0 did.lawful (subst (λ end. Ends end core) w.in-Spent.is did.runs.1))
+    ]

@@ -4,11 +4,11 @@ use Rattle.std.specs.List.{All}
 use Rattle.pipe_model.specs.declared.net.Net.{Net}
 use Rattle.pipe_cli.specs.Effects.{in_order_after}
 use Rattle.pipe_cli.specs.Steps.{IsPut, put_text}
-use Rattle.pipe_cli.proofs.Puts.{ended_puts, files_left, order_end, order_more, stalled_puts}
+use Rattle.pipe_cli.proofs.Puts.{early_puts, ended_puts, files_left, order_end, order_more}
 use Rattle.pipe_cli.proofs.replace.files_of.Goals as goal
 
 pub returns-in-Stalled : goal.returns-in-Stalled
-returns-in-Stalled c = stalled_puts c.args.core.now c.in-Stalled.field-0 c.new-puts.result.items (sym c.requires.outcome ∙ c.in-Stalled.is) c.new-puts.ensures.items
+returns-in-Stalled c = early_puts c.args.core.now c.requires.ends.0 c.args.outcome.now c.new-puts.result.items c.requires.ends.1 c.in-Stalled.is c.new-puts.ensures.items
 
 pub loop-strand-init : goal.loop-strand-init
 loop-strand-init c = record {
@@ -38,5 +38,5 @@ returns c =
     let within = c.loop-strand.invariant.within in
     let none = c.loop-strand-test.false in
     let all : c.loop-strand.strand ≡ length c.args.core.now.net.strands = omega (arith, end, within, none) in
-    ended_puts c.args.core.now c.loop-strand.puts.items (λ lines is. c.in_default.not-Stalled lines (c.requires.outcome ∙ is)) c.loop-strand.invariant.each
+    ended_puts c.args.core.now c.requires.ends.0 c.args.outcome.now c.loop-strand.puts.items c.requires.ends.1 (λ lines is. c.in_default.not-Stalled lines is) (λ spent is. c.in_default.not-Spent spent is) c.loop-strand.invariant.each
     (sym (order_end c.args.core.now c.loop-strand.strand all (map (put_text c.args.core.now) c.loop-strand.puts.items)) ∙ c.loop-strand.invariant.texts)

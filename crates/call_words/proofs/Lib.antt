@@ -1,0 +1,2 @@
+pub mod CommandCases
+pub mod Refusals

@@ -1,0 +1,131 @@
+-- The command that the words of a call mean.
+use Rattle.std.specs.Prelude.{◌&&◌, ◌||◌, ◌≤◌, ⊤, ℕ, List, [], ◌∷◌, Option, Some, None, true, codes, if◌then◌else◌, is_some, length, nat_le, option_and_then, option_map}
+use Rattle.std.specs.Str.{all_ascii_digits}
+use Rattle.clap.specs.Words.{App, Rule, Text, first_of, fault_of, matches_of, new_app, new_rule, with_rule}
+use Rattle.clap.specs.Kinds.{Kinds}
+use Rattle.stage_syntax.specs.Numbers.{decimal}
+use Rattle.call_words.specs.declared.command.Command.{Command}
+use Rattle.call_words.specs.declared.command.Command.TheVariants.{Run, Check, Sample}
+
+-- ---- what clap reads
+
+-- an option of this name, with one value
+abbrev pub option : Text → Rule
+option name = record (new_rule name) { long = Some name }
+
+-- one optional positional and five options, with no help flag; the words are those after the program's name
+abbrev pub app : App
+app =
+    let named = new_app (codes "pipe") in
+    let bare = record named { top = record named.top { disable_help_flag = true; no_binary_name = true } } in
+    let spec = with_rule bare (new_rule (codes "spec")) in
+    let workers = with_rule spec (option (codes "workers")) in
+    let steps = with_rule workers (option (codes "steps")) in
+    let trace = with_rule steps (option (codes "trace")) in
+    let check = with_rule trace (option (codes "check")) in
+    with_rule check (option (codes "sample"))
+
+-- the positional and the options' values, where they are given
+pub record Given : Type 0 where
+  pub spec : Option Text
+  pub workers : Option Text
+  pub steps : Option Text
+  pub trace : Option Text
+  pub check : Option Text
+  pub sample : Option Text
+
+-- each by its id
+abbrev pub given_by : (Text → Option Text) → Given
+given_by value = record {
+  spec = value (codes "spec");
+  workers = value (codes "workers");
+  steps = value (codes "steps");
+  trace = value (codes "trace");
+  check = value (codes "check");
+  sample = value (codes "sample");
+}
+
+-- ---- numbers and names
+
+-- a number is one to ten decimal digits, from `least` to `most`
+abbrev pub number_in : ℕ → ℕ → Text → Option ℕ
+number_in least most word =
+    if nat_le 1 (length word) && nat_le (length word) 10 && all_ascii_digits word && nat_le least (decimal word) && nat_le (decimal word) most
+    then Some (decimal word) else None
+
+-- the same, where an option that isn't given has a default
+abbrev pub number_or : ℕ → ℕ → ℕ → Option Text → Option ℕ
+number_or default least most None = Some default
+number_or default least most (Some word) = number_in least most word
+
+-- 1 to 64, and 4 by default
+abbrev pub workers_in : Option Text → Option ℕ
+workers_in = number_or 4 1 64
+
+-- 1 to 50,000,000, and 4,000,000 by default
+abbrev pub steps_in : Option Text → Option ℕ
+steps_in = number_or 4000000 1 50000000
+
+-- a name is 1 to 255 bytes
+abbrev pub name_in : Text → Option Text
+name_in word = if nat_le 1 (length word) && nat_le (length word) 255 then Some word else None
+
+-- the name that an option may give
+abbrev pub name_if : Option Text → Option (Option Text)
+name_if None = Some None
+name_if (Some word) = option_map Some (name_in word)
+
+-- ---- what is demanded
+
+-- a run: --workers, --steps and --trace may stand with SPEC
+abbrev pub run_of : Text → Given → Option Command
+run_of spec given =
+    option_and_then (λ workers.
+    option_and_then (λ steps.
+    option_map (λ trace. Run spec workers steps trace)
+    (name_if given.trace)) (steps_in given.steps)) (workers_in given.workers)
+
+-- a check: no other option stands with --check
+abbrev pub check_of : Text → Text → Given → Option Command
+check_of spec name given =
+    if is_some given.workers || is_some given.steps || is_some given.trace then None
+    else option_map (Check spec) (name_in name)
+
+-- the sample, of 1 to 200,000 lines: --trace doesn't stand with --sample
+abbrev pub sample_of : Text → Given → Option Command
+sample_of lines given =
+    if is_some given.trace then None
+    else option_and_then (λ lines.
+    option_and_then (λ workers.
+    option_map (Sample lines workers)
+    (steps_in given.steps)) (workers_in given.workers)) (number_in 1 200000 lines)
+
+-- by SPEC, --check and --sample: SPEC is there exactly where --sample isn't, and --check doesn't stand with --sample
+abbrev pub form_of : Option Text → Option Text → Option Text → Given → Option Command
+form_of (Some spec) None None given = run_of spec given
+form_of (Some spec) (Some name) None given = check_of spec name given
+form_of None None (Some lines) given = sample_of lines given
+form_of _ _ _ given = None
+
+abbrev pub demanded : Given → Option Command
+demanded given = form_of given.spec given.check given.sample given
+
+-- clap finds a fault
+abbrev pub IsFaulty : Kinds → Type 0
+IsFaulty [] = ⊥
+IsFaulty (kind ∷ kinds) = ⊤
+
+-- where clap finds no fault
+abbrev pub unless_faulty : Kinds → Option Command → Option Command
+unless_faulty [] command = command
+unless_faulty (kind ∷ kinds) command = None
+
+-- the command that words mean; None is a fault of usage
+abbrev pub command_of : List Text → Option Command
+command_of words = unless_faulty (fault_of app words) (demanded (given_by (λ id. first_of id (matches_of app words))))
+
+-- a run and a sample have at most 50,000,000 steps
+abbrev pub StepsWithin : Command → Type 0
+StepsWithin (Run spec workers steps trace) = steps ≤ 50000000
+StepsWithin (Check spec name) = ⊤
+StepsWithin (Sample lines workers steps) = steps ≤ 50000000

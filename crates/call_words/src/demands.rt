@@ -1,0 +1,83 @@
+ghost use Rattle.std.specs.Prelude.{IfOk};
+ghost use Rattle.clap.specs.Words.{first_value, found_of};
+ghost use Rattle.call_words.specs.Command.{StepsWithin, check_of, demanded, given_by, run_of, sample_of};
+ghost use Rattle.call_words.specs.Gives.{Gives};
+
+use crate::command::{Command, WordsFault};
+use crate::values::{lines_in, name_if, name_in, steps_in, workers_in};
+use clap::ArgMatches;
+use pipe_model::Rec;
+use std::alloc::Global;
+
+// The command of what the words give.
+pub fn demanded(alloc: Global, matches: &ArgMatches<'_>) -> Result<Command, WordsFault>
+    ensures command { Gives (demanded (given_by (first_value (found_of matches.now)))) result }
+    ensures few { IfOk result StepsWithin }
+{
+    match (
+        matches.get_str("spec"),
+        matches.get_str("check"),
+        matches.get_str("sample"),
+    ) {
+        (Some(spec), None, None) => run(alloc, spec, matches),
+        (Some(spec), Some(name), None) => check(alloc, spec, name, matches),
+        (None, None, Some(lines)) => sample(lines, matches),
+        _ => Err(WordsFault::Usage),
+    }
+}
+
+// The run of a specification.
+fn run(alloc: Global, spec: &str, matches: &ArgMatches<'_>) -> Result<Command, WordsFault>
+    ensures command { Gives (run_of spec.now (given_by (first_value (found_of matches.now)))) result }
+    ensures few { IfOk result StepsWithin }
+{
+    let workers = workers_in(matches.get_str("workers"))?;
+    let steps = steps_in(matches.get_str("steps"))?;
+    let trace = name_if(alloc, matches.get_str("trace"))?;
+    let spec = Rec::from_slice(alloc, spec.as_bytes())?;
+    Ok(Command::Run {
+        spec,
+        workers,
+        steps,
+        trace,
+    })
+}
+
+// The check of a journal.
+fn check(
+    alloc: Global,
+    spec: &str,
+    name: &str,
+    matches: &ArgMatches<'_>,
+) -> Result<Command, WordsFault>
+    ensures command { Gives (check_of spec.now name.now (given_by (first_value (found_of matches.now)))) result }
+    ensures few { IfOk result StepsWithin }
+{
+    if matches.get_str("workers").is_some()
+        || matches.get_str("steps").is_some()
+        || matches.get_str("trace").is_some()
+    {
+        return Err(WordsFault::Usage);
+    }
+    let name = name_in(alloc, name)?;
+    let spec = Rec::from_slice(alloc, spec.as_bytes())?;
+    Ok(Command::Check { spec, name })
+}
+
+// The sample of so many lines.
+fn sample(lines: &str, matches: &ArgMatches<'_>) -> Result<Command, WordsFault>
+    ensures command { Gives (sample_of lines.now (given_by (first_value (found_of matches.now)))) result }
+    ensures few { IfOk result StepsWithin }
+{
+    if matches.get_str("trace").is_some() {
+        return Err(WordsFault::Usage);
+    }
+    let lines = lines_in(lines)?;
+    let workers = workers_in(matches.get_str("workers"))?;
+    let steps = steps_in(matches.get_str("steps"))?;
+    Ok(Command::Sample {
+        lines,
+        workers,
+        steps,
+    })
+}
