@@ -1,8 +1,8 @@
 use crate::cuts::Cuts;
 use crate::images::{add_image, is_too_long};
 use crate::pending::{fill_rest, without_front};
-use pipe_model::{Image, NoMemory, Rec};
-use stage_steps::{Group, Lists, behind, front};
+use pipe_model::{Image, NoMemory, Rec, behind, front};
+use stage_steps::{Group, Lists};
 use std::alloc::Global;
 
 /// What is left behind the records that are complete.

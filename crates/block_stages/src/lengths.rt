@@ -4,7 +4,7 @@ ghost use Rattle.pipe_model.specs.Parts.{last_part};
 ghost use Rattle.block_stages.specs.Cutting.{IsFirst, IsWithin};
 
 use crate::cuts::Cut;
-use stage_steps::behind;
+use pipe_model::behind;
 
 // The length at the front of a text.
 fn length_at(text: &[u8]) -> usize

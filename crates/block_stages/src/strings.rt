@@ -1,5 +1,5 @@
-use pipe_model::Rec;
-use stage_steps::{Sought, behind};
+use pipe_model::{Rec, behind};
+use stage_steps::Sought;
 use std::marker::Model;
 
 /// A string at which a text is cut, seen as the list of its bytes.

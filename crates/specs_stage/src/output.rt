@@ -2,8 +2,7 @@ ghost use Rattle.std.specs.Prelude.{◌≡◌, ◌≤◌, ◌<◌, ◌-◌, ◌+
 ghost use Rattle.pipe_model.specs.Fields.{fitted, length_of, placed};
 ghost use Rattle.specs_stage.specs.Output.{share_of, bytes_of, start_behind, over};
 
-use pipe_model::{Align, NoMemory, Spot};
-use stage_steps::{behind, front};
+use pipe_model::{Align, NoMemory, Spot, behind, front};
 
 // A field as it is put into the output: its bytes, and how many of the pad are before and behind them.
 #[derive(Clone, Copy)]

@@ -4,9 +4,8 @@ ghost use Rattle.pipe_model.specs.Ranges.{between, cut_by, part_of, words_from, 
 ghost use Rattle.pipe_model.specs.declared.range.Span.TheVariants.{Words, Fields};
 ghost use Rattle.stage_steps.specs.Parts.{AreBehind, WordsBehind};
 
-use crate::slices::{behind, front};
 use bstr::ByteSlice;
-use pipe_model::{Range, Span, first_word, without_blanks};
+use pipe_model::{Range, Span, behind, first_word, front, without_blanks};
 
 // How many members a range has, which may be more than there are.
 fn width(first: u32, last: u32) -> usize

@@ -4,8 +4,7 @@ ghost use Rattle.stage_steps.specs.Lines.{IsFirstLine};
 
 use crate::group::Group;
 use crate::lists::Lists;
-use crate::slices::{behind, front};
-use pipe_model::{Lines, NoMemory, Rec};
+use pipe_model::{Lines, NoMemory, Rec, behind};
 use std::alloc::Global;
 
 /// The lines of a text, before any record: each is cut when it is asked for.
@@ -81,10 +80,7 @@ impl Lists for TextLines {
     }
 
     fn hand_over(&mut self, alloc: Global) -> Result<Rec, NoMemory> {
-        Rec::from_slice(
-            alloc,
-            front(behind(self.bytes.bytes(), self.from), self.size),
-        )
+        self.bytes.part(alloc, self.from, self.size)
     }
 
     fn halts(&self) -> bool {
