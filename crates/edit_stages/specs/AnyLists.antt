@@ -34,7 +34,7 @@ any_look (Join x) = joins_look x
 abbrev pub any_given : AnyLists → Option (List ℕ)
 any_given (Duplicate x) = None
 any_given (Edit x) = new_given x.each.due x.each.new
-any_given (Chop x) = part_given x.each.owed x.each.front x.each.rest
+any_given (Chop x) = part_given x.each
 any_given (Split x) = Some (run_given x.each)
 any_given (Join x) = new_given x.due x.new
 
@@ -43,7 +43,7 @@ abbrev pub any_left : AnyLists → ℕ
 any_left (Duplicate x) = due_count x.each.due
 any_left (Edit x) = new_count x.each.due
 any_left (Chop x) = owed_count x.each.owed
-any_left (Split x) = length x.each.rec - x.each.at
+any_left (Split x) = length x.each.rec.items - x.each.at
 any_left (Join x) = new_count x.due
 
 -- JOIN takes each record before it writes

@@ -80,10 +80,13 @@ parts_acts Owing.Rest front rest = Writes 1 rest ∷ []
 parts_acts Owing.Both front rest = Writes 0 front ∷ Writes 1 rest ∷ []
 
 -- the part that was given last
-abbrev pub part_given : Owed → List ℕ → List ℕ → Option (List ℕ)
-part_given Owing.Nothing front rest = Some rest
-part_given Owing.Rest front rest = Some front
-part_given Owing.Both front rest = None
+abbrev pub part_by : Owed → List ℕ → List ℕ → Option (List ℕ)
+part_by Owing.Nothing front rest = Some rest
+part_by Owing.Rest front rest = Some front
+part_by Owing.Both front rest = None
+
+abbrev pub part_given : Chops → Option (List ℕ)
+part_given x = part_by x.owed (take x.width x.rec.items) (drop x.width x.rec.items)
 
 abbrev pub owed_count : Owed → ℕ
 owed_count Owing.Nothing = 0
@@ -92,7 +95,7 @@ owed_count Owing.Both = 2
 
 -- the two parts of each record, of which some may be left
 abbrev pub ChopsStand : Chops → Outs → Records → List Act → Type 0
-ChopsStand x outs recs acts = (outs ≡ Pairs (chopped x.width)) × (acts ≡ parts_acts x.owed x.front x.rest)
+ChopsStand x outs recs acts = (outs ≡ Pairs (chopped x.width)) × (acts ≡ parts_acts x.owed (take x.width x.rec.items) (drop x.width x.rec.items))
 
 -- CHOP looks at records
 abbrev pub chops_look : Chops → Bool
@@ -102,11 +105,11 @@ chops_look x = true
 
 -- the runs of each record, of which those from a place on are left
 abbrev pub SplitsStand : Splits → Outs → Records → List Act → Type 0
-SplitsStand x outs recs acts = (outs ≡ Pairs (splits x.set)) × (acts ≡ writes (all_on 0 (runs x.set (drop x.at x.rec))))
+SplitsStand x outs recs acts = (outs ≡ Pairs (splits x.set)) × (acts ≡ writes (all_on 0 (runs x.set (drop x.at x.rec.items))))
 
 -- the run that was given last
 abbrev pub run_given : Splits → List ℕ
-run_given x = take x.size (drop x.from x.rec)
+run_given x = take x.size (drop x.from x.rec.items)
 
 -- SPLIT looks at records
 abbrev pub splits_look : Splits → Bool

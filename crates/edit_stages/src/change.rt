@@ -4,8 +4,8 @@ ghost use Rattle.pipe_model.specs.Counts.{of_all, is_reached};
 ghost use Rattle.edit_stages.specs.Replacing.{IsNext};
 
 use crate::edits::Edits;
-use pipe_model::{NoMemory, Range, Rec, Times};
-use stage_steps::{Sought, behind, front, part_of};
+use pipe_model::{NoMemory, Range, Rec, Times, behind, front};
+use stage_steps::{Sought, part_of};
 use std::alloc::Global;
 
 /// CHANGE: so many occurrences of a string in some columns of a record, from the left, replaced by another string.

@@ -1,7 +1,6 @@
-use pipe_model::{NoMemory, Rec};
-use stage_steps::{Each, EachRecord, Group, behind, front};
+use pipe_model::{NoMemory, Rec, behind, front};
+use stage_steps::{Each, EachRecord, Group};
 use std::alloc::Global;
-use std::mem;
 
 /// Which parts of the record at hand are still to be given.
 #[derive(Clone, Copy)]
@@ -16,8 +15,8 @@ enum Owed {
 #[derive(Drop)]
 pub struct Chops {
     width: u32,
-    front: Rec,
-    rest: Rec,
+    /// The record at hand, in a buffer that is kept for the next. A part is made when it is asked for.
+    rec: Vec<u8>,
     owed: Owed,
 }
 
@@ -34,8 +33,7 @@ impl Chops {
         Each {
             each: Chops {
                 width,
-                front: Rec::from_vec(Vec::new(alloc)),
-                rest: Rec::from_vec(Vec::new(alloc)),
+                rec: Vec::new(alloc),
                 owed: Owed::Nothing,
             },
         }
@@ -49,14 +47,13 @@ impl EachRecord for Chops {
 
     ghost is_looking = { chops_look };
 
-    ghost made = { λ x. part_given x.owed x.front x.rest };
+    ghost made = { λ x. part_given x };
 
     ghost left = { λ x. owed_count x.owed };
 
-    fn see(&mut self, alloc: Global, bytes: &[u8]) -> Result<(), NoMemory> {
-        let width = self.width as usize;
-        self.front = Rec::from_slice(alloc, front(bytes, width))?;
-        self.rest = Rec::from_slice(alloc, behind(bytes, width))?;
+    fn see(&mut self, _alloc: Global, bytes: &[u8]) -> Result<(), NoMemory> {
+        self.rec.clear();
+        self.rec.extend_from_slice(bytes)?;
         self.owed = Owed::Both;
         Ok(())
     }
@@ -76,10 +73,10 @@ impl EachRecord for Chops {
     }
 
     fn hand_over(&mut self, alloc: Global) -> Result<Rec, NoMemory> {
-        let empty = Rec::from_vec(Vec::new(alloc));
+        let width = self.width as usize;
         match self.owed {
-            Owed::Rest => Ok(mem::replace(&mut self.front, empty)),
-            _ => Ok(mem::replace(&mut self.rest, empty)),
+            Owed::Rest => Rec::from_slice(alloc, front(&self.rec, width)),
+            _ => Rec::from_slice(alloc, behind(&self.rec, width)),
         }
     }
 

@@ -11,7 +11,7 @@ use std::mem;
 pub struct Joins {
     more: Times,
     between: Rec,
-    /// The records of the group that hasn't ended, in one, and how many they are.
+    /// The records of the group that hasn't ended, in one, in a buffer that is kept for the next; and how many they are.
     group: Vec<u8>,
     count: u64,
     /// The group that ended last.
@@ -79,8 +79,8 @@ impl Lists for Joins {
         add(&mut self.group, self.count, self.between.bytes(), bytes)?;
         self.count = self.count.saturating_add(1);
         if is_full(self.more, self.count) {
-            let group = mem::replace(&mut self.group, Vec::new(alloc));
-            self.new = Rec::from_vec(group);
+            self.new = Rec::from_slice(alloc, &self.group)?;
+            self.group.clear();
             self.count = 0;
             self.due = true;
         }

@@ -6,16 +6,16 @@ ghost use Rattle.edit_stages.specs.Runs.{IsFirstRun};
 
 use crate::byte_set::ByteSet;
 use crate::strip::front_stripped;
-use pipe_model::{NoMemory, Rec};
-use stage_steps::{Each, EachRecord, Group, behind, front};
+use pipe_model::{NoMemory, Rec, behind, front};
+use stage_steps::{Each, EachRecord, Group};
 use std::alloc::Global;
 
 /// SPLIT: each longest run of bytes of the record that aren't in a set. A run is made when it is asked for.
 #[derive(Drop)]
 pub struct Splits {
     set: ByteSet,
-    /// The record at hand.
-    rec: Rec,
+    /// The record at hand, in a buffer that is kept for the next.
+    rec: Vec<u8>,
     /// How many of its bytes are behind the runs that were given.
     at: usize,
     /// Where the run begins that was given last, and how many bytes it has.
@@ -61,7 +61,7 @@ impl Splits {
         Ok(Each {
             each: Splits {
                 set: ByteSet::new(alloc, set)?,
-                rec: Rec::from_vec(Vec::new(alloc)),
+                rec: Vec::new(alloc),
                 at: 0,
                 from: 0,
                 size: 0,
@@ -80,16 +80,17 @@ impl EachRecord for Splits {
 
     ghost made = { λ x. Some (run_given x) };
 
-    ghost left = { λ x. length x.rec - x.at };
+    ghost left = { λ x. length x.rec.items - x.at };
 
-    fn see(&mut self, alloc: Global, bytes: &[u8]) -> Result<(), NoMemory> {
-        self.rec = Rec::from_slice(alloc, bytes)?;
+    fn see(&mut self, _alloc: Global, bytes: &[u8]) -> Result<(), NoMemory> {
+        self.rec.clear();
+        self.rec.extend_from_slice(bytes)?;
         self.at = 0;
         Ok(())
     }
 
     fn next(&mut self) -> Option<Group> {
-        let (gap, size) = first_run(&self.set, behind(self.rec.bytes(), self.at))?;
+        let (gap, size) = first_run(&self.set, behind(&self.rec, self.at))?;
         self.from = self.at + gap;
         self.size = size;
         self.at = self.from + size;
@@ -97,7 +98,7 @@ impl EachRecord for Splits {
     }
 
     fn hand_over(&mut self, alloc: Global) -> Result<Rec, NoMemory> {
-        Rec::from_slice(alloc, front(behind(self.rec.bytes(), self.from), self.size))
+        Rec::from_slice(alloc, front(behind(&self.rec, self.from), self.size))
     }
 
     fn looks(&self) -> bool {

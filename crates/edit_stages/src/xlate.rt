@@ -110,7 +110,10 @@ impl Edits for Xlates {
     ghost made = { λ x. map (translated x) };
 
     fn edit(&self, alloc: Global, rec: &[u8]) -> Result<Rec, NoMemory> {
-        let bytes = rec.iter().map(|byte| self.of_byte(*byte)).collect(alloc)?;
+        let mut bytes = Vec::from_slice(alloc, rec)?;
+        for byte in bytes.iter_mut() {
+            *byte = self.of_byte(*byte);
+        }
         Ok(Rec::from_vec(bytes))
     }
 }

@@ -3,8 +3,8 @@ use Rattle.edit_stages.specs.Groups.{left_over, is_full, in_one}
 use Rattle.edit_stages.proofs.Grouping.{few_left, group_ends, group_grows, full_acts, no_acts}
 use Rattle.edit_stages.proofs.join.JoinsLists.see.Goals as goal
 
-pub returns-then-is_full-clause-sees : goal.returns-then-is_full-clause-sees
-returns-then-is_full-clause-sees c = λ t recs rec is room came.
+pub returns-in_ok-self-clause-sees : goal.returns-in_ok-self-clause-sees
+returns-in_ok-self-clause-sees c = λ t recs rec is room came.
     let x = c.args.self.now in
     let left = left_over x.more recs in
     let held = is.1 refl in
@@ -12,10 +12,10 @@ returns-then-is_full-clause-sees c = λ t recs rec is room came.
     let full : is_full x.more (length left + 1) ≡ true = ap (is_full x.more) (sym count) ∙ sym c.is_full.ensures ∙ c.if-is_full.true in
     let ends = group_ends recs rec x.more full in
     let grew = c.in_ok-add.ensures left held.0 (held.1 ∙ ap (λ s. in_one s left) (sym c.bytes.ensures)) in
-    let new : c.from_vec.result ≡ in_one x.between (left ++ rec ∷ []) = c.from_vec.ensures ∙ (ap (λ v. v.items) c.replace-group.ensures.value) ∙ grew ∙ ap (λ s. in_one s (left ++ c.args.bytes.now ∷ [])) c.bytes.ensures ∙ ap (λ r. in_one x.between (left ++ r ∷ [])) (came refl) in (
+    let new : c.in_ok-self.field-0 ≡ in_one x.between (left ++ rec ∷ []) = c.in_ok-self.ensures ∙ c.deref.ensures.value ∙ grew ∙ ap (λ s. in_one s (left ++ c.args.bytes.now ∷ [])) c.bytes.ensures ∙ ap (λ r. in_one x.between (left ++ r ∷ [])) (came refl) in (
       is.0,
-      λ going. (sym (ap length ends.1), ap (λ v. v.items) c.replace-group.ensures.after ∙ c.new.ensures.items ∙ sym (ap (in_one x.between) ends.1)),
-      full_acts x.more x.between recs rec t is.0 full c.from_vec.result new,
+      λ going. (sym (ap length ends.1), c.clear.ensures.items ∙ sym (ap (in_one x.between) ends.1)),
+      full_acts x.more x.between recs rec t is.0 full c.in_ok-self.field-0 new,
     )
 
 pub returns-else-is_full-clause-sees : goal.returns-else-is_full-clause-sees
