@@ -3,6 +3,7 @@ pub mod CountSteps
 pub mod FrontOrder
 pub mod KeyOrder
 pub mod KeyedOrder
+pub mod RunKeys
 pub mod RunPairs
 pub mod SortSteps
 pub mod Stable

@@ -1,5 +1,5 @@
 -- The run at hand, record by record, and the pair of each record by its place in its run.
-use Rattle.std.specs.Prelude.{ℕ, ◌+◌, ◌==◌, nat_lt, Bool, true, ◌&&◌, if◌then◌else◌, List, [], fold}
+use Rattle.std.specs.Prelude.{◌≡◌, ℕ, ◌+◌, ◌<◌, ◌==◌, nat_lt, Bool, true, ◌&&◌, if◌then◌else◌, List, [], fold}
 use Rattle.pipe_model.specs.declared.range.Range.{Range}
 use Rattle.pipe_model.specs.declared.kind.Keep.{Keep}
 use Rattle.pipe_model.specs.declared.kind.Keep.TheVariants.{First, Last, Singles, Multiple}
@@ -8,6 +8,7 @@ use Rattle.pipe_model.specs.OrderRows.{counted}
 use Rattle.pipe_model.specs.Ranges.{part_of}
 use Rattle.pipe_model.specs.Row.{Pair}
 use Rattle.pipe_model.specs.Shape.{Records}
+use Rattle.unique_sort.specs.declared.run.Run.{Run}
 
 -- how many records a run has so far, and the last of them; no record before the first one
 abbrev pub RunSoFar : Type 0
@@ -24,6 +25,10 @@ run_with range run rec = (if goes_on range run rec then run.0 + 1 else 1, rec)
 -- the last run of some records
 abbrev pub last_run : Range → Records → RunSoFar
 last_run range recs = fold (run_with range) (0, []) recs
+
+-- the value has as many records, and their key where there are some
+abbrev pub IsRunOf : Run → RunSoFar → Type 0
+IsRunOf run so_far = (run.count ≡ so_far.0) × (0 < so_far.0 → run.key.items ≡ part_of run.range so_far.1)
 
 -- the output of the k-th record of a run, which ends with it or doesn't
 abbrev pub output_in : Keep → ℕ → Bool → ℕ

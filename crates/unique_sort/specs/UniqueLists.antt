@@ -13,11 +13,11 @@ use Rattle.stage_steps.specs.Waiting.{waiting_act, IsWaiting}
 use Rattle.unique_sort.specs.declared.run.Run.{Run}
 use Rattle.unique_sort.specs.declared.unique.Firsts.{Firsts}
 use Rattle.unique_sort.specs.declared.unique.Holds.{Holds}
-use Rattle.unique_sort.specs.Runs.{last_run}
+use Rattle.unique_sort.specs.Runs.{last_run, IsRunOf}
 
--- it holds the last run of these records
+-- it is of the last run of these records
 abbrev pub IsLastRun : Run → Records → Type 0
-IsLastRun run recs = (run.count, run.last) ≡ last_run run.range recs
+IsLastRun run recs = IsRunOf run (last_run run.range recs)
 
 -- FIRST: each record on its output, where it may wait for it; COUNT doesn't matter
 abbrev pub FirstsStand : Firsts → Outs → Records → List Act → Type 0
@@ -31,13 +31,17 @@ firsts_look x = true
 abbrev pub held : Bool → Range → Keep → Stream
 held count range keep = record (each_record (grown (λ recs. without_last (unique_pairs count range keep recs)))) { last = Some (λ recs. last_alone (unique_pairs count range keep recs)) }
 
--- up to the end of input it has the last run
-abbrev pub IsRunning : Bool → Run → Records → Type 0
-IsRunning false run recs = IsLastRun run recs
-IsRunning true run recs = Unit {0}
+-- it has the last run, and the last record of that
+abbrev pub IsHolding : Holds → Records → Type 0
+IsHolding x recs = IsLastRun x.run recs × (x.last ≡ (last_run x.run.range recs).1)
+
+-- up to the end of input
+abbrev pub IsRunning : Bool → Holds → Records → Type 0
+IsRunning false x recs = IsHolding x recs
+IsRunning true x recs = Unit {0}
 
 abbrev pub HoldsStand : Holds → Bool → Stream → Records → List Act → Type 0
-HoldsStand x over t recs acts = (t ≡ held x.is_counting x.run.range x.keep) × IsRunning over x.run recs × (acts ≡ waiting_act x.due x.new)
+HoldsStand x over t recs acts = (t ≡ held x.is_counting x.run.range x.keep) × IsRunning over x recs × (acts ≡ waiting_act x.due x.new)
 
 -- they look at records
 abbrev pub holds_look : Holds → Bool

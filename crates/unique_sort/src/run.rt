@@ -1,31 +1,33 @@
-ghost use Rattle.std.specs.Prelude.{◌≡◌};
+ghost use Rattle.std.specs.Prelude.{◌≡◌, ◌&&◌, nat_lt};
+ghost use Rattle.pipe_model.specs.Keys as Spec;
 
-use pipe_model::{Range, Rec};
+use pipe_model::{NoMemory, Range};
 use stage_steps::{is_same, part_of};
 use std::alloc::Global;
-use std::mem;
 
-/// The run at hand: records of equal key one behind the other, of which it holds the last.
+/// The run at hand: records of equal key one behind the other.
 #[derive(Drop)]
 pub struct Run {
     range: Range,
     /// How many records it has. It has none before the first record.
     count: u64,
-    last: Rec,
+    /// The key of its records, in a buffer that is kept for the next run's.
+    key: Vec<u8>,
 }
 
 impl Run {
-    ghost use Rattle.std.specs.Prelude.{◌≡◌, ◌<◌, ◌+◌, [], if◌then◌else◌};
-    ghost use Rattle.unique_sort.specs.Runs.{goes_on};
+    ghost use Rattle.std.specs.Prelude.{◌≡◌, ◌<◌, [], IfOk};
+    ghost use Rattle.unique_sort.specs.Runs.{RunSoFar, goes_on, run_with, IsRunOf};
 
     // The run of keys in this range, before the first record.
     pub(crate) fn new(alloc: Global, range: Range) -> Run
-        ensures { result ≡ record { range = range; count = 0; last = [] } }
+        ensures range { result.range ≡ range }
+        ensures none { IsRunOf result (0, []) }
     {
         Run {
             range,
             count: 0,
-            last: Rec::from_vec(Vec::new(alloc)),
+            key: Vec::new(alloc),
         }
     }
 
@@ -36,38 +38,26 @@ impl Run {
         self.count
     }
 
-    // Whether one more record belongs to it.
-    pub(crate) fn goes_on(&self, rec: &[u8]) -> bool
-        ensures { result ≡ goes_on self.now.range (self.now.count, self.now.last) rec.now }
+    // Whether it has records of this key.
+    fn is_of(&self, key: &[u8]) -> bool
+        ensures { result ≡ (nat_lt 0 self.now.count && Spec.is_same self.now.key.items key.now) }
     {
-        self.count > 0
-            && is_same(
-                part_of(self.range, self.last.bytes()),
-                part_of(self.range, rec),
-            )
+        self.count > 0 && is_same(&self.key, key)
     }
 
-    // Adds one more record, which belongs to it or begins the next.
-    pub(crate) fn push(&mut self, rec: Rec, belongs: bool)
-        ensures range { self.new.range ≡ self.old.range }
-        ensures last { self.new.last ≡ rec }
-        ensures count { self.old.count < 50000000 → self.new.count ≡ (if belongs then self.old.count + 1 else 1) }
+    // Adds one more record, and tells whether it belongs to it. Else the next run begins with it.
+    pub(crate) fn add(&mut self, rec: &[u8]) -> Result<bool, NoMemory>
+        ensures range { IfOk result (λ _. self.new.range ≡ self.old.range) }
+        ensures added { IfOk result (λ belongs. (run : RunSoFar) → run.0 < 50000000 → IsRunOf self.old run → (belongs ≡ goes_on self.old.range run rec.now) × IsRunOf self.new (run_with self.old.range run rec.now)) }
     {
-        self.add(rec, belongs);
-    }
-
-    // The same, and gives the record before.
-    pub(crate) fn add(&mut self, rec: Rec, belongs: bool) -> Rec
-        ensures before { result ≡ self.old.last }
-        ensures range { self.new.range ≡ self.old.range }
-        ensures last { self.new.last ≡ rec }
-        ensures count { self.old.count < 50000000 → self.new.count ≡ (if belongs then self.old.count + 1 else 1) }
-    {
-        self.count = if belongs {
-            self.count.saturating_add(1)
-        } else {
-            1
-        };
-        mem::replace(&mut self.last, rec)
+        let key = part_of(self.range, rec);
+        if self.is_of(key) {
+            self.count = self.count.saturating_add(1);
+            return Ok(true);
+        }
+        self.key.clear();
+        self.key.extend_from_slice(key)?;
+        self.count = 1;
+        Ok(false)
     }
 }

@@ -53,10 +53,8 @@ impl EachRecord for Firsts {
 
     ghost left = { λ x. how_many x.waiting };
 
-    fn see(&mut self, alloc: Global, bytes: &[u8]) -> Result<(), NoMemory> {
-        let rec = Rec::from_slice(alloc, bytes)?;
-        let goes_on = self.run.goes_on(bytes);
-        self.run.push(rec, goes_on);
+    fn see(&mut self, _alloc: Global, bytes: &[u8]) -> Result<(), NoMemory> {
+        let goes_on = self.run.add(bytes)?;
         self.waiting = Some(first_output(goes_on));
         Ok(())
     }
@@ -107,6 +105,8 @@ pub struct Holds {
     is_counting: bool,
     keep: Keep,
     run: Run,
+    /// The last record of the run.
+    last: Rec,
     /// The record that is due, or was last.
     new: Rec,
     /// The output on which it is still to be written.
@@ -126,6 +126,7 @@ impl Holds {
             is_counting,
             keep,
             run: Run::new(alloc, range),
+            last: Rec::from_vec(Vec::new(alloc)),
             new: Rec::from_vec(Vec::new(alloc)),
             due: None,
         }
@@ -158,9 +159,9 @@ impl Lists for Holds {
 
     fn see(&mut self, alloc: Global, bytes: &[u8]) -> Result<(), NoMemory> {
         let next = Rec::from_slice(alloc, bytes)?;
-        let goes_on = self.run.goes_on(bytes);
         let k = self.run.count();
-        let rec = self.run.add(next, goes_on);
+        let goes_on = self.run.add(bytes)?;
+        let rec = mem::replace(&mut self.last, next);
         if k > 0 {
             self.new = self.written(alloc, rec, k, !goes_on)?;
             self.due = Some(output_in(self.keep, k, !goes_on));
@@ -171,7 +172,7 @@ impl Lists for Holds {
     fn end(&mut self, alloc: Global) -> Result<(), NoMemory> {
         let k = self.run.count();
         if k > 0 {
-            let rec = self.run.add(Rec::from_vec(Vec::new(alloc)), false);
+            let rec = mem::replace(&mut self.last, Rec::from_vec(Vec::new(alloc)));
             self.new = self.written(alloc, rec, k, true)?;
             self.due = Some(output_in(self.keep, k, true));
         }
