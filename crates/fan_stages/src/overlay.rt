@@ -5,7 +5,6 @@ use crate::round::Round;
 use pipe_model::{NoMemory, Out, Rec};
 use stage_steps::{Act, Goal, Plans};
 use std::alloc::Global;
-use std::mem;
 
 /// OVERLAY: one record of each input at a time, laid over each other, the highest input's on top. A byte that is the pad is
 /// seen through.
@@ -13,7 +12,7 @@ use std::mem;
 pub struct Overlays {
     round: Round,
     pad: u8,
-    /// The records of the round so far, laid over each other.
+    /// The records of the round so far, laid over each other, in a buffer that is kept for the next round.
     made: Vec<u8>,
     /// They are still to be written.
     due: bool,
@@ -46,10 +45,11 @@ fn lay(made: &mut Vec<u8>, rec: &[u8], pad: u8) -> Result<(), NoMemory>
     ensures { IfOk result (λ _. made.new.items ≡ laid_over pad rec.now made.old.items) }
 {
     let within = rec.len().min(made.len());
+    let below = made.as_mut_slice();
     for place in 0..within {
         let byte = rec[place];
         if byte != pad {
-            made[place] = byte;
+            below[place] = byte;
         }
     }
     made.extend_from_slice(&rec[within..])?;
@@ -88,8 +88,9 @@ impl Plans for Overlays {
     fn next(&mut self, alloc: Global) -> Result<Option<Act>, NoMemory> {
         if self.due {
             self.due = false;
-            let made = mem::replace(&mut self.made, Vec::new(alloc));
-            return Ok(Some(Act::Write(0, Out::Fresh(Rec::from_vec(made)))));
+            let made = Rec::from_slice(alloc, &self.made)?;
+            self.made.clear();
+            return Ok(Some(Act::Write(0, Out::Fresh(made))));
         }
         match self.round.take() {
             Some(input) => Ok(Some(Act::Take(input))),

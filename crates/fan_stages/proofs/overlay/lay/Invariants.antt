@@ -6,6 +6,6 @@ use Rattle.fan_stages.proofs.overlay.lay.Given as goal
 
 abbrev pub invariant-loop-place : goal.invariant-loop-place
 invariant-loop-place l = record {
-  laid : l.made.items ≡ laid_over l.pad (take l.place l.rec) l.initial.made.items;
-  long : length l.made.items ≡ length l.initial.made.items;
+  laid : l.below ≡ laid_over l.pad (take l.place l.rec) l.initial.below;
+  long : length l.below ≡ length l.initial.below;
 }

@@ -1,11 +1,11 @@
-use Rattle.std.proofs.Common.{refl, ◌∙◌, ap, arith}
+use Rattle.std.proofs.Common.{refl, ◌∙◌, arith}
 use Rattle.fan_stages.proofs.Overlaid.{overlay_write, overlay_take}
 use Rattle.fan_stages.proofs.Rounds.{takes_fall}
 use Rattle.fan_stages.proofs.overlay.OverlaysPlans.next.Goals as goal
 
 pub returns-then-self-clause-gives : goal.returns-then-self-clause-gives
 returns-then-self-clause-gives c = λ plan k left is.
-    overlay_write c.args.self.now plan k left c.from_vec.result _ is c.if-self.true (c.from_vec.ensures ∙ ap (λ v. v.items) c.replace-made.ensures.value) refl refl (ap (λ v. v.items) c.replace-made.ensures.after ∙ c.new.ensures.items) refl
+    overlay_write c.args.self.now plan k left c.in_ok-made.made _ is c.if-self.true (c.in_ok-made.ensures ∙ c.deref.ensures.value) refl refl c.clear.ensures.items refl
 
 pub returns-in-Some-clause-falls : goal.returns-in-Some-clause-falls
 returns-in-Some-clause-falls c =
