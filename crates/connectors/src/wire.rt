@@ -69,6 +69,7 @@ impl Wire {
 
     /// Reserves a place for what will be offered, where it is a queue, so that a put takes no memory. Want of memory
     /// leaves the connector and the pool as they were.
+    #[inline(always)]
     pub fn reserve(&mut self, pool: &mut Pool) -> Result<(), NoMemory>
         requires { self.old.reserved ≡ false }
         ensures room { OnOk result (self.new ≡ with_room self.old) }

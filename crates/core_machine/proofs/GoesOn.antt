@@ -1,5 +1,5 @@
 -- A strand that is told an event goes on in place: its turn and its coming home in one.
-use Rattle.std.proofs.Common.{◌≡◌, ℕ, zero, suc, ◌<◌, true, false, cond, ◌||◌, not, List, [], ◌∷◌, ◌++◌, length, refl, sym, ◌∙◌, ap, subst, Some, None, slice_get, slice_set}
+use Rattle.std.proofs.Common.{◌≡◌, ℕ, zero, suc, ◌<◌, true, false, cond, ◌&&◌, ◌||◌, not, List, [], ◌∷◌, ◌++◌, length, refl, sym, ◌∙◌, ap, subst, Some, None, is_some, slice_get, slice_set}
 use Rattle.std.specs.Prelude.{take}
 use Rattle.pipe_model.specs.declared.net.Net.{Net}
 use Rattle.pipe_model.specs.declared.net.Strand.{Strand}
@@ -11,24 +11,26 @@ use Rattle.pipe_model.specs.Event.Event.{Up, Saw, SawEnd, SawAllEnd, Took, Put, 
 use Rattle.pipe_model.specs.State.{Who, past}
 use Rattle.pipe_model.specs.Licence.{licence}
 use Rattle.pipe_model.specs.Play.{play}
+use Rattle.pipe_model.proofs.Truths.{neither}
 use Rattle.pipe_model.proofs.Numbers.{test_same}
 use Rattle.pipe_model.proofs.Lists.{get_set_same}
 use Rattle.record_pool.specs.PoolState.{PoolState}
 use Rattle.stage_steps.specs.Coroutine.{told, bytes_with, CanResume, Resumes}
 use Rattle.run_desk.specs.Desk.{DeskState}
 use Rattle.run_desk.specs.Telling.{sight_through}
-use Rattle.run_desk.specs.Turns.{desk_after_turn, pool_after_turn, CanCome, bare, ends}
+use Rattle.run_desk.specs.Turns.{desk_after_turn, pool_after_turn, CanCome, bare, ends, sees}
 use Rattle.run_desk.specs.Telling as Telling
 use Rattle.connectors.specs.WireState.{IsHeldIn}
 use Rattle.core_machine.specs.declared.actor.Actor.{Actor}
 use Rattle.core_machine.specs.Actors.{is_end, gone_out, gone_on, given_up, bytes_told}
-use Rattle.core_machine.specs.Floor.{IsInUse, StaysEarly}
+use Rattle.core_machine.specs.Ahead.{HasGoneQuietly}
+use Rattle.core_machine.specs.Floor.{IsInUse, CanMake, StaysEarly}
 use Rattle.core_machine.specs.Jobs.{JobState, JobStands, HasGoneOn}
 use Rattle.core_machine.specs.Machine.{left_by, without, is_among, looks_at}
 use Rattle.core_machine.specs.Sound.{IsSound}
-use Rattle.core_machine.specs.Woken.{HasReturned}
+use Rattle.core_machine.specs.Woken.{HasReturned, LeastEventAwake, may_settle}
 use Rattle.core_machine.proofs.Jobs.{can_run, done_take}
-use Rattle.core_machine.proofs.Sounds.{sight_held, told_are, can_home, ended_is, came_early, in_use, sound_home, turned_past, goes_on, sound_turned, job_turned, job_event}
+use Rattle.core_machine.proofs.Sounds.{can_make, sight_held, told_are, can_home, ended_is, came_early, in_use, sound_home, turned_past, goes_on, sound_turned, job_turned, job_event}
 
 -- what is set twice is set once
 pub set_set : {A : Type 0} (xs : List A) (i : ℕ) (x y : A) → slice_set (slice_set xs i x) i y ≡ slice_set xs i y
@@ -151,3 +153,28 @@ module _ {S : Type 0} (stands : S → Strand → List Event → Type 0) (net : N
           let none : without here out' ≡ [] = ap (without here) out_is ∙ none_without here in
           subst (λ (l : List (Actor S)). IsSound stands net budget longer [] l d2 pool2) (set_set actors s off new)
           (subst (λ o. IsSound stands net budget longer o (slice_set (slice_set actors s off) s new) d2 pool2) none home)
+
+      -- and what it did is all that happened, where it settled nothing for many
+      pub gone_quietly : LeastEventAwake d (Some (s, k, seen)) → may_settle d s seen ≡ false → (d2 : DeskState) (pool2 : PoolState) → HasReturned d' pool' s asked d2 pool2 →
+          HasGoneQuietly net d pool s k seen asked d2 pool2
+      gone_quietly least quiet d2 pool2 returned = record {
+        formed = sound.formed;
+        used = made.used;
+        can = made.can;
+        live = made.live;
+        strand = made.strand;
+        least = least;
+        quiet = quiet;
+        used_out = subst (IsInUse net) desk_is went_out;
+        early = turned (λ x y. StaysEarly x y s asked) (home_early (sym home_ended ∙ no_end));
+        returned = turned (λ x y. HasReturned x y s asked d2 pool2) returned;
+      }
+        where
+          made : CanMake net d pool s seen
+          made = can_make stands net budget journal out actors d pool sound s k e may seen seen_at
+
+          no_end : ends seen ≡ false
+          no_end = (neither (ends seen) (sees seen && not (is_some (Telling.primed_of (slice_get d.seats s)))) quiet).0
+
+          turned : (P : DeskState → PoolState → Type 0) → P d' pool' → P (desk_after_turn d s seen) (pool_after_turn d pool s seen)
+          turned P holds = subst (λ x. P x (pool_after_turn d pool s seen)) desk_is (subst (P d') pool_is holds)

@@ -1,12 +1,15 @@
+pub mod Aheads
 pub mod Away
 pub mod BitSets
 pub mod Fills
 pub mod Followers
 pub mod FreshStages
 pub mod Fulls
+pub mod Ghosts
 pub mod GoesOn
 pub mod Homes
 pub mod Jobs
+pub mod Lows
 pub mod Outs
 pub mod Plays
 pub mod Quiet

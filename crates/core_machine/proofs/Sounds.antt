@@ -110,6 +110,13 @@ module _ {S : Type 0} (stands : S → Strand → List Event → Type 0) (net : N
   event_is b None is = least_is b None is
   event_is b (Some r) is = (least_is b (Some (r.0, r.1)) is.0, some_is r.0 r.1 r.2 is.1)
 
+  -- and the other way round: what it is of the core it is on the desk
+  pub event_back : (b : Bool) (r : ℕ × ℕ × Seen) → LeastEvent (record { net = net; budget = budget; journal = journal; out = out; is_broken = b }) (Some r) → LeastEventAwake d (Some r)
+  event_back b r is = (((ready_is r.0 r.1 ∙ is.0.0, λ k p. none_back r.0 k (is.0.1 k p)), λ t k p. none_back t k (is.0.2 t k p)), seen_back r.0 r.1 is.1.0 is.1.1 ∙ ap Some is.1.2)
+    where
+      none_back : (s : Who) (k : ℕ) → licence net st left s k ≡ None → Telling.seen_at d s k ≡ None
+      none_back s k none = desk_sees s k ∙ ap (option_map told) none
+
   asks_early : AsksEarly d
   asks_early = early_on net st sound.formed own (bytes_at pool) left d sound.run.kept
 

@@ -2,8 +2,9 @@
 use Rattle.std.proofs.Common.{◌≡◌, ◌≤◌, ℕ, true, false, List, [], ◌∷◌, ◌++◌, length, refl, sym, ◌∙◌, ap, subst, arith, Some, None}
 use Rattle.std.specs.Prelude.{Result, Ok, Err, OnErr}
 use Rattle.pipe_model.specs.declared.step.Entry.{Entry}
+use Rattle.pipe_model.specs.declared.step.Seen.{Seen}
 use Rattle.core_machine.specs.declared.job.RunEnd.TheVariants.{Complete, Spent}
-use Rattle.core_machine.specs.Answered.{LeastReady, AreLeast, HasRun, HasBroken, Stepped, Ends}
+use Rattle.core_machine.specs.Answered.{LeastReady, LeastEvent, AreLeast, HasRun, Stepped, Ends}
 use Rattle.core_machine.specs.Machine.{Machine, IsLawful}
 
 append_twice : (xs : List Entry) (x : Entry) (ys : List Entry) → (xs ++ x ∷ []) ++ ys ≡ xs ++ x ∷ ys
@@ -23,20 +24,24 @@ least_more : (m : Machine) (es : List Entry) (e : Entry) → AreLeast m es → L
 least_more m [] e least next = (subst (λ j. LeastReady (record m { journal = j }) (Some (e.strand, e.stream))) (append_none m.journal) next, tt)
 least_more m (x ∷ es) e least next = (least.0, least_more (record m { journal = m.journal ++ x ∷ [] }) es e least.1 (subst (λ j. LeastReady (record m { journal = j }) (Some (e.strand, e.stream))) (sym (append_twice m.journal x es)) next))
 
--- a run of no step
-pub run_none : (m : Machine) → HasRun m m
-run_none m = record { more = []; least = tt; after = ap (λ j. record m { journal = j }) (sym (append_none m.journal)) }
-
 -- a run goes on by a step
-pub run_step : (m n k : Machine) → HasRun m n → Stepped n true k → HasRun m k
+run_step : (m n k : Machine) → HasRun m n → Stepped n true k → HasRun m k
 run_step m n k run step =
     let e = step.0 in
     let next = subst (λ (z : Machine). LeastReady z (Some (e.strand, e.stream))) run.after step.1 in
     let now : k ≡ record m { journal = m.journal ++ (run.more ++ e ∷ []) } = step.2 ∙ ap (λ (z : Machine). record z { journal = z.journal ++ e ∷ [] }) run.after ∙ ap (λ j. record m { journal = j }) (append_three m.journal run.more (e ∷ [])) in
     record { more = run.more ++ e ∷ []; least = least_more m run.more e run.least next; after = now }
 
-pub step_out : (n k : Machine) → Stepped n true k → (k.out ≡ n.out) × (k.is_broken ≡ n.is_broken)
+step_out : (n k : Machine) → Stepped n true k → (k.out ≡ n.out) × (k.is_broken ≡ n.is_broken)
 step_out n k step = (ap (λ (z : Machine). z.out) step.2, ap (λ (z : Machine). z.is_broken) step.2)
+
+-- so does one that goes on from the least event
+pub run_goes : (m n k : Machine) (s i : ℕ) (seen : Seen) → HasRun m n → n.out ≡ [] → n.is_broken ≡ false → LeastEvent n (Some (s, i, seen)) →
+    k ≡ record n { journal = n.journal ++ (record { strand = s; stream = i }) ∷ [] } → HasRun m k × (k.out ≡ []) × (k.is_broken ≡ false)
+run_goes m n k s i seen run out whole least after =
+    let step : Stepped n true k = (record { strand = s; stream = i }, least.0, after) in
+    let same = step_out n k step in
+    (run_step m n k run step, same.0 ∙ out, same.1 ∙ whole)
 
 -- a run that finds no step is complete
 pub run_stops : (m n k : Machine) → HasRun m n → n.out ≡ [] → Stepped n false k → HasRun m k × Ends Complete k
@@ -50,15 +55,6 @@ pub run_spends : (m n k : Machine) (r : ℕ × ℕ) → HasRun m n → IsLawful 
 run_spends m n k r run lawful full same ready =
     let at : length n.journal ≡ n.budget = (let a = lawful.within in omega (arith, a, full)) in
     subst (λ (z : Machine). HasRun m z × Ends Spent z) (sym same) (run, (at, (r, ready)))
-
--- a run that breaks in a step is broken
-pub run_breaks : (m n k : Machine) → HasRun m n → HasBroken n k → HasBroken m k
-run_breaks m n k run broke = record {
-  broken = broke.broken;
-  net = broke.net ∙ ap (λ (z : Machine). z.net) run.after;
-  budget = broke.budget ∙ ap (λ (z : Machine). z.budget) run.after;
-  longer = (run.more ++ broke.longer.0, broke.longer.1 ∙ ap (λ (z : Machine). z.journal ++ broke.longer.0) run.after ∙ append_three m.journal run.more broke.longer.0);
-}
 
 pub on_err : {A E : Type 0} {P : Type 0} (r : Result A E) → P → OnErr r P
 on_err (Ok x) p = tt

@@ -1,4 +1,5 @@
 pub mod Actors
+pub mod Ahead
 pub mod Answered
 pub mod Floor
 pub mod Jobs

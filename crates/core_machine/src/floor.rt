@@ -12,6 +12,21 @@ use run_desk::Desk;
 use std::alloc::Global;
 use std::marker::Model;
 
+/// The least event that may be, where the step before tells it: its strand, and the stream of what is told.
+#[derive(Clone, Copy, Debug, PartialEq, Eq)]
+pub enum Ahead {
+    /// It has to be looked for.
+    Search,
+    /// The record at hand on an input is seen.
+    Saw(u32, u16),
+    /// The record seen on an input is taken.
+    Took(u32, u16),
+    /// A record is put on an output.
+    Put(u32, u16),
+    /// Another event, which is none of a record.
+    Other(u32, u16, Seen),
+}
+
 /// A net, and what is kept of a run of it besides coroutines and journal. Every strand that may go on is in the set of
 /// those that may be ready.
 pub(crate) struct Floor {
@@ -46,7 +61,14 @@ impl Floor {
     ghost use Rattle.core_machine.specs.Actors.{bytes_told};
     ghost use Rattle.core_machine.specs.Floor.{IsInUse, CanMake, StaysEarly};
     ghost use Rattle.core_machine.specs.Members.{is_member};
-    ghost use Rattle.core_machine.specs.Woken.{HasReturned, LeastEventAwake, commits};
+    ghost use Rattle.core_machine.specs.Woken.{HasReturned, LeastEventAwake, commits, may_settle};
+    ghost use Rattle.core_machine.specs.Ahead.{HasGoneQuietly, HasSeenOrPut, IsAheadOn, IsWriteOn};
+    ghost use Rattle.pipe_model.specs.declared.net.Link.{Link as LinkIs};
+    ghost use Rattle.pipe_model.specs.declared.step.Seen.{Seen as SeenIs};
+    ghost use Rattle.pipe_model.specs.declared.step.Want.{Want as Asked};
+    ghost use Rattle.record_pool.specs.PoolState.{PoolState};
+    ghost use Rattle.run_desk.specs.Desk.{DeskState};
+    ghost use Rattle.run_desk.specs.Standing.{link_through};
 
     /// The floor of a net before the first step, where every strand is out and no record is held.
     pub(crate) fn new(alloc: Global, net: Net) -> Result<Floor, NoMemory>
@@ -184,6 +206,108 @@ impl Floor {
         self.desk.come_home(&mut self.pool, strand, want)?;
         wake_settled(&mut self.ready, &self.desk, strand, before);
         Ok(())
+    }
+
+    /// Whether what a strand is told may settle something for many.
+    #[inline(always)]
+    pub(crate) fn may_settle(&self, strand: u32, seen: Seen) -> bool
+        requires { strand < length self.now.desk.seats }
+        ensures { result ≡ may_settle self.now.desk strand seen }
+    {
+        may_settle(&self.desk, strand, seen)
+    }
+
+    /// What is known of the least event after the one before it was made, which settled nothing for many, and its strand came home with
+    /// this want, in which a new record is shown as an empty one.
+    #[inline(always)]
+    pub(crate) fn ahead(&self, strand: u32, seen: Seen, want: &Want) -> Ahead
+        requires used { IsInUse self.now.net self.now.desk }
+        requires strand { strand < length self.now.net.strands }
+        ensures { (d : DeskState) (pool : PoolState) (stream : ℕ) (asked : Asked) → HasGoneQuietly self.now.net d pool strand stream seen asked self.now.desk self.now.pool →
+            want.now ≡ bare asked → IsAheadOn self.now.desk result }
+    {
+        match seen {
+            Seen::Took(i) => match want {
+                Want::Commit(_) | Want::Write(_, _) => Ahead::Search,
+                _ => self.ahead_of_take(strand, i),
+            },
+            _ if self.has_seen_or_put(strand, seen) => match want {
+                Want::Take(i) => Ahead::Took(strand, *i),
+                Want::Write(o, _) => self.ahead_of_offer(strand, *o),
+                _ => Ahead::Search,
+            },
+            _ => Ahead::Search,
+        }
+    }
+
+    // Whether a strand saw a record, or put one and not into a queue.
+    #[inline(always)]
+    fn has_seen_or_put(&self, strand: u32, seen: Seen) -> bool
+        requires used { IsInUse self.now.net self.now.desk }
+        requires strand { strand < length self.now.net.strands }
+        ensures { result ≡ true → HasSeenOrPut self.now.net self.now.desk strand seen }
+    {
+        match seen {
+            Seen::Saw(_) => true,
+            Seen::Put(o) => !self.writes_queue(strand, o),
+            _ => false,
+        }
+    }
+
+    // Whether a strand's output is connected to a queue.
+    #[inline(always)]
+    fn writes_queue(&self, strand: u32, o: u16) -> bool
+        requires used { IsInUse self.now.net self.now.desk }
+        requires strand { strand < length self.now.net.strands }
+        ensures { result ≡ false → (link : LinkIs) → link_through self.now.net.links (Telling.out_door self.now.desk strand o) ≡ Some link → link.queue ≡ false }
+    {
+        match self.desk.out_door(strand, o) {
+            None => false,
+            Some(j) => self.net.links.as_slice()[j as usize].queue,
+        }
+    }
+
+    // After a record was taken its producer has put it: that is next where the producer stands before the strand that took it, and that
+    // strand wants nothing that concerns others.
+    #[inline(always)]
+    fn ahead_of_take(&self, strand: u32, i: u16) -> Ahead
+        requires used { IsInUse self.now.net self.now.desk }
+        requires strand { strand < length self.now.net.strands }
+        ensures { (d : DeskState) (pool : PoolState) (stream : ℕ) (asked : Asked) → HasGoneQuietly self.now.net d pool strand stream (Seen.Took i) asked self.now.desk self.now.pool →
+            commits asked ≡ false → ((o : ℕ) → IsWriteOn o asked → ⊥) → IsAheadOn self.now.desk result }
+    {
+        match self.desk.in_door(strand, i) {
+            None => Ahead::Search,
+            Some(j) => {
+                let link = self.net.links.as_slice()[j as usize];
+                if link.queue || link.from >= strand {
+                    return Ahead::Search;
+                }
+                Ahead::Put(link.from, link.output)
+            }
+        }
+    }
+
+    // After a strand offered a record its consumer may see it: that is next where the consumer stands before the strand that writes, or right
+    // behind it, and the strand that writes has to wait.
+    #[inline(always)]
+    fn ahead_of_offer(&self, strand: u32, o: u16) -> Ahead
+        requires used { IsInUse self.now.net self.now.desk }
+        requires strand { strand < length self.now.net.strands }
+        ensures { (d : DeskState) (pool : PoolState) (stream : ℕ) (seen : SeenIs) (asked : Asked) → HasGoneQuietly self.now.net d pool strand stream seen asked self.now.desk self.now.pool →
+            HasSeenOrPut self.now.net d strand seen → IsWriteOn o asked → IsAheadOn self.now.desk result }
+    {
+        let door = self.desk.out_door(strand, o);
+        let Some(j) = door else {
+            return Ahead::Search;
+        };
+        let link = self.net.links.as_slice()[j as usize];
+        let is_near = link.to < strand || link.to == strand + 1 && !self.desk.may_write(door);
+        if is_near && self.desk.shows(door) && self.desk.reads(link.to, link.input) {
+            Ahead::Saw(link.to, link.input)
+        } else {
+            Ahead::Search
+        }
     }
 
     /// Puts a strand among those that may be ready.

@@ -1,5 +1,6 @@
 use crate::actor::{give_up, resume};
 use crate::core_state::Core;
+use crate::floor::Ahead;
 use crate::job::RunEnd;
 use crate::settling::ends;
 use outside::Gate;
@@ -11,8 +12,10 @@ impl<S: Stage> Core<S> {
     ghost use Rattle.std.specs.Prelude.{◌≡◌, ◌<◌, [], Some, false, ◌++◌, ◌∷◌, length, IfOk, OnOk, OnErr};
     ghost use Rattle.pipe_model.specs.Event.{Event};
     ghost use Rattle.stage_steps.specs.Coroutine.{told};
+    ghost use Rattle.core_machine.specs.Ahead.{IsAhead, event_ahead};
+    ghost use Rattle.core_machine.specs.declared.floor.Ahead.TheVariants as AheadIs;
     ghost use Rattle.core_machine.specs.Machine.{licence_of, IsLawful};
-    ghost use Rattle.core_machine.specs.Answered.{LeastEvent, Stepped, HasRun, HasBroken, Ends};
+    ghost use Rattle.core_machine.specs.Answered.{LeastEvent, HasRun, HasBroken, Ends};
 
     /// Makes the least event that may be, of the least strand on its least stream, until there is none or the journal
     /// has as many entries as the budget allows. The gate is entered before the work on each record that a strand saw.
@@ -24,10 +27,17 @@ impl<S: Stage> Core<S> {
         ensures lacks { OnErr result (HasBroken self.old self.new) }
         ensures lawful { IsLawful self.new }
     {
+        let mut ahead = Ahead::Search;
         while (self.journal.len() as u64) < self.budget {
-            if !self.step(alloc, gate)? {
-                return Ok(RunEnd::Complete);
-            }
+            ahead = match self.next(ahead) {
+                Ahead::Search => return Ok(RunEnd::Complete),
+                Ahead::Saw(strand, i) => self.go_on(alloc, gate, strand, i, Seen::Saw(i))?,
+                Ahead::Took(strand, i) => self.go_on(alloc, gate, strand, i, Seen::Took(i))?,
+                Ahead::Put(strand, o) => self.go_on(alloc, gate, strand, o, Seen::Put(o))?,
+                Ahead::Other(strand, stream, seen) => {
+                    self.go_on_otherwise(alloc, gate, strand, stream, seen)?
+                }
+            };
         }
         match self.least_event() {
             None => Ok(RunEnd::Complete),
@@ -35,37 +45,84 @@ impl<S: Stage> Core<S> {
         }
     }
 
-    // Makes the least event that may be, and answers false where there is none.
+    // The least event that may be, which is looked for where it isn't known, or `Search` where there is none.
     #[inline(always)]
-    fn step<G: Gate>(&mut self, alloc: Global, gate: &G) -> Result<bool, NoMemory>
-        requires space { length self.old.journal < self.old.budget }
-        requires home { self.old.out ≡ [] }
-        requires whole { self.old.is_broken ≡ false }
-        ensures steps { IfOk result (λ moved. Stepped self.old moved self.new) }
-        ensures lacks { OnErr result (HasBroken self.old self.new) }
-        ensures lawful { IsLawful self.new }
+    fn next(&mut self, ahead: Ahead) -> Ahead
+        requires { IsAhead self.old ahead }
+        ensures same { self.new ≡ self.old }
+        ensures next { LeastEvent self.old (event_ahead result) }
+        ensures lawful { result ≡ AheadIs.Search → IsLawful self.new }
     {
-        let Some((strand, stream, seen)) = self.least_event() else {
-            return Ok(false);
-        };
-        if let Seen::Saw(_) = seen {
-            gate.enter(strand);
+        match ahead {
+            Ahead::Search => self.look(),
+            ahead => ahead,
         }
-        self.go_on(alloc, strand, stream, seen)?;
-        Ok(true)
     }
 
-    // Makes an event that may be, and goes on with the strand's coroutine, in place.
+    // The least event that may be, which is looked for, or `Search` where there is none.
     #[inline(always)]
-    fn go_on(&mut self, alloc: Global, strand: u32, stream: u16, seen: Seen) -> Result<(), NoMemory>
-        requires may { (e : Event) × (licence_of self.old strand stream ≡ Some e) × (told e ≡ seen) }
+    fn look(&mut self) -> Ahead
+        ensures same { self.new ≡ self.old }
+        ensures next { LeastEvent self.old (event_ahead result) }
+        ensures lawful { IsLawful self.new }
+    {
+        match self.least_event() {
+            None => Ahead::Search,
+            Some((strand, stream, seen)) => match seen {
+                Seen::Saw(i) if i == stream => Ahead::Saw(strand, i),
+                Seen::Took(i) if i == stream => Ahead::Took(strand, i),
+                Seen::Put(o) if o == stream => Ahead::Put(strand, o),
+                seen => Ahead::Other(strand, stream, seen),
+            },
+        }
+    }
+
+    // Makes an event of another kind, apart from the loop.
+    #[cold]
+    #[inline(never)]
+    fn go_on_otherwise<G: Gate>(
+        &mut self,
+        alloc: Global,
+        gate: &G,
+        strand: u32,
+        stream: u16,
+        seen: Seen,
+    ) -> Result<Ahead, NoMemory>
+        requires least { LeastEvent self.old (Some (strand, stream, seen)) }
         requires space { length self.old.journal < self.old.budget }
         requires home { self.old.out ≡ [] }
         requires whole { self.old.is_broken ≡ false }
         ensures goes { OnOk result (self.new ≡ record self.old { journal = self.old.journal ++ (record { strand = strand; stream = stream }) ∷ [] }) }
+        ensures ahead { IfOk result (IsAhead self.new) }
         ensures lacks { OnErr result (HasBroken self.old self.new) }
         ensures lawful { IsLawful self.new }
     {
+        self.go_on(alloc, gate, strand, stream, seen)
+    }
+
+    // Makes the least event that may be, and goes on with the strand's coroutine, in place. It answers what is known of the next event.
+    #[inline(always)]
+    fn go_on<G: Gate>(
+        &mut self,
+        alloc: Global,
+        gate: &G,
+        strand: u32,
+        stream: u16,
+        seen: Seen,
+    ) -> Result<Ahead, NoMemory>
+        requires least { LeastEvent self.old (Some (strand, stream, seen)) }
+        requires space { length self.old.journal < self.old.budget }
+        requires home { self.old.out ≡ [] }
+        requires whole { self.old.is_broken ≡ false }
+        ensures goes { OnOk result (self.new ≡ record self.old { journal = self.old.journal ++ (record { strand = strand; stream = stream }) ∷ [] }) }
+        ensures ahead { IfOk result (IsAhead self.new) }
+        ensures lacks { OnErr result (HasBroken self.old self.new) }
+        ensures lawful { IsLawful self.new }
+    {
+        if let Seen::Saw(_) = seen {
+            gate.enter(strand);
+        }
+        let settles = self.floor.may_settle(strand, seen);
         self.floor.make(strand, seen);
         self.journal.push_reserved(Entry { strand, stream });
         let actor = &mut self.actors[strand as usize];
@@ -80,7 +137,10 @@ impl<S: Stage> Core<S> {
             self.is_broken = true;
             return Err(NoMemory);
         };
-        Ok(())
+        if settles {
+            return Ok(Ahead::Search);
+        }
+        Ok(self.floor.ahead(strand, seen, &actor.asked))
     }
 
     /// The least strand that may have an event, its least stream, and what it would be told there. It makes no event:

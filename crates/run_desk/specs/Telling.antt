@@ -181,6 +181,11 @@ ask_of (Some seat) = seat.ask
 abbrev pub ask_at : DeskState → ℕ → Ask
 ask_at d s = ask_of (slice_get d.seats s)
 
+-- the ask is to look at the record at hand on this input
+abbrev pub reads_on : Ask → ℕ → Bool
+reads_on (Now.Read k) i = k == i
+reads_on _ i = false
+
 -- who asks so is out, or has ended
 abbrev pub asks_nothing : Ask → Bool
 asks_nothing Now.Nothing = true

@@ -154,7 +154,8 @@ impl Desk {
         self.can_put(door) || self.can_refuse(door)
     }
 
-    fn shows(&self, door: Option<u32>) -> bool
+    /// Whether a record is at hand behind a door.
+    pub fn shows(&self, door: Option<u32>) -> bool
         requires { Telling.LeadsBelow (length self.now.wires) door }
         ensures { result ≡ Telling.shows (Telling.through self.now.wires door) }
     {
@@ -224,6 +225,18 @@ impl Desk {
     {
         let seat = self.seat(strand);
         seat.has_seen || seat.has_ended
+    }
+
+    /// Whether a strand asks to look at the record at hand on this input.
+    #[inline(always)]
+    pub fn reads(&self, strand: u32, i: u16) -> bool
+        requires { strand < length self.now.seats }
+        ensures { result ≡ Telling.reads_on (Telling.ask_at self.now strand) i }
+    {
+        match self.ask_of(strand) {
+            Ask::Read(k) => k == i,
+            _ => false,
+        }
     }
 
     fn ask_of(&self, strand: u32) -> Ask

@@ -50,8 +50,9 @@ impl Stage for BuiltIn {
         }
     }
 
-    // It may be told any event; what isn't answered ends it.
-    #[inline(always)]
+    // It may be told any event; what isn't answered ends it. It is a call of its own: three of them stand in the loop that runs the stages,
+    // and that loop has few registers.
+    #[inline(never)]
     fn resume(&mut self, alloc: Global, seen: Seen, bytes: &[u8]) -> Result<Want, NoMemory>
         ensures { IfOk result (λ asked. Resumes BuiltInStands self.old self.new seen bytes.now asked) }
     {

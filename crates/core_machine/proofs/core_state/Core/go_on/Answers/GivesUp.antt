@@ -12,29 +12,29 @@ pub sound_broken : goal.invariant_of-self
 sound_broken g c =
     let i = c.self.inside in
     let v : ◌≡◌ {A = Machine} (record { net = i.floor.net; budget = i.budget; journal = i.journal.items; out = i.out.items; is_broken = i.is_broken }) c.args.self.now = c.self.view_is in
-    let may = subst (λ (z : Machine). licence_of z c.args.strand c.args.stream ≡ Some c.requires.may.0) (sym v) c.requires.may.1 in
+    let may = subst (λ (z : Machine). licence_of z c.args.strand c.args.stream ≡ Some c.requires.least.1.0) (sym v) c.requires.least.1.1 in
     let space : length i.journal.items < i.budget = subst (λ (z : Machine). length z.journal < z.budget) (sym v) c.requires.space in
     let a = c.index_mut-actor.result.now in
-    let at = actor_at g.S.Stage.stands i.floor.net i.budget i.journal.items i.out.items i.actors.items i.floor.desk i.floor.pool c.self.invariant.0 c.args.strand a (in_range g.S.Stage.stands i.floor.net i.budget i.journal.items i.out.items i.actors.items i.floor.desk i.floor.pool c.self.invariant.0 c.args.strand c.args.stream c.requires.may.0 may) c.index_mut-actor.ensures.value in
+    let at = actor_at g.S.Stage.stands i.floor.net i.budget i.journal.items i.out.items i.actors.items i.floor.desk i.floor.pool c.self.invariant.0 c.args.strand a (in_range g.S.Stage.stands i.floor.net i.budget i.journal.items i.out.items i.actors.items i.floor.desk i.floor.pool c.self.invariant.0 c.args.strand c.args.stream c.requires.least.1.0 may) c.index_mut-actor.ensures.value in
     let moved = c.make.new.self in
     let on = c.resume.ensures in
     let place : c.len.result ≡ suc (length i.journal.items) = search rules in
     let actor_is = c.give_up.ensures.actor ∙ ap (λ (z : Actor g.row.S.Denot). given_up z) on.4 in
     let out_is : c.give_up.new.out.items ≡ i.out.items ++ suc (length i.journal.items) ∷ [] = c.give_up.ensures.out ∙ ap (λ p. i.out.items ++ p ∷ []) place in
-    let gone = lost g.S.Stage.stands i.floor.net i.budget i.journal.items i.out.items i.actors.items i.floor.desk i.floor.pool c.self.invariant.0 c.args.strand c.args.stream c.requires.may.0 may a on.0 at on.3 c.args.seen c.requires.may.2 space moved.desk moved.pool c.make.ensures.desk c.make.ensures.pool on.1 on.2 in
+    let gone = lost g.S.Stage.stands i.floor.net i.budget i.journal.items i.out.items i.actors.items i.floor.desk i.floor.pool c.self.invariant.0 c.args.strand c.args.stream c.requires.least.1.0 may a on.0 at on.3 c.args.seen c.requires.least.1.2 space moved.desk moved.pool c.make.ensures.desk c.make.ensures.pool on.1 on.2 in
     let here = subst (λ j. IsSound g.S.Stage.stands i.floor.net i.budget j c.give_up.new.out.items (slice_set i.actors.items c.args.strand c.give_up.new.actor) moved.desk moved.pool) (sym c.push_reserved.ensures.items)
     (subst (λ o. IsSound g.S.Stage.stands i.floor.net i.budget (i.journal.items ++ (record { strand = c.args.strand; stream = c.args.stream }) ∷ []) o (slice_set i.actors.items c.args.strand c.give_up.new.actor) moved.desk moved.pool) (sym out_is)
     (subst (λ (z : Actor g.row.S.Denot). IsSound g.S.Stage.stands i.floor.net i.budget (i.journal.items ++ (record { strand = c.args.strand; stream = c.args.stream }) ∷ []) (i.out.items ++ suc (length i.journal.items) ∷ []) (slice_set i.actors.items c.args.strand z) moved.desk moved.pool) (sym actor_is) gone)) in
     let moved_here = subst (λ n. IsSound g.S.Stage.stands n i.budget c.push_reserved.new.self.items c.give_up.new.out.items (slice_set i.actors.items c.args.strand c.give_up.new.actor) moved.desk moved.pool) (sym c.make.ensures.net) here in
     (moved_here, search rules, search rules)
 
-pub lawful_broken : goal.returns-in_default-clause-lawful
+pub lawful_broken : goal.returns-in_default-resume-clause-lawful
 lawful_broken g c =
     let i = c.self.inside in
     let v : ◌≡◌ {A = Machine} (record { net = i.floor.net; budget = i.budget; journal = i.journal.items; out = i.out.items; is_broken = i.is_broken }) c.args.self.now = c.self.view_is in
-    let may = subst (λ (z : Machine). licence_of z c.args.strand c.args.stream ≡ Some c.requires.may.0) (sym v) c.requires.may.1 in
+    let may = subst (λ (z : Machine). licence_of z c.args.strand c.args.stream ≡ Some c.requires.least.1.0) (sym v) c.requires.least.1.1 in
     let space : length i.journal.items < i.budget = subst (λ (z : Machine). length z.journal < z.budget) (sym v) c.requires.space in
-    let law = lawful_turned g.S.Stage.stands i.floor.net i.budget i.journal.items i.out.items i.actors.items i.floor.desk i.floor.pool c.self.invariant.0 c.args.strand c.args.stream c.requires.may.0 may space true in
+    let law = lawful_turned g.S.Stage.stands i.floor.net i.budget i.journal.items i.out.items i.actors.items i.floor.desk i.floor.pool c.self.invariant.0 c.args.strand c.args.stream c.requires.least.1.0 may space true in
     subst (λ n. IsLawful (record { net = n; budget = i.budget; journal = c.push_reserved.new.self.items; out = c.give_up.new.out.items; is_broken = true })) (sym c.make.ensures.net)
     (subst (λ j. IsLawful (record { net = i.floor.net; budget = i.budget; journal = j; out = c.give_up.new.out.items; is_broken = true })) (sym c.push_reserved.ensures.items)
     (record { legal = law.legal; within = law.within; bounded = law.bounded }))
@@ -43,16 +43,16 @@ pub sound_broken_home : goal.invariant_of-self-in_default-come_home
 sound_broken_home g c =
     let i = c.self.inside in
     let v : ◌≡◌ {A = Machine} (record { net = i.floor.net; budget = i.budget; journal = i.journal.items; out = i.out.items; is_broken = i.is_broken }) c.args.self.now = c.self.view_is in
-    let may = subst (λ (z : Machine). licence_of z c.args.strand c.args.stream ≡ Some c.requires.may.0) (sym v) c.requires.may.1 in
+    let may = subst (λ (z : Machine). licence_of z c.args.strand c.args.stream ≡ Some c.requires.least.1.0) (sym v) c.requires.least.1.1 in
     let space : length i.journal.items < i.budget = subst (λ (z : Machine). length z.journal < z.budget) (sym v) c.requires.space in
     let a = c.index_mut-actor.result.now in
-    let at = actor_at g.S.Stage.stands i.floor.net i.budget i.journal.items i.out.items i.actors.items i.floor.desk i.floor.pool c.self.invariant.0 c.args.strand a (in_range g.S.Stage.stands i.floor.net i.budget i.journal.items i.out.items i.actors.items i.floor.desk i.floor.pool c.self.invariant.0 c.args.strand c.args.stream c.requires.may.0 may) c.index_mut-actor.ensures.value in
+    let at = actor_at g.S.Stage.stands i.floor.net i.budget i.journal.items i.out.items i.actors.items i.floor.desk i.floor.pool c.self.invariant.0 c.args.strand a (in_range g.S.Stage.stands i.floor.net i.budget i.journal.items i.out.items i.actors.items i.floor.desk i.floor.pool c.self.invariant.0 c.args.strand c.args.stream c.requires.least.1.0 may) c.index_mut-actor.ensures.value in
     let moved = c.make.new.self in
     let on = c.resume.ensures in
     let place : c.len-in_default-come_home.result ≡ suc (length i.journal.items) = search rules in
     let actor_is = c.give_up-in_default-come_home.ensures.actor ∙ ap (λ (z : Actor g.row.S.Denot). given_up (asking_for c.come_home.new.want z)) on.4 in
     let out_is : c.give_up-in_default-come_home.new.out.items ≡ i.out.items ++ suc (length i.journal.items) ∷ [] = c.give_up-in_default-come_home.ensures.out ∙ ap (λ p. i.out.items ++ p ∷ []) place in
-    let gone = lost g.S.Stage.stands i.floor.net i.budget i.journal.items i.out.items i.actors.items i.floor.desk i.floor.pool c.self.invariant.0 c.args.strand c.args.stream c.requires.may.0 may a on.0 at on.3 c.args.seen c.requires.may.2 space moved.desk moved.pool c.make.ensures.desk c.make.ensures.pool on.1 c.come_home.new.want in
+    let gone = lost g.S.Stage.stands i.floor.net i.budget i.journal.items i.out.items i.actors.items i.floor.desk i.floor.pool c.self.invariant.0 c.args.strand c.args.stream c.requires.least.1.0 may a on.0 at on.3 c.args.seen c.requires.least.1.2 space moved.desk moved.pool c.make.ensures.desk c.make.ensures.pool on.1 c.come_home.new.want in
     let here = subst (λ j. IsSound g.S.Stage.stands i.floor.net i.budget j c.give_up-in_default-come_home.new.out.items (slice_set i.actors.items c.args.strand c.give_up-in_default-come_home.new.actor) moved.desk moved.pool) (sym c.push_reserved.ensures.items)
     (subst (λ o. IsSound g.S.Stage.stands i.floor.net i.budget (i.journal.items ++ (record { strand = c.args.strand; stream = c.args.stream }) ∷ []) o (slice_set i.actors.items c.args.strand c.give_up-in_default-come_home.new.actor) moved.desk moved.pool) (sym out_is)
     (subst (λ (z : Actor g.row.S.Denot). IsSound g.S.Stage.stands i.floor.net i.budget (i.journal.items ++ (record { strand = c.args.strand; stream = c.args.stream }) ∷ []) (i.out.items ++ suc (length i.journal.items) ∷ []) (slice_set i.actors.items c.args.strand z) moved.desk moved.pool) (sym actor_is) gone)) in
@@ -64,9 +64,9 @@ pub lawful_broken_home : goal.returns-in_default-come_home-clause-lawful
 lawful_broken_home g c =
     let i = c.self.inside in
     let v : ◌≡◌ {A = Machine} (record { net = i.floor.net; budget = i.budget; journal = i.journal.items; out = i.out.items; is_broken = i.is_broken }) c.args.self.now = c.self.view_is in
-    let may = subst (λ (z : Machine). licence_of z c.args.strand c.args.stream ≡ Some c.requires.may.0) (sym v) c.requires.may.1 in
+    let may = subst (λ (z : Machine). licence_of z c.args.strand c.args.stream ≡ Some c.requires.least.1.0) (sym v) c.requires.least.1.1 in
     let space : length i.journal.items < i.budget = subst (λ (z : Machine). length z.journal < z.budget) (sym v) c.requires.space in
-    let law = lawful_turned g.S.Stage.stands i.floor.net i.budget i.journal.items i.out.items i.actors.items i.floor.desk i.floor.pool c.self.invariant.0 c.args.strand c.args.stream c.requires.may.0 may space true in
+    let law = lawful_turned g.S.Stage.stands i.floor.net i.budget i.journal.items i.out.items i.actors.items i.floor.desk i.floor.pool c.self.invariant.0 c.args.strand c.args.stream c.requires.least.1.0 may space true in
     subst (λ n. IsLawful (record { net = n; budget = i.budget; journal = c.push_reserved.new.self.items; out = c.give_up-in_default-come_home.new.out.items; is_broken = true })) (sym (c.come_home.ensures.net ∙ c.make.ensures.net))
     (subst (λ j. IsLawful (record { net = i.floor.net; budget = i.budget; journal = j; out = c.give_up-in_default-come_home.new.out.items; is_broken = true })) (sym c.push_reserved.ensures.items)
     (record { legal = law.legal; within = law.within; bounded = law.bounded }))
