@@ -1,0 +1,185 @@
+-- What the holder may give back, and what its view shows then: the core as it was, after an entry, after a job came home and after one was lost.
+use Rattle.std.proofs.Common.{◌≡◌, ℕ, suc, ◌+◌, ◌<◌, ◌≤◌, ◌≢◌, ◌⊎◌, ◌||◌, List, [], ◌∷◌, ◌++◌, length, take, sym, refl, ap, ◌∙◌, subst, inl, inr, arith, length-append, Some, Bool, true, cond, not, eq-eqb, ne_eqb}
+use mathlib.Core.Logic.{dite}
+use mathlib.Core.List.{IsPrefix}
+use native.Mathlib.Decide.{ℕ_discrete}
+use Rattle.std.proofs.Math.Bool.{or-false, or-true}
+use Rattle.std.proofs.lemmas.List.{take-append-le, length-take}
+use Rattle.pipe_model.specs.declared.step.Entry.{Entry}
+use Rattle.core_machine.specs.Machine.{IsLawful, turned, came_home, broke_down, without, is_among}
+use Rattle.board.specs.Counts.{times, places, all_shares}
+use Rattle.board.specs.Rule.{Kept, machine_of, MayGive}
+use Rattle.board.specs.Plays.{Sees, IsNew, after_raise, after_give}
+use Rattle.board.specs.declared.view.View.{View}
+use Rattle.board.proofs.Sums.{only, only-same, only-other, times-append, times-cons, times-one, times-push, places-more, places-above}
+use Rattle.board.proofs.Prefixes.{prefix_trans}
+use Rattle.board.proofs.Moves.{same_machine, lawful_on}
+
+-- Places
+
+pub empty_of : (l : List ℕ) → ((p : ℕ) → times p l ≡ 0) → l ≡ []
+empty_of [] none = refl
+empty_of (x ∷ xs) none = let a = none x in let b = times-cons x x xs in let c = only-same x in absurd (omega arith)
+
+-- a place that stands in the list is among it
+pub among_of : (p : ℕ) (l : List ℕ) → 0 < times p l → is_among p l ≡ true
+among_of p [] h = absurd (omega arith)
+among_of p (x ∷ xs) h = dite (ℕ_discrete x p)
+    (λ e. ap (λ b. b || is_among p xs) (eq-eqb x p e))
+    (λ ne. let none = only-other p x ne in let all = times-cons p x xs in ap (λ b. b || is_among p xs) (ne_eqb x p ne) ∙ among_of p xs (omega arith))
+
+without-other : (q p : ℕ) (l : List ℕ) → q ≢ p → times q (without p l) ≡ times q l
+without-other q p [] ne = refl
+without-other q p (x ∷ xs) ne = let more = without-other q p xs ne in let all = times-cons q x xs in
+    let F : Bool → Type 0 = λ b. times q (cond (not b) (x ∷ without p xs) (without p xs)) ≡ times q (x ∷ xs) in
+    dite (ℕ_discrete x p)
+    (λ e. let none : only q x ≡ 0 = only-other q x (λ h. ne (sym h ∙ e)) in subst F (sym (eq-eqb x p e)) (omega arith))
+    (λ n. let kept = times-cons q x (without p xs) in subst F (sym (ne_eqb x p n)) (omega arith))
+
+without-same : (p : ℕ) (l : List ℕ) → times p (without p l) ≡ 0
+without-same p [] = refl
+without-same p (x ∷ xs) = let more = without-same p xs in let F : Bool → Type 0 = λ b. times p (cond (not b) (x ∷ without p xs) (without p xs)) ≡ 0 in
+    dite (ℕ_discrete x p) (λ e. subst F (sym (eq-eqb x p e)) more) (λ n. let none : only p x ≡ 0 = only-other p x n in let kept = times-cons p x (without p xs) in subst F (sym (ne_eqb x p n)) (omega arith))
+
+-- one place fewer
+pub taken_out : (q p : ℕ) (l : List ℕ) → times p l ≡ 1 → times q (p ∷ []) + times q (without p l) ≡ times q l
+taken_out q p l one = let itself = times-one q p in dite (ℕ_discrete p q)
+    (λ e. let same : only q p ≡ 1 = ap (λ (z : ℕ). only z p) (sym e) ∙ only-same p in let none : times q (without p l) ≡ 0 = ap (λ (z : ℕ). times z (without p l)) (sym e) ∙ without-same p l in
+    let all : times q l ≡ 1 = ap (λ (z : ℕ). times z l) (sym e) ∙ one in omega arith)
+    (λ ne. let other = only-other q p ne in let rest = without-other q p l (λ e. ne (sym e)) in omega arith)
+
+-- What may be given back
+
+module _ (v : View) (h : Kept) (held : v.held ≡ Some h) (share : 0 < v.shares) (parts : (p : ℕ) → times p v.home + times p v.lost ≤ times p v.mine) where
+  -- the core as it was taken
+  pub same_may : MayGive v h (h.0, h.1 + 1) [] []
+  same_may = record {
+    held = held;
+    shares = share;
+    turns = refl;
+    journal = refl;
+    net = (refl, refl);
+    jobs = λ p. omega arith;
+    parts = λ p. let a = parts p in omega arith;
+    broken = sym (or-false h.0.is_broken);
+  }
+
+module _ (v : View) (h : Kept) (sees : Sees v h) (p : ℕ) (made : 0 < times p v.mine) (away : times p v.home ≡ 0) (kept : times p v.lost ≡ 0) where
+  -- the job of a place that the pass made, and that is neither home nor lost, is out
+  pub is_out : (times p h.0.out ≡ 1) × (is_among p h.0.out ≡ true)
+  is_out = let one = sees.jobs p made in let is : times p h.0.out ≡ 1 = omega arith in (is, among_of p h.0.out (omega arith))
+
+  -- with it there are still no more places than were made
+  one_more : (q : ℕ) → times q v.home + times q v.lost + only q p ≤ times q v.mine
+  one_more q = let old = sees.parts q in dite (ℕ_discrete p q)
+      (λ e. let F : ℕ → Type 0 = λ z. times z v.home + times z v.lost + only z p ≤ times z v.mine in let d = only-same p in subst F e (omega arith))
+      (λ ne. let other = only-other q p ne in omega arith)
+
+  module _ (held : v.held ≡ Some h) (share : 0 < v.shares) where
+    pub home_may : MayGive v h (came_home h.0 p, h.1 + 1) (p ∷ []) []
+    home_may = record {
+      held = held;
+      shares = share;
+      turns = refl;
+      journal = refl;
+      net = (refl, refl);
+      jobs = λ q. taken_out q p h.0.out is_out.0;
+      parts = λ q. let a = one_more q in let b = times-one q p in omega arith;
+      broken = sym (or-false h.0.is_broken);
+    }
+
+    pub lost_may : MayGive v h (broke_down h.0, h.1 + 1) [] (p ∷ [])
+    lost_may = record {
+      held = held;
+      shares = share;
+      turns = refl;
+      journal = refl;
+      net = (refl, refl);
+      jobs = λ q. omega arith;
+      parts = λ q. let a = one_more q in let b = times-one q p in omega arith;
+      broken = sym (or-true h.0.is_broken);
+    }
+
+-- What the view shows once it was given back
+
+module _ (v : View) (h k : Kept) (home lost : List ℕ) (sees : Sees v h) (may : MayGive v h k home lost) where
+  pub gave_seen : IsPrefix v.seen k.0.journal
+  gave_seen = subst (IsPrefix v.seen) (sym may.journal) sees.seen
+
+  pub gave_net : (k.0.net ≡ v.net) × (k.0.budget ≡ v.budget)
+  gave_net = let n = sees.net may.shares in (may.net.0 ∙ n.0, may.net.1 ∙ n.1)
+
+  -- the core as it is
+  pub gave_machine : (r : ℕ) → machine_of (after_give home lost r v k) ≡ k.0
+  gave_machine r = same_machine (machine_of (after_give home lost r v k)) k.0 (sym gave_net.0) (sym gave_net.1) refl refl refl
+
+  pub gave_lawful : (r : ℕ) → IsLawful (machine_of (after_give home lost r v k))
+  gave_lawful r = subst IsLawful (sym (gave_machine r)) (lawful_on h.0 k.0 may.net.0 may.net.1 may.journal sees.lawful)
+
+  pub gave_jobs : (p : ℕ) → 0 < times p v.mine → times p (v.home ++ home) + times p k.0.out ≡ 1
+  gave_jobs p made = let a = sees.jobs p made in let b = may.jobs p in let c = times-append p v.home home in omega arith
+
+  pub gave_parts : (p : ℕ) → times p (v.home ++ home) + times p (v.lost ++ lost) ≤ times p v.mine
+  gave_parts p = let a = may.parts p in let b = times-append p v.home home in let c = times-append p v.lost lost in omega arith
+
+-- A raise
+
+module _ (v : View) (h : Kept) (e : Entry) (sees : Sees v h) (lawful : IsLawful (turned h.0 e)) where
+  abbrev pub one_longer : Kept
+  one_longer = (turned h.0 e, h.1)
+
+  longer_by_one : length (turned h.0 e).journal ≡ length h.0.journal + 1
+  longer_by_one = length-append h.0.journal (e ∷ [])
+
+  module _ (new : IsNew v (length (turned h.0 e).journal)) where
+    place_more : (p : ℕ) → times p (places (length (turned h.0 e).journal)) ≡ times p (places (length h.0.journal)) + only p (length (turned h.0 e).journal)
+    place_more p = ap (λ (z : ℕ). times p (places z)) longer_by_one ∙ (places-more p (length h.0.journal) ∙ ap (λ (z : ℕ). times p (places (length h.0.journal)) + only p z) (sym longer_by_one))
+
+    out_more : (p : ℕ) → times p (turned h.0 e).out ≡ times p h.0.out + only p (length (turned h.0 e).journal)
+    out_more p = let same : suc (length h.0.journal) ≡ length (turned h.0 e).journal = let a = longer_by_one in omega arith in
+        times-push p (suc (length h.0.journal)) h.0.out ∙ ap (λ (z : ℕ). times p h.0.out + only p z) same
+
+    mine_more : (p : ℕ) → times p (v.mine ++ length (turned h.0 e).journal ∷ []) ≡ times p v.mine + only p (length (turned h.0 e).journal)
+    mine_more p = times-push p (length (turned h.0 e).journal) v.mine
+
+    -- the holder that made an entry and raised the length word sees the core as it is now
+    pub raised_sees : Sees (after_raise v one_longer) one_longer
+    raised_sees = let len : ℕ = length (turned h.0 e).journal in record {
+      net = sees.net;
+      seen = prefix_trans v.seen h.0.journal (turned h.0 e).journal sees.seen (e ∷ [], refl);
+      lawful = lawful;
+      jobs = λ p made. let a = mine_more p in let b = out_more p in let few = sees.out p in let n = longer_by_one in dite (ℕ_discrete len p)
+          (λ is. let one : only p len ≡ 1 = ap (λ (z : ℕ). only p z) is ∙ only-same p in
+          let none : times p v.home ≡ 0 = ap (λ (z : ℕ). times z v.home) (sym is) ∙ new.1 in
+          let above = places-above p (length h.0.journal) (omega arith) in omega arith)
+          (λ ne. let other = only-other p len ne in let old = sees.jobs p (omega arith) in omega arith);
+      mine = λ p. let a = mine_more p in let b = place_more p in let c = sees.mine p in omega arith;
+      out = λ p. let a = out_more p in let b = place_more p in let c = sees.out p in omega arith;
+      parts = λ p. let a = mine_more p in let b = sees.parts p in omega arith;
+      turns = sees.turns;
+      lost = sees.lost;
+      all = λ every. let all = sees.all every in record {
+        mine = λ p. let a = mine_more p in let b = place_more p in let c = all.mine p in omega arith;
+        jobs = λ p. let a = out_more p in let b = place_more p in let c = all.jobs p in omega arith;
+        sound = all.sound;
+      };
+    }
+
+-- The end of a board
+
+module _ (v : View) (k : Kept) (sees : Sees v k) (every : v.shares ≡ all_shares) where
+  -- all that was made is home, so no job is out
+  pub ends_home : ((p : ℕ) → times p v.mine ≡ times p v.home) → k.0.out ≡ []
+  ends_home home = let all = sees.all every in empty_of k.0.out (λ p. let a = all.mine p in let b = all.jobs p in let c = home p in omega arith)
+
+  -- all that was made is home or lost, so no job is out or the core is broken
+  pub ends_settled : ((p : ℕ) → times p v.mine ≡ times p v.home + times p v.lost) → (k.0.out ≡ []) ⊎ (k.0.is_broken ≡ true)
+  ends_settled settled = go v.lost refl
+    where
+      go : (l : List ℕ) → v.lost ≡ l → (k.0.out ≡ []) ⊎ (k.0.is_broken ≡ true)
+      go [] is = inl (ends_home (λ p. let a = settled p in let b : times p v.lost ≡ 0 = ap (times p) is in omega arith))
+      go (x ∷ xs) is = inr (sees.lost (let a : length v.lost ≡ suc (length xs) = ap length is in omega arith))
+
+-- the first entries of what was seen are those of the journal
+pub take_same : (seen journal : List Entry) (n : ℕ) → IsPrefix seen journal → n ≡ length (take n seen) → take n seen ≡ take n journal
+take_same seen journal n p e = let near : n ≤ length seen = let l = length-take n seen in omega arith in sym (take-append-le n seen p.0 near) ∙ ap (take n) p.1

@@ -1,0 +1,12 @@
+pub mod Sums
+pub mod Prefixes
+pub mod Slots
+pub mod Moves
+pub mod Keeps
+pub mod Joins
+pub mod Gives
+pub mod Holder
+pub mod Working
+pub mod Tells
+pub mod Works
+pub mod LoneNet

@@ -1,0 +1,13 @@
+use Rattle.std.specs.Prelude.{vec_capacity}
+use Rattle.core_machine.specs.Machine.{Machine}
+use Rattle.board.specs.Calls.{HeldAny}
+use Rattle.board.specs.declared.view.View.{View}
+use Rattle.board.proofs.Holder.{took_holder}
+use Rattle.board.proofs.Tells.{took_told}
+use Rattle.board.proofs.board.Board.any_seat.Goals as goal
+
+pub any_held-requires-clause-holder : goal.any_held-requires-clause-holder
+any_held-requires-clause-holder g c = took_holder c.args.seat.now.me c.take_napping.new.seat.me c.take_napping.ensures.took c.requires.rest
+
+pub returns-clause-told : goal.returns-clause-told
+returns-clause-told g c = took_told c.args.seat.now.me c.take_napping.new.seat.me (λ (v : View) (m : Machine). HeldAny g.S.Stage.stands v m (vec_capacity c.args.room.now) c.any_held.result c.any_held.new.seat.me.0 c.any_held.new.room.items) c.take_napping.ensures.took c.requires.rest.free c.any_held.ensures.told

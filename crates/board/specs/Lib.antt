@@ -1,0 +1,8 @@
+pub mod Counts
+pub mod Rule
+pub mod Plays
+pub mod Looks
+pub mod Calls
+pub mod Holding
+pub mod Pass
+pub mod Names

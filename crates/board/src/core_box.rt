@@ -1,0 +1,73 @@
+use crate::look::{Look, look_at};
+use core_machine::{Core, Finished, Turned};
+use pipe_model::NoMemory;
+use stage_steps::Stage;
+use std::alloc::Global;
+use std::marker::Model;
+
+/// A core in a box: to take it and to give it back moves a pointer, and not the core.
+#[derive(Drop)]
+pub struct CoreBox<S: Stage> {
+    core: Box<Core<S>>,
+}
+
+impl<S: Stage> Model for CoreBox<S> {
+    ghost use Rattle.core_machine.specs.Machine.{Machine};
+
+    ghost Value = { Machine };
+
+    ghost view = { λ b. b.core.value };
+}
+
+impl<S: Stage> CoreBox<S> {
+    ghost use Rattle.std.specs.Prelude.{◌≡◌, ◌≤◌, MatchResult, OnOk, OnErr, true, false, take, vec_capacity};
+    ghost use Rattle.core_machine.specs.Machine.{came_home, broke_down, is_among, IsLawful};
+    ghost use Rattle.core_machine.specs.Jobs.{DoneStands};
+    ghost use Rattle.core_machine.specs.Answered.{IsRefusal, TurnedAs};
+    ghost use Rattle.board.specs.Looks.{LooksSo};
+
+    /// Want of memory hands the core back.
+    pub(crate) fn new(alloc: Global, core: Core<S>) -> Result<CoreBox<S>, Core<S>>
+        ensures { MatchResult result (λ kept. kept ≡ core) (λ back. back ≡ core) }
+    {
+        match Box::new(alloc, core) {
+            Ok(core) => Ok(CoreBox { core }),
+            Err(lacking) => Err(lacking.value),
+        }
+    }
+
+    pub(crate) fn into_core(self) -> Core<S>
+        ensures { result ≡ self }
+    {
+        let CoreBox { core } = self;
+        Box::into_inner(core)
+    }
+
+    pub(crate) fn turn(&mut self, strand: u32, stream: u16, room: &mut Vec<u8>) -> Turned<S>
+        ensures turned { TurnedAs S.stands self.old strand stream (vec_capacity room.old) result self.new room.new.items }
+        ensures room { IsRefusal result → (room.new.items ≡ room.old.items) × (vec_capacity room.new ≡ vec_capacity room.old) }
+        ensures capacity { vec_capacity room.old ≤ vec_capacity room.new }
+        ensures lawful { IsLawful self.new }
+    {
+        self.core.turn(strand, stream, room)
+    }
+
+    /// It makes no event.
+    pub(crate) fn look(&mut self) -> Look
+        ensures same { self.new ≡ self.old }
+        ensures look { LooksSo self.old result }
+    {
+        look_at(&mut self.core)
+    }
+
+    pub(crate) fn finish(&mut self, done: Finished<S>) -> Result<(), NoMemory>
+        requires among { is_among done.place self.old.out ≡ true }
+        requires stands { DoneStands S.stands self.old.net (take done.place self.old.journal) done }
+        ensures whole { OnOk result (self.old.is_broken ≡ false) }
+        ensures home { OnOk result (self.new ≡ came_home self.old done.place) }
+        ensures broken { OnErr result (self.new ≡ broke_down self.old) }
+        ensures lawful { IsLawful self.new }
+    {
+        self.core.finish(done)
+    }
+}

@@ -1,0 +1,142 @@
+//! What a pass does while it has the slot in hand: its steps on the core there, and how it gives the slot back.
+use crate::board::{Board, LENGTH, TURN};
+use crate::look::Look;
+use crate::plays::{Brings, Give, Raise, Slot};
+use crate::slot::{count_slot, finish_slot, look_slot, turn_slot};
+use crate::view::View;
+use atomic_table::Seat;
+use core_machine::{Finished, Turned};
+use stage_steps::Stage;
+use std::marker::Brand;
+
+// The core in the slot.
+impl<S: Stage> Board<S> {
+    ghost use Rattle.std.specs.Prelude.{◌≡◌, ◌≤◌, true, take, vec_capacity};
+    ghost use Rattle.core_machine.specs.Machine.{is_among, IsLawful};
+    ghost use Rattle.core_machine.specs.Jobs.{DoneStands};
+    ghost use Rattle.core_machine.specs.Answered.{IsRefusal, TurnedAs};
+    ghost use Rattle.board.specs.Counts.{all_tries};
+    ghost use Rattle.board.specs.Rule.{Kept};
+    ghost use Rattle.board.specs.Looks.{LooksSo};
+    ghost use Rattle.board.specs.Holding.{HasKept, IfKept, with_kept, counted, FinishedAs};
+
+    pub(crate) fn turn_core(
+        &self,
+        seat: &mut Seat<Slot<S>, View>,
+        strand: u32,
+        stream: u16,
+        room: &mut Vec<u8>,
+    ) -> Turned<S>
+        requires id { seat.old.table_id ≡ self.now.table.shared.table_id }
+        requires kept { HasKept seat.old.me (λ _. Unit {0}) }
+        ensures id { (seat.new.table_id ≡ seat.old.table_id) × (seat.new.id ≡ seat.old.id) }
+        ensures turned { IfKept seat.old.me (λ k. (l : Kept) × (seat.new.me ≡ with_kept seat.old.me.0 l) × TurnedAs S.stands k.0 strand stream (vec_capacity room.old) result l.0 room.new.items × (l.1 ≡ k.1) × IsLawful l.0) }
+        ensures room { IsRefusal result → (room.new.items ≡ room.old.items) × (vec_capacity room.new ≡ vec_capacity room.old) }
+        ensures capacity { vec_capacity room.old ≤ vec_capacity room.new }
+    {
+        let slot = seat.slot_mut(&self.table.shared, 0);
+        turn_slot(slot, strand, stream, room)
+    }
+
+    pub(crate) fn look_core(&self, seat: &mut Seat<Slot<S>, View>) -> Look
+        requires id { seat.old.table_id ≡ self.now.table.shared.table_id }
+        requires kept { HasKept seat.old.me (λ _. Unit {0}) }
+        ensures id { (seat.new.table_id ≡ seat.old.table_id) × (seat.new.id ≡ seat.old.id) }
+        ensures look { IfKept seat.old.me (λ k. (seat.new.me ≡ with_kept seat.old.me.0 k) × LooksSo k.0 result) }
+    {
+        let slot = seat.slot_mut(&self.table.shared, 0);
+        look_slot(slot)
+    }
+
+    // The answer is whether there was memory.
+    pub(crate) fn finish_core(&self, seat: &mut Seat<Slot<S>, View>, done: Finished<S>) -> bool
+        requires id { seat.old.table_id ≡ self.now.table.shared.table_id }
+        requires kept { HasKept seat.old.me (λ k. (is_among done.place k.0.out ≡ true) × DoneStands S.stands k.0.net (take done.place k.0.journal) done) }
+        ensures id { (seat.new.table_id ≡ seat.old.table_id) × (seat.new.id ≡ seat.old.id) }
+        ensures finished { IfKept seat.old.me (λ k. (l : Kept) × (seat.new.me ≡ with_kept seat.old.me.0 l) × FinishedAs k.0 done.place result l.0 × (l.1 ≡ k.1) × IsLawful l.0) }
+    {
+        let slot = seat.slot_mut(&self.table.shared, 0);
+        finish_slot(slot, done)
+    }
+
+    fn count(&self, seat: &mut Seat<Slot<S>, View>)
+        requires id { seat.old.table_id ≡ self.now.table.shared.table_id }
+        requires kept { HasKept seat.old.me (λ k. k.1 ≤ all_tries) }
+        ensures id { (seat.new.table_id ≡ seat.old.table_id) × (seat.new.id ≡ seat.old.id) }
+        ensures counted { IfKept seat.old.me (λ k. seat.new.me ≡ with_kept seat.old.me.0 (counted k)) }
+    {
+        let slot = seat.slot_mut(&self.table.shared, 0);
+        count_slot(slot);
+    }
+}
+
+// The steps by which the slot goes back.
+impl<S: Stage> Board<S> {
+    ghost use Rattle.std.specs.Prelude.{◌≡◌, ◌≤◌, [], ◌∷◌, length};
+    ghost use Rattle.pipe_model.specs.declared.step.Entry.{Entry};
+    ghost use Rattle.board.specs.Counts.{all_tries};
+    ghost use Rattle.board.specs.Rule.{Kept, HasTurned};
+    ghost use Rattle.board.specs.Plays.{after_raise, IsNew};
+    ghost use Rattle.board.specs.Pass.{HasParts};
+    ghost use Rattle.board.specs.Holding.{HasKept, IfKept, with_kept, MayGiveBack, GaveBack, GaveWork};
+
+    fn raise(&self, seat: &mut Seat<Slot<S>, View>)
+        requires id { seat.old.table_id ≡ self.now.table.shared.table_id }
+        requires turned { HasKept seat.old.me (λ k. (h : Kept) × (e : Entry) × HasTurned seat.old.me.0 h k e) }
+        ensures id { (seat.new.table_id ≡ seat.old.table_id) × (seat.new.id ≡ seat.old.id) }
+        ensures raised { IfKept seat.old.me (λ k. (seat.new.me ≡ with_kept (after_raise seat.old.me.0 k) k) × IsNew seat.old.me.0 (length k.0.journal)) }
+    {
+        self.table.shared.fetch_add::<Raise>(seat, LENGTH, 1);
+    }
+
+    // Nobody is woken: who waits for the slot sleeps for a limited time.
+    fn give_as<B: Brings>(&self, seat: &mut Seat<Slot<S>, View>, _place: u64)
+        requires id { seat.old.table_id ≡ self.now.table.shared.table_id }
+        requires may { MayGiveBack B.home B.lost seat.old.me }
+        ensures id { (seat.new.table_id ≡ seat.old.table_id) × (seat.new.id ≡ seat.old.id) }
+        ensures gave { GaveBack B.home B.lost seat.old.me seat.new.me }
+    {
+        self.count(seat);
+        self.table.shared.swap::<Give<B>>(seat, TURN, 0);
+    }
+
+    // Gives the slot back, with no place brought home or lost.
+    pub(crate) fn give(&self, seat: &mut Seat<Slot<S>, View>)
+        requires id { seat.old.table_id ≡ self.now.table.shared.table_id }
+        requires may { MayGiveBack [] [] seat.old.me }
+        ensures id { (seat.new.table_id ≡ seat.old.table_id) × (seat.new.id ≡ seat.old.id) }
+        ensures gave { GaveBack [] [] seat.old.me seat.new.me }
+    {
+        self.give_as::<Brand>(seat, 0);
+    }
+
+    pub(crate) fn give_home(&self, seat: &mut Seat<Slot<S>, View>, place: u64)
+        requires id { seat.old.table_id ≡ self.now.table.shared.table_id }
+        requires may { MayGiveBack (place ∷ []) [] seat.old.me }
+        ensures id { (seat.new.table_id ≡ seat.old.table_id) × (seat.new.id ≡ seat.old.id) }
+        ensures gave { GaveBack (place ∷ []) [] seat.old.me seat.new.me }
+    {
+        self.give_as::<Brand>(seat, place);
+    }
+
+    pub(crate) fn give_lost(&self, seat: &mut Seat<Slot<S>, View>, place: u64)
+        requires id { seat.old.table_id ≡ self.now.table.shared.table_id }
+        requires may { MayGiveBack [] (place ∷ []) seat.old.me }
+        ensures id { (seat.new.table_id ≡ seat.old.table_id) × (seat.new.id ≡ seat.old.id) }
+        ensures gave { GaveBack [] (place ∷ []) seat.old.me seat.new.me }
+    {
+        self.give_as::<Brand>(seat, place);
+    }
+
+    // Gives the slot back with an entry that was just made.
+    pub(crate) fn give_work(&self, seat: &mut Seat<Slot<S>, View>)
+        requires id { seat.old.table_id ≡ self.now.table.shared.table_id }
+        requires turned { HasKept seat.old.me (λ k. (k.1 ≤ all_tries) × ((h : Kept) × (e : Entry) × HasTurned seat.old.me.0 h k e)) }
+        requires parts { HasParts seat.old.me.0 }
+        ensures id { (seat.new.table_id ≡ seat.old.table_id) × (seat.new.id ≡ seat.old.id) }
+        ensures gave { GaveWork seat.old.me seat.new.me }
+    {
+        self.raise(seat);
+        self.give(seat);
+    }
+}

@@ -1,0 +1,30 @@
+//! A board: many workers step one core, each with a pass that says what it has seen of the journal and which entries
+//! are its own. Where it isn't said otherwise a call waits for nobody.
+#![tactic(auto)]
+
+mod answers;
+mod board;
+mod core_box;
+mod finishing;
+mod holding;
+#[cfg(test)]
+mod lone;
+mod look;
+mod pass;
+mod passes;
+mod plays;
+mod seeking;
+mod slot;
+mod taking;
+#[cfg(test)]
+mod tests;
+mod turning;
+mod view;
+
+pub use answers::{Receipt, TryAny, TryFinish, TryTurn};
+pub use board::Board;
+pub use core_box::CoreBox;
+pub use pass::Pass;
+pub use plays::{Amount, Await, Brings, Cut, Give, Learn, Merge, Order, Raise, Try};
+pub use taking::nap;
+pub use view::View;

@@ -1,0 +1,88 @@
+//! How a call that waits takes the slot.
+use crate::board::{Board, TURN};
+use crate::plays::{Await, Slot};
+use crate::view::View;
+use atomic_table::Seat;
+use stage_steps::Stage;
+use std::hint::spin_loop;
+use std::sync::Wait;
+use std::sync::atomic::AtomicU64;
+use std::thread::yield_now;
+use std::time::Duration;
+
+// How often one looks at the slot before it lets others run.
+const AWAKE_TRIES: u32 = 100;
+
+// How often one looks at the slot before it naps.
+const NAPPING_TRIES: u32 = 16;
+
+// The shortest nap and the longest, in microseconds.
+const SHORTEST_NAP: u64 = 50;
+
+const LONGEST_NAP: u64 = 1_000;
+
+/// Sleeps so many microseconds, or less. Nobody wakes it, since no other thread has the word.
+pub fn nap<R: Wait>(rt: &R, micros: u64) {
+    AtomicU64::new(0).park_timeout(rt, 0, Duration::from_micros(micros));
+}
+
+impl<S: Stage> Board<S> {
+    ghost use Rattle.std.specs.Prelude.{◌≡◌, true, false};
+    ghost use Rattle.board.specs.Plays.{Took};
+    ghost use Rattle.board.specs.Holding.{IsAtRest};
+
+    // Looks at the slot so many times. Where it is at home it is taken, and the answer is true.
+    fn take_within(&self, seat: &mut Seat<Slot<S>, View>, tries: u32) -> bool
+        requires id { seat.old.table_id ≡ self.now.table.shared.table_id }
+        requires rest { IsAtRest seat.old.me }
+        ensures id { (seat.new.table_id ≡ seat.old.table_id) × (seat.new.id ≡ seat.old.id) }
+        ensures took { result ≡ true → Took seat.old.me seat.new.me }
+        ensures same { result ≡ false → seat.new.me ≡ seat.old.me }
+    {
+        for _ in 0..tries {
+            let found = self
+                .table
+                .shared
+                .compare_exchange::<Await>(seat, TURN, 0, 1);
+            if found == 0 {
+                return true;
+            }
+            spin_loop();
+        }
+        false
+    }
+
+    // For one with a job in hand: it lets others run between its looks, and never sleeps.
+    pub(crate) fn take_awake<R: Wait>(&self, rt: &R, seat: &mut Seat<Slot<S>, View>)
+        requires id { seat.old.table_id ≡ self.now.table.shared.table_id }
+        requires rest { IsAtRest seat.old.me }
+        ensures id { (seat.new.table_id ≡ seat.old.table_id) × (seat.new.id ≡ seat.old.id) }
+        ensures took { Took seat.old.me seat.new.me }
+    {
+        for _ in rt.forever() {
+            if self.take_within(seat, AWAKE_TRIES) {
+                return;
+            }
+            yield_now();
+        }
+        unreachable!()
+    }
+
+    // For one with no job in hand: it naps between its looks, twice as long each time.
+    pub(crate) fn take_napping<R: Wait>(&self, rt: &R, seat: &mut Seat<Slot<S>, View>)
+        requires id { seat.old.table_id ≡ self.now.table.shared.table_id }
+        requires rest { IsAtRest seat.old.me }
+        ensures id { (seat.new.table_id ≡ seat.old.table_id) × (seat.new.id ≡ seat.old.id) }
+        ensures took { Took seat.old.me seat.new.me }
+    {
+        let mut micros = SHORTEST_NAP;
+        for _ in rt.forever() {
+            if self.take_within(seat, NAPPING_TRIES) {
+                return;
+            }
+            nap(rt, micros);
+            micros = micros.saturating_mul(2).min(LONGEST_NAP);
+        }
+        unreachable!()
+    }
+}

@@ -1,0 +1,84 @@
+ghost use Rattle.std.specs.Prelude.{◌≡◌, ◌+◌, ◌≤◌};
+ghost use Rattle.board.specs.Names.{view, board_of, board_id};
+
+use crate::lone::lone_core;
+use crate::{Board, Pass, TryAny, TryFinish, TryTurn};
+use pipe_model::{NoMemory, Seen};
+use stage_steps::{Listed, Stage, TextLines};
+use std::alloc::Global;
+use std::test::Fail;
+
+fn is_send<T: Send>() {}
+
+fn is_sync<T: Sync>() {}
+
+fn all_may_cross<S: Stage + Send>() {
+    is_send::<Board<S>>();
+    is_sync::<Board<S>>();
+    is_send::<Pass>();
+}
+
+// A board may be shared by threads, and a pass may go to another, where the coroutines may.
+#[test]
+fn a_board_and_its_passes_may_go_to_other_threads() {
+    all_may_cross::<Listed<TextLines>>();
+}
+
+// The event of the least strand that may have one, with its work: what its coroutine was told.
+fn work<S: Stage>(
+    board: &Board<S>,
+    pass: &mut Pass,
+    alloc: Global,
+    room: &mut Vec<u8>,
+) -> Result<Option<Seen>, NoMemory>
+    requires board { board_of pass.old ≡ board_id board.now }
+    requires tries { 2 ≤ (view pass.old).tries }
+    ensures board { board_of pass.new ≡ board_of pass.old }
+    ensures tries { (view pass.old).tries ≤ (view pass.new).tries + 2 }
+    ensures shares { (view pass.new).shares ≡ (view pass.old).shares }
+{
+    let TryAny::Work(job, _) = board.try_any(pass, room) else {
+        return Ok(None);
+    };
+    let seen = job.seen();
+    let done = job.run(alloc, room);
+    let TryFinish::Home = board.try_finish(pass, done) else {
+        return Err(NoMemory);
+    };
+    Ok(Some(seen))
+}
+
+#[test]
+fn passes_make_events_and_meet(rt: HostRuntime) -> Result<(), Fail> {
+    let alloc = rt.alloc();
+    let core = lone_core(alloc, 3, b"ab\n")?;
+    let Ok((board, mut pass)) = Board::new(alloc, core) else {
+        return Err(NoMemory.into());
+    };
+    let mut room = Vec::new(alloc);
+    assert_eq!(rt;
+        work(&board, &mut pass, alloc, &mut room)?,
+        Some(Seen::Up(-1, 0))
+    );
+    assert_eq!(rt;
+        work(&board, &mut pass, alloc, &mut room)?,
+        Some(Seen::Up(0, 0))
+    );
+    let (mut a, mut b) = board.split(pass, 1_000);
+    assert!(rt; b.shares() == 1 && b.tries() == 1_000);
+    let TryTurn::NotReady = board.try_turn(&mut b, 0, 7, &mut room) else {
+        panic!(rt; "an event on a stream that isn't there")
+    };
+    let TryTurn::Work(_, receipt) = board.turn(&rt, &mut a, 0, 0, &mut room) else {
+        panic!(rt; "no event")
+    };
+    assert_eq!(rt; receipt.place, 3);
+    let TryAny::Idle { out: 1 } = board.any(&rt, &mut b, &mut room) else {
+        panic!(rt; "a second event of a strand that is out")
+    };
+    let all = board.meet(a, b);
+    assert!(rt; all.shares() == 1 << 32 && all.tries() == (1 << 63) - 7);
+    let core = board.close(&rt, all);
+    assert!(rt; core.len() == 3 && core.out_count() == 1);
+    Ok(())
+}
