@@ -9,6 +9,7 @@ pub mod Ghosts
 pub mod GoesOn
 pub mod Homes
 pub mod Jobs
+pub mod LeastTurns
 pub mod Lows
 pub mod Outs
 pub mod Plays

@@ -1,6 +1,6 @@
 -- Below the strand that made a step nobody may go on, but whom the step concerns.
-use Rattle.std.proofs.Common.{◌≡◌, ◌≢◌, ◌⊎◌, inl, inr, ℕ, ◌+◌, ◌<◌, Bool, true, false, cond, not, ◌==◌, ◌&&◌, ◌||◌, List, length, refl, sym, ◌∙◌, ap, subst, arith, Option, Some, None, is_some, slice_get, ℤ, pos, negsuc}
-use Rattle.std.proofs.lemmas.Bool.{eqb-true, ne_eqb}
+use Rattle.std.proofs.Common.{◌≡◌, ◌≢◌, inl, inr, ℕ, ◌<◌, true, false, not, ◌==◌, ◌&&◌, ◌||◌, List, length, refl, sym, ◌∙◌, ap, subst, arith, Option, Some, None, is_some, slice_get, pos, negsuc}
+use Rattle.std.proofs.lemmas.Bool.{ne_eqb}
 use Rattle.std.proofs.lemmas.Option.{slice_get_within}
 use Rattle.std.specs.Option.{option_map}
 use Rattle.pipe_model.specs.declared.net.Net.{Net}
@@ -13,8 +13,6 @@ use Rattle.pipe_model.specs.declared.step.Want.TheVariants as want
 use Rattle.pipe_model.proofs.Numbers.{equal_or_not, test_same}
 use Rattle.pipe_model.proofs.Truths.{neither}
 use Rattle.record_pool.specs.PoolState.{PoolState}
-use Rattle.run_desk.specs.declared.seat.Ask.{Ask}
-use Rattle.run_desk.specs.declared.seat.Ask.TheVariants as Now
 use Rattle.run_desk.specs.declared.seat.Seat.{Seat}
 use Rattle.run_desk.specs.Desk.{DoorsState, DeskState}
 use Rattle.run_desk.specs.Standing.{link_through}
@@ -24,7 +22,7 @@ use Rattle.run_desk.proofs.Lists.{changed_here}
 use Rattle.run_desk.proofs.Makes.{doors_moved}
 use Rattle.core_machine.specs.Ahead.{HasGoneQuietly, HasSeenOrPut, IsWriteOn}
 use Rattle.core_machine.specs.Members.{Members, is_member}
-use Rattle.core_machine.specs.Woken.{IsCovering, LeastEventAwake, IsReaderIn, AreEndsIn, commits}
+use Rattle.core_machine.specs.Woken.{IsCovering, IsReaderIn, AreEndsIn, commits}
 use Rattle.core_machine.proofs.Ghosts.{set_of}
 use Rattle.core_machine.proofs.Homes.{covers_home, may_write}
 use Rattle.core_machine.proofs.Outs.{covers_out, was_settled}

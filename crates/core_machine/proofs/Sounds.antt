@@ -451,6 +451,55 @@ module _ {S : Type 0} (stands : S → Strand → List Event → Type 0) (net : N
     pub came_early : Telling.ended_at d s ≡ false → StaysEarly d pool s want
     came_early not_ended d' pool' come = early_on net st sound.formed own (bytes_at pool') (left_in left s) d' (came d' pool' (inr (not_ended, come))).kept
 
+    -- the strand stays out: of what was kept of it its coroutine is gone, and what it asks for is anything
+    module _ (a b : Actor S) (there : slice_get actors s ≡ Some a) (b_out : b.stage ≡ None) (b_looks : b.looks ≡ a.looks) (b_end : b.saw_end ≡ a.saw_end) where
+      none_wanted : want_at net st left s ≡ None
+      none_wanted = ap (λ z. cond z None (want_after (strand_at net st s) (past st s))) away
+
+      actors_out : AreActors stands net journal out (slice_set actors s b)
+      actors_out = record {
+        count = length-set actors s b ∙ sound.strands.count;
+        each = λ u q x is at. elim (equal_or_not u s) [
+          | inl z ↦ here u q x z is at
+          | inr z ↦ sound.strands.each u q x is (sym (get_set_other actors s u b z) ∙ at)
+        ];
+        home = λ u x at home. elim (equal_or_not u s) [
+          | inl z ↦ (let no : true ≡ false = sym away ∙ ap left (sym z) ∙ home in absurd (let q : ⊥ = cc in q))
+          | inr z ↦ sound.strands.home u x (sym (get_set_other actors s u b z) ∙ at) home
+        ];
+      }
+        where
+          none_some : {y : S} → ◌≡◌ {A = Option S} None (Some y) → ⊥
+          none_some q = cc
+
+          here : (u : Who) (q : Strand) (x : Actor S) → u ≡ s → strand_at net st u ≡ Some q → slice_get (slice_set actors s b) u ≡ Some x → IsActor stands (past st u) (want_at net st left u) q x
+          here u q x z is at =
+              let old = sound.strands.each s q a (ap (strand_at net st) (sym z) ∙ is) there in
+              let got : Some b ≡ Some x = sym (get_set_same actors s b a there) ∙ ap (slice_get (slice_set actors s b)) (sym z) ∙ at in
+              let x_is : b ≡ x = cc in
+              let w_is : want_at net st left u ≡ None = ap (want_at net st left) z ∙ none_wanted in
+              let P : List Event → Option Want → Actor S → Type 0 = λ h w y. IsActor stands h w q y in
+              let new : P (past st s) None b = record {
+                saw_end = b_end ∙ old.saw_end;
+                asked = λ w q. cc;
+                stands_for = λ y q. absurd (none_some (sym b_out ∙ q));
+                looks = b_looks ∙ old.looks;
+              } in
+              subst (λ t. P (past st t) (want_at net st left u) x) (sym z) (subst (λ w. P (past st s) w x) (sym w_is) (subst (P (past st s) None) x_is new))
+
+      pub sound_out : IsSound stands net budget journal out (slice_set actors s b) d pool
+      sound_out = record {
+        formed = sound.formed;
+        legal = sound.legal;
+        within = sound.within;
+        bounded = sound.bounded;
+        last = sound.last;
+        apart = sound.apart;
+        run = sound.run;
+        waiting = sound.waiting;
+        strands = actors_out;
+      }
+
     left_now : left_by journal (without p out) ≡ left_in left s
     left_now = left_home net journal s p its out sound.apart among
 

@@ -54,6 +54,14 @@ abbrev pub LeastEvent : Machine → Option (ℕ × ℕ × Seen) → Type 0
 LeastEvent m None = LeastReady m None
 LeastEvent m (Some r) = LeastReady m (Some (r.0, r.1)) × ((e : Event) × (licence_of m r.0 r.1 ≡ Some e) × (told e ≡ r.2))
 
+-- what a turn of the least strand that may have an event answers, on its least stream
+abbrev pub LeastTurnedAs : {S : Type 0} → (S → Strand → List Event → Type 0) → Machine → ℕ → Turned S → Machine → List ℕ → Type 0
+LeastTurnedAs stands m room Broken n bytes = (m.is_broken ≡ true) × (n ≡ m)
+LeastTurnedAs stands m room NotReady n bytes = (m.is_broken ≡ false) × LeastReady m None × (n ≡ m)
+LeastTurnedAs stands m room Spent n bytes = (r : ℕ × ℕ) × LeastReady m (Some r) × TurnedAs stands m r.0 r.1 room Spent n bytes
+LeastTurnedAs stands m room (Room size) n bytes = (r : ℕ × ℕ) × LeastReady m (Some r) × TurnedAs stands m r.0 r.1 room (Room size) n bytes
+LeastTurnedAs stands m room (Work job) n bytes = (k : ℕ) × LeastReady m (Some (job.strand, k)) × TurnedAs stands m job.strand k room (Work job) n bytes
+
 -- the least stream of a strand on which it may have an event, or there is none
 abbrev pub LeastStream : Machine → Who → Option ℕ → Type 0
 LeastStream m s None = (k : ℕ) → licence_of m s k ≡ None

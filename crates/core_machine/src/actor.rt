@@ -23,6 +23,7 @@ pub struct Actor<S: Stage> {
 }
 
 /// The strand's coroutine goes out, and is told this.
+#[inline(always)]
 pub(crate) fn send_out<S: Stage>(actors: &mut Vec<Actor<S>>, strand: usize, seen: Seen) -> S
     requires { (a : ActorIs S) × (x : S) × (slice_get actors.old.items strand ≡ Some a) × (a.stage ≡ Some x) }
     ensures { (a : ActorIs S) × (slice_get actors.old.items strand ≡ Some a) × (a.stage ≡ Some result) × (actors.new.items ≡ slice_set actors.old.items strand (gone_out seen a)) }
@@ -36,13 +37,22 @@ pub(crate) fn send_out<S: Stage>(actors: &mut Vec<Actor<S>>, strand: usize, seen
 }
 
 /// The strand's coroutine comes back, and asks for this.
-pub(crate) fn take_back<S: Stage>(actors: &mut Vec<Actor<S>>, strand: usize, stage: S, asked: Want)
-    requires { strand < length actors.old.items }
-    ensures { (a : ActorIs S) × (slice_get actors.old.items strand ≡ Some a) × (actors.new.items ≡ slice_set actors.old.items strand (come_back stage asked a)) }
+#[inline(always)]
+pub(crate) fn take_back<S: Stage>(actor: &mut Actor<S>, stage: S, asked: Want)
+    ensures { actor.new ≡ come_back stage asked actor.old }
 {
-    let actor = &mut actors[strand];
     actor.stage = Some(stage);
-    actor.asked = asked;
+    let last = mem::replace(&mut actor.asked, asked);
+    // It holds no memory to let go, as in `resume`.
+    ManuallyDrop::new(last);
+}
+
+/// The strand's coroutine, which came back, is given up, as there was no memory: the strand stays out.
+#[cold]
+pub(crate) fn stay_out<S: Stage>(actor: &mut Actor<S>)
+    ensures { actor.new ≡ given_up actor.old }
+{
+    actor.stage = None;
 }
 
 /// The strand's coroutine is told this, and goes on in place. What it asks for is kept.

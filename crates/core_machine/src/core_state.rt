@@ -1,7 +1,7 @@
-ghost use Rattle.std.specs.Prelude.{◌≡◌, ◌≤◌, length, vec_capacity};
+ghost use Rattle.std.specs.Prelude.{◌≡◌, ◌≤◌, ◌∷◌, [], true, length, vec_capacity};
 ghost use Rattle.core_machine.specs.Machine.{without};
 
-use crate::actor::{Actor, looks, send_out, take_back};
+use crate::actor::{Actor, looks, send_out, stay_out, take_back};
 use crate::floor::Floor;
 use crate::job::{Finished, Job, Turned};
 use pipe_model::{Entry, NoMemory, Seen, Want};
@@ -39,7 +39,7 @@ impl<S: Stage> Core<S> {
     ghost use Rattle.stage_steps.specs.Coroutine.{told, bytes_with};
     ghost use Rattle.core_machine.specs.Machine.{licence_of, state_of, looks_at, turned, came_home, broke_down, is_among, IsLawful};
     ghost use Rattle.core_machine.specs.Jobs.{JobStands, HasGoneOn, DoneStands};
-    ghost use Rattle.core_machine.specs.Answered.{IsRefusal, TurnedAs};
+    ghost use Rattle.core_machine.specs.Answered.{IsRefusal, TurnedAs, LeastTurnedAs};
 
     /// Whether a strand may have an event on a stream.
     pub fn is_ready(&self, strand: u32, stream: u16) -> bool
@@ -60,18 +60,87 @@ impl<S: Stage> Core<S> {
         if self.is_broken {
             return Turned::Broken;
         }
-        let Some(seen) = self.floor.seen_at(strand, stream) else {
-            return Turned::NotReady;
-        };
+        match self.floor.seen_at(strand, stream) {
+            None => Turned::NotReady,
+            Some(seen) => self.turn_seen(strand, stream, seen, room),
+        }
+    }
+
+    /// Makes the least event that may be, of the least strand on its least stream, as `turn` does. `NotReady` says that
+    /// no strand may have one.
+    pub fn turn_least(&mut self, room: &mut Vec<u8>) -> Turned<S>
+        ensures turned { LeastTurnedAs S.stands self.old (vec_capacity room.old) result self.new room.new.items }
+        ensures room { IsRefusal result → (room.new.items ≡ room.old.items) × (vec_capacity room.new ≡ vec_capacity room.old) }
+        ensures capacity { vec_capacity room.old ≤ vec_capacity room.new }
+        ensures lawful { IsLawful self.new }
+    {
+        if self.is_broken {
+            return Turned::Broken;
+        }
+        match self.least_event() {
+            None => Turned::NotReady,
+            Some((strand, stream, seen)) => self.turn_seen(strand, stream, seen, room),
+        }
+    }
+
+    // Makes an event that may be, where budget and room allow it. The events of records have a way each.
+    #[inline(always)]
+    fn turn_seen(&mut self, strand: u32, stream: u16, seen: Seen, room: &mut Vec<u8>) -> Turned<S>
+        requires may { (e : Event) × (licence_of self.old strand stream ≡ Some e) × (told e ≡ seen) }
+        requires whole { self.old.is_broken ≡ false }
+        ensures turned { TurnedAs S.stands self.old strand stream (vec_capacity room.old) result self.new room.new.items }
+        ensures room { IsRefusal result → (room.new.items ≡ room.old.items) × (vec_capacity room.new ≡ vec_capacity room.old) }
+        ensures capacity { vec_capacity room.old ≤ vec_capacity room.new }
+        ensures lawful { IsLawful self.new }
+    {
+        match seen {
+            Seen::Saw(i) => self.turn_on(strand, stream, Seen::Saw(i), room),
+            Seen::Took(i) => self.turn_on(strand, stream, Seen::Took(i), room),
+            Seen::Put(o) => self.turn_on(strand, stream, Seen::Put(o), room),
+            seen => self.turn_otherwise(strand, stream, seen, room),
+        }
+    }
+
+    // The same for an event of another kind.
+    #[cold]
+    #[inline(never)]
+    fn turn_otherwise(
+        &mut self,
+        strand: u32,
+        stream: u16,
+        seen: Seen,
+        room: &mut Vec<u8>,
+    ) -> Turned<S>
+        requires may { (e : Event) × (licence_of self.old strand stream ≡ Some e) × (told e ≡ seen) }
+        requires whole { self.old.is_broken ≡ false }
+        ensures turned { TurnedAs S.stands self.old strand stream (vec_capacity room.old) result self.new room.new.items }
+        ensures room { IsRefusal result → (room.new.items ≡ room.old.items) × (vec_capacity room.new ≡ vec_capacity room.old) }
+        ensures capacity { vec_capacity room.old ≤ vec_capacity room.new }
+        ensures lawful { IsLawful self.new }
+    {
+        self.turn_on(strand, stream, seen, room)
+    }
+
+    // The same for an event of any kind.
+    #[inline(always)]
+    fn turn_on(&mut self, strand: u32, stream: u16, seen: Seen, room: &mut Vec<u8>) -> Turned<S>
+        requires may { (e : Event) × (licence_of self.old strand stream ≡ Some e) × (told e ≡ seen) }
+        requires whole { self.old.is_broken ≡ false }
+        ensures turned { TurnedAs S.stands self.old strand stream (vec_capacity room.old) result self.new room.new.items }
+        ensures room { IsRefusal result → (room.new.items ≡ room.old.items) × (vec_capacity room.new ≡ vec_capacity room.old) }
+        ensures capacity { vec_capacity room.old ≤ vec_capacity room.new }
+        ensures lawful { IsLawful self.new }
+    {
         if self.journal.len() as u64 >= self.budget {
             return Turned::Spent;
         }
-        let size = self.size_of_look(strand, seen);
+        let looks = self.looks(strand);
+        let size = self.size_of_look(looks, strand, seen);
         if size > room.capacity() {
             return Turned::Room(size);
         }
         let job = self.go_out(strand, stream, seen);
-        fill(room, self.bytes_seen(strand, seen));
+        fill(room, self.bytes_seen(looks, strand, seen));
         Turned::Work(job)
     }
 
@@ -109,6 +178,7 @@ impl<S: Stage> Core<S> {
     }
 
     // Makes an event that may be: the strand is out with the job that is answered.
+    #[inline(always)]
     fn go_out(&mut self, strand: u32, stream: u16, seen: Seen) -> Job<S>
         requires may { (e : Event) × (licence_of self.old strand stream ≡ Some e) × (told e ≡ seen) }
         requires space { length self.old.journal < self.old.budget }
@@ -131,13 +201,8 @@ impl<S: Stage> Core<S> {
     }
 
     // The end of `finish`, where there was memory so far. Out of memory leaves all as it was.
-    fn come_home(
-        &mut self,
-        strand: u32,
-        place: u64,
-        stage: S,
-        mut want: Want,
-    ) -> Result<(), NoMemory>
+    #[inline(always)]
+    fn come_home(&mut self, strand: u32, place: u64, stage: S, want: Want) -> Result<(), NoMemory>
         requires among { is_among place self.old.out ≡ true }
         requires stands { HasGoneOn S.stands self.old.net (take place self.old.journal) strand place stage want }
         ensures home { OnOk result (self.new ≡ came_home self.old place) }
@@ -145,29 +210,38 @@ impl<S: Stage> Core<S> {
     {
         let has_ended = self.floor.has_ended(strand);
         self.floor.wake(strand);
-        self.floor.come_home(strand, has_ended, &mut want)?;
-        take_back(&mut self.actors, strand as usize, stage, want);
+        let actor = &mut self.actors[strand as usize];
+        take_back(actor, stage, want);
+        let Ok(()) = self.floor.come_home(strand, has_ended, &mut actor.asked) else {
+            stay_out(actor);
+            return Err(NoMemory);
+        };
         remove(&mut self.out, place);
         Ok(())
     }
 
     // The number of bytes of the record that the strand would see, where it looks.
-    fn size_of_look(&self, strand: u32, seen: Seen) -> usize
+    #[inline(always)]
+    fn size_of_look(&self, looks: bool, strand: u32, seen: Seen) -> usize
+        requires { looks ≡ looks_at self.now.net strand }
         ensures { (k : ℕ) (e : Event) → licence_of self.now strand k ≡ Some e → told e ≡ seen → result ≡ length (bytes_with (looks_at self.now.net strand) e) }
     {
         match seen {
-            Seen::Saw(i) if self.looks(strand) => self.floor.size_at_hand(strand, i),
+            Seen::Saw(i) if looks => self.floor.size_at_hand(strand, i),
             _ => 0,
         }
     }
 
     // The bytes that go with the last event of a strand that is out.
-    fn bytes_seen(&self, strand: u32, seen: Seen) -> &[u8]
+    #[inline(always)]
+    fn bytes_seen(&self, looks: bool, strand: u32, seen: Seen) -> &[u8]
+        requires { looks ≡ looks_at self.now.net strand }
         ensures { (e : Event) (h : List Event) → past (state_of self.now) strand ≡ e ∷ h → has_ended h ≡ false → told e ≡ seen → result.now ≡ bytes_with (looks_at self.now.net strand) e }
     {
-        self.floor.bytes_told(self.looks(strand), strand, seen)
+        self.floor.bytes_told(looks, strand, seen)
     }
 
+    #[inline(always)]
     fn looks(&self, strand: u32) -> bool
         ensures { result ≡ looks_at self.now.net strand }
     {
@@ -176,6 +250,7 @@ impl<S: Stage> Core<S> {
 }
 
 // Puts the bytes in place of what the room holds, which can hold them.
+#[inline(always)]
 fn fill(room: &mut Vec<u8>, bytes: &[u8])
     requires { length bytes.now ≤ vec_capacity room.old }
     ensures items { room.new.items ≡ bytes.now }
@@ -185,7 +260,33 @@ fn fill(room: &mut Vec<u8>, bytes: &[u8])
     room.extend_from_slice(bytes).unwrap();
 }
 
+// Takes a place out of the list, where it is mostly the only one.
+#[inline(always)]
 fn remove(out: &mut Vec<u64>, place: u64)
+    ensures items { out.new.items ≡ without place out.old.items }
+    ensures capacity { vec_capacity out.new ≡ vec_capacity out.old }
+{
+    if is_only(out, place) {
+        out.clear();
+    } else {
+        remove_among(out, place);
+    }
+}
+
+// Whether the list has this place and no other.
+#[inline(always)]
+fn is_only(out: &[u64], place: u64) -> bool
+    ensures { result ≡ true → out.now ≡ place ∷ [] }
+{
+    match out {
+        [only] => *only == place,
+        _ => false,
+    }
+}
+
+// The same where others may be there.
+#[inline(never)]
+fn remove_among(out: &mut Vec<u64>, place: u64)
     ensures items { out.new.items ≡ without place out.old.items }
     ensures capacity { vec_capacity out.new ≡ vec_capacity out.old }
 {

@@ -119,6 +119,7 @@ fn a_turn_is_made_where_it_may_be(rt: HostRuntime) -> Result<(), Fail> {
     }
     assert!(rt; none.is_empty() && core.out_count() == 0);
     assert!(rt; matches!(core.turn(1, 0, &mut none), Turned::Room(2)));
+    assert!(rt; matches!(core.turn_least(&mut none), Turned::Room(2)));
     let mut room = Vec::with_capacity(alloc, 2)?;
     assert_eq!(rt;
         work(&mut core, alloc, 1, 0, &mut room)?,

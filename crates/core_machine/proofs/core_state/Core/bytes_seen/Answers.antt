@@ -12,7 +12,7 @@ bytes_told-requires g c =
     let v : ◌≡◌ {A = Machine} (record { net = i.floor.net; budget = i.budget; journal = i.journal.items; out = i.out.items; is_broken = i.is_broken }) c.args.self.now = c.self.view_is in
     record {
       strand = λ yes. subst (λ n. c.args.strand < n) (sym c.self.invariant.0.run.kept.laid.seat_count)
-          (who_looks i.floor.net c.args.strand (sym (c.looks.ensures ∙ ap (λ (z : Machine). looks_at z.net c.args.strand) (sym v)) ∙ yes));
+          (who_looks i.floor.net c.args.strand (sym (c.requires ∙ ap (λ (z : Machine). looks_at z.net c.args.strand) (sym v)) ∙ yes));
       held = sight_held g.S.Stage.stands i.floor.net i.budget i.journal.items i.out.items i.actors.items i.floor.desk i.floor.pool c.self.invariant.0 c.args.strand;
     }
 
@@ -21,5 +21,5 @@ returns g c =
     let i = c.self.inside in
     let v : ◌≡◌ {A = Machine} (record { net = i.floor.net; budget = i.budget; journal = i.journal.items; out = i.out.items; is_broken = i.is_broken }) c.args.self.now = c.self.view_is in
     λ e h past_is going is. c.bytes_told.ensures
-    ∙ told_are g.S.Stage.stands i.floor.net i.budget i.journal.items i.out.items i.actors.items i.floor.desk i.floor.pool c.self.invariant.0 c.looks.result c.args.strand e h c.args.seen (subst (λ (z : Machine). past (state_of z) c.args.strand ≡ e ∷ h) (sym v) past_is) going is
-    ∙ ap (λ b. bytes_with b e) c.looks.ensures
+    ∙ told_are g.S.Stage.stands i.floor.net i.budget i.journal.items i.out.items i.actors.items i.floor.desk i.floor.pool c.self.invariant.0 c.args.looks c.args.strand e h c.args.seen (subst (λ (z : Machine). past (state_of z) c.args.strand ≡ e ∷ h) (sym v) past_is) going is
+    ∙ ap (λ b. bytes_with b e) c.requires

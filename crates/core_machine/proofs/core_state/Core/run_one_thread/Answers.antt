@@ -1,7 +1,7 @@
-use Rattle.std.proofs.Common.{rules, ◌≡◌, ◌≤◌, [], ◌∷◌, ◌++◌, length, Some, None, sym, ◌∙◌, ap, subst}
+use Rattle.std.proofs.Common.{rules, ◌≤◌, [], ◌∷◌, ◌++◌, length, Some, sym, ◌∙◌, ap, subst}
 use Rattle.pipe_model.specs.declared.step.Seen.TheVariants.{Saw, Took, Put}
 use Rattle.core_machine.specs.Ahead.{event_ahead}
-use Rattle.core_machine.specs.Answered.{HasRun, LeastEvent, Ends}
+use Rattle.core_machine.specs.Answered.{LeastEvent}
 use Rattle.core_machine.specs.Machine.{Machine, IsLawful}
 use Rattle.core_machine.proofs.Steps.{run_goes, run_idles, run_spends}
 use Rattle.core_machine.proofs.core_state.Core.run_one_thread.Goals as goal

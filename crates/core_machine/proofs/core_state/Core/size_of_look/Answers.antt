@@ -16,4 +16,4 @@ returns-in-Saw g c =
     let v : ◌≡◌ {A = Machine} (record { net = i.floor.net; budget = i.budget; journal = i.journal.items; out = i.out.items; is_broken = i.is_broken }) c.args.self.now = c.self.view_is in
     λ k e may is. c.size_at_hand.ensures
     ∙ looks_long g.S.Stage.stands i.floor.net i.budget i.journal.items i.out.items i.actors.items i.floor.desk i.floor.pool c.self.invariant.0 c.args.strand k e c.in-Saw.i (subst (λ (z : Machine). licence_of z c.args.strand k ≡ Some e) (sym v) may) (is ∙ c.in-Saw.is)
-    ∙ ap (λ b. length (bytes_with b e)) (sym c.if-looks.true ∙ c.looks.ensures)
+    ∙ ap (λ b. length (bytes_with b e)) (sym c.if-looks.true ∙ c.requires)
