@@ -1,5 +1,5 @@
 -- The job that a turn gave may be finished by the pass that made it.
-use Rattle.std.proofs.Common.{◌≡◌, ℕ, List, [], ◌∷◌, ◌++◌, arith, ap, sym, ◌∙◌, subst}
+use Rattle.std.proofs.Common.{ℕ, List, arith, ap, sym, subst}
 use Rattle.pipe_model.specs.declared.net.Strand.{Strand}
 use Rattle.pipe_model.specs.Event.{Event}
 use Rattle.core_machine.specs.Machine.{Machine}
@@ -7,7 +7,7 @@ use Rattle.core_machine.specs.Jobs.{JobState}
 use Rattle.board.specs.Counts.{times}
 use Rattle.board.specs.Calls.{Worked, CanFinish}
 use Rattle.board.specs.declared.view.View.{View}
-use Rattle.board.proofs.Sums.{only, only-same, times-push}
+use Rattle.board.proofs.Sums.{only-same, times-push}
 
 pub work_can : {S : Type 0} (stands : S → Strand → List Event → Type 0) (v w : View) (m : Machine) (s k room : ℕ) (job : JobState S) (place : ℕ) (bytes : List ℕ) → Worked stands v m s k room job place w bytes → CanFinish w job.place
 work_can stands v w m s k room job place bytes t =

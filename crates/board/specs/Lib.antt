@@ -1,7 +1,6 @@
 pub mod Counts
 pub mod Rule
 pub mod Plays
-pub mod Looks
 pub mod Calls
 pub mod Holding
 pub mod Pass

@@ -10,12 +10,15 @@ use stage_steps::Stage;
 use std::alloc::Global;
 use std::snapshot::Snapshot;
 use std::sync::Wait;
+use std::sync::atomic::AtomicU64;
 
 /// A core in a slot that one pass at a time takes in hand, with two words: the length of the journal, and 0 exactly
 /// while the slot is at home.
 #[derive(Drop)]
 pub struct Board<S: Stage> {
     pub(crate) table: Table<Slot<S>, View, About<S>, Order, Global>,
+    // Where those sleep who have nothing to do: 0 until `end_naps`.
+    pub(crate) bell: AtomicU64,
     ghost sized: { (table.shared.table_id.words ≡ 2) × (table.shared.table_id.slots ≡ 1) },
 }
 
@@ -71,7 +74,10 @@ impl<S: Stage> Board<S> {
         slots.push_reserved(Some((core, 0)));
         match Table::new(alloc, &[len, 0], slots, about) {
             Ok((table, seat)) => Ok((
-                Board { table },
+                Board {
+                    table,
+                    bell: AtomicU64::new(0),
+                },
                 Pass {
                     badge: seat.into_badge(),
                     shares: 1 << 32,

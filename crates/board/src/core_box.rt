@@ -1,4 +1,3 @@
-use crate::look::{Look, look_at};
 use core_machine::{Core, Finished, Turned};
 use pipe_model::NoMemory;
 use stage_steps::Stage;
@@ -20,11 +19,10 @@ impl<S: Stage> Model for CoreBox<S> {
 }
 
 impl<S: Stage> CoreBox<S> {
-    ghost use Rattle.std.specs.Prelude.{◌≡◌, ◌≤◌, MatchResult, OnOk, OnErr, true, false, take, vec_capacity};
+    ghost use Rattle.std.specs.Prelude.{◌≡◌, ◌≤◌, MatchResult, OnOk, OnErr, true, false, length, take, vec_capacity};
     ghost use Rattle.core_machine.specs.Machine.{came_home, broke_down, is_among, IsLawful};
     ghost use Rattle.core_machine.specs.Jobs.{DoneStands};
-    ghost use Rattle.core_machine.specs.Answered.{IsRefusal, TurnedAs};
-    ghost use Rattle.board.specs.Looks.{LooksSo};
+    ghost use Rattle.core_machine.specs.Answered.{IsRefusal, TurnedAs, LeastTurnedAs};
 
     /// Want of memory hands the core back.
     pub(crate) fn new(alloc: Global, core: Core<S>) -> Result<CoreBox<S>, Core<S>>
@@ -52,12 +50,19 @@ impl<S: Stage> CoreBox<S> {
         self.core.turn(strand, stream, room)
     }
 
-    /// It makes no event.
-    pub(crate) fn look(&mut self) -> Look
-        ensures same { self.new ≡ self.old }
-        ensures look { LooksSo self.old result }
+    pub(crate) fn turn_least(&mut self, room: &mut Vec<u8>) -> Turned<S>
+        ensures turned { LeastTurnedAs S.stands self.old (vec_capacity room.old) result self.new room.new.items }
+        ensures room { IsRefusal result → (room.new.items ≡ room.old.items) × (vec_capacity room.new ≡ vec_capacity room.old) }
+        ensures capacity { vec_capacity room.old ≤ vec_capacity room.new }
+        ensures lawful { IsLawful self.new }
     {
-        look_at(&mut self.core)
+        self.core.turn_least(room)
+    }
+
+    pub(crate) fn out_count(&self) -> u32
+        ensures { result ≡ length self.now.out }
+    {
+        self.core.out_count()
     }
 
     pub(crate) fn finish(&mut self, done: Finished<S>) -> Result<(), NoMemory>

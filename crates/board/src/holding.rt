@@ -1,8 +1,7 @@
 //! What a pass does while it has the slot in hand: its steps on the core there, and how it gives the slot back.
 use crate::board::{Board, LENGTH, TURN};
-use crate::look::Look;
 use crate::plays::{Brings, Give, Raise, Slot};
-use crate::slot::{count_slot, finish_slot, look_slot, turn_slot};
+use crate::slot::{count_slot, finish_slot, least_slot, out_slot, turn_slot};
 use crate::view::View;
 use atomic_table::Seat;
 use core_machine::{Finished, Turned};
@@ -11,13 +10,12 @@ use std::marker::Brand;
 
 // The core in the slot.
 impl<S: Stage> Board<S> {
-    ghost use Rattle.std.specs.Prelude.{◌≡◌, ◌≤◌, true, take, vec_capacity};
+    ghost use Rattle.std.specs.Prelude.{◌≡◌, ◌≤◌, true, length, take, vec_capacity};
     ghost use Rattle.core_machine.specs.Machine.{is_among, IsLawful};
     ghost use Rattle.core_machine.specs.Jobs.{DoneStands};
-    ghost use Rattle.core_machine.specs.Answered.{IsRefusal, TurnedAs};
+    ghost use Rattle.core_machine.specs.Answered.{IsRefusal, TurnedAs, LeastTurnedAs};
     ghost use Rattle.board.specs.Counts.{all_tries};
     ghost use Rattle.board.specs.Rule.{Kept};
-    ghost use Rattle.board.specs.Looks.{LooksSo};
     ghost use Rattle.board.specs.Holding.{HasKept, IfKept, with_kept, counted, FinishedAs};
 
     pub(crate) fn turn_core(
@@ -38,14 +36,26 @@ impl<S: Stage> Board<S> {
         turn_slot(slot, strand, stream, room)
     }
 
-    pub(crate) fn look_core(&self, seat: &mut Seat<Slot<S>, View>) -> Look
+    pub(crate) fn least_core(&self, seat: &mut Seat<Slot<S>, View>, room: &mut Vec<u8>) -> Turned<S>
         requires id { seat.old.table_id ≡ self.now.table.shared.table_id }
         requires kept { HasKept seat.old.me (λ _. Unit {0}) }
         ensures id { (seat.new.table_id ≡ seat.old.table_id) × (seat.new.id ≡ seat.old.id) }
-        ensures look { IfKept seat.old.me (λ k. (seat.new.me ≡ with_kept seat.old.me.0 k) × LooksSo k.0 result) }
+        ensures turned { IfKept seat.old.me (λ k. (l : Kept) × (seat.new.me ≡ with_kept seat.old.me.0 l) × LeastTurnedAs S.stands k.0 (vec_capacity room.old) result l.0 room.new.items × (l.1 ≡ k.1) × IsLawful l.0) }
+        ensures room { IsRefusal result → (room.new.items ≡ room.old.items) × (vec_capacity room.new ≡ vec_capacity room.old) }
+        ensures capacity { vec_capacity room.old ≤ vec_capacity room.new }
     {
         let slot = seat.slot_mut(&self.table.shared, 0);
-        look_slot(slot)
+        least_slot(slot, room)
+    }
+
+    pub(crate) fn out_core(&self, seat: &mut Seat<Slot<S>, View>) -> u32
+        requires id { seat.old.table_id ≡ self.now.table.shared.table_id }
+        requires kept { HasKept seat.old.me (λ _. Unit {0}) }
+        ensures id { (seat.new.table_id ≡ seat.old.table_id) × (seat.new.id ≡ seat.old.id) }
+        ensures out { IfKept seat.old.me (λ k. (seat.new.me ≡ with_kept seat.old.me.0 k) × (result ≡ length k.0.out)) }
+    {
+        let slot = seat.slot_mut(&self.table.shared, 0);
+        out_slot(slot)
     }
 
     // The answer is whether there was memory.

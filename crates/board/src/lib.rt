@@ -9,7 +9,6 @@ mod finishing;
 mod holding;
 #[cfg(test)]
 mod lone;
-mod look;
 mod pass;
 mod passes;
 mod plays;
@@ -26,5 +25,4 @@ pub use board::Board;
 pub use core_box::CoreBox;
 pub use pass::Pass;
 pub use plays::{Amount, Await, Brings, Cut, Give, Learn, Merge, Order, Raise, Try};
-pub use taking::nap;
 pub use view::View;

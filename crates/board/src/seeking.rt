@@ -1,18 +1,17 @@
 //! Turns of the least strand that may have an event.
-use crate::answers::{TryAny, TryTurn};
+use crate::answers::{Receipt, TryAny};
 use crate::board::{Board, TURN};
-use crate::look::Look;
 use crate::pass::{Pass, sit};
 use crate::plays::{Slot, Try};
 use crate::view::View;
 use atomic_table::Seat;
+use core_machine::Turned;
 use stage_steps::Stage;
 use std::sync::Wait;
 
 // Over a seat.
 impl<S: Stage> Board<S> {
-    ghost use Rattle.std.specs.Prelude.{◌≡◌, ◌≤◌, ◌∷◌, [], Some, vec_capacity};
-    ghost use Rattle.core_machine.specs.Answered.{LeastReady};
+    ghost use Rattle.std.specs.Prelude.{◌≡◌, ◌≤◌, vec_capacity};
     ghost use Rattle.board.specs.Plays.{without_slot};
     ghost use Rattle.board.specs.Calls.{HeldAny, AnyTold, TryAnyTold, HasNone};
     ghost use Rattle.board.specs.Holding.{IsHolder, IsAtRest, HasLetGo, IfKept};
@@ -26,43 +25,29 @@ impl<S: Stage> Board<S> {
         ensures room { HasNone result → (room.new.items ≡ room.old.items) × (vec_capacity room.new ≡ vec_capacity room.old) }
         ensures capacity { vec_capacity room.old ≤ vec_capacity room.new }
     {
-        match self.look_core(seat) {
-            Look::Broken => {
-                self.give(seat);
-                TryAny::Broken
+        match self.least_core(seat, room) {
+            Turned::Work(job) => {
+                self.give_work(seat);
+                let place = job.place();
+                TryAny::Work(job, Receipt { place })
             }
-            Look::Idle(out) => {
+            Turned::NotReady => {
+                let out = self.out_core(seat);
                 self.give(seat);
                 TryAny::Idle { out }
             }
-            Look::Ready(strand, stream) => self.least_held(seat, strand, stream, room),
-        }
-    }
-
-    // The turn of a strand that was found to be the least that may have an event.
-    fn least_held(
-        &self,
-        seat: &mut Seat<Slot<S>, View>,
-        strand: u32,
-        stream: u16,
-        room: &mut Vec<u8>,
-    ) -> TryAny<S>
-        requires id { seat.old.table_id ≡ self.now.table.shared.table_id }
-        requires holder { IsHolder seat.old.me }
-        requires least { IfKept seat.old.me (λ k. LeastReady k.0 (Some (strand, stream))) }
-        ensures id { (seat.new.table_id ≡ seat.old.table_id) × (seat.new.id ≡ seat.old.id) }
-        ensures free { HasLetGo seat.new.me }
-        ensures told { IfKept seat.old.me (λ k. HeldAny S.stands (without_slot seat.old.me.0) k.0 (vec_capacity room.old) result seat.new.me.0 room.new.items) }
-        ensures room { HasNone result → (room.new.items ≡ room.old.items) × (vec_capacity room.new ≡ vec_capacity room.old) }
-        ensures capacity { vec_capacity room.old ≤ vec_capacity room.new }
-    {
-        match self.turn_held(seat, strand, stream, room) {
-            TryTurn::Work(job, receipt) => TryAny::Work(job, receipt),
-            TryTurn::Spent => TryAny::Spent,
-            TryTurn::Room(size) => TryAny::Room(size),
-            TryTurn::Broken => TryAny::Broken,
-            TryTurn::NotReady => unreachable!(),
-            TryTurn::Busy => unreachable!(),
+            Turned::Spent => {
+                self.give(seat);
+                TryAny::Spent
+            }
+            Turned::Room(size) => {
+                self.give(seat);
+                TryAny::Room(size)
+            }
+            Turned::Broken => {
+                self.give(seat);
+                TryAny::Broken
+            }
         }
     }
 

@@ -1,13 +1,11 @@
 //! What the holder of the slot does there, as plain memory.
-ghost use Rattle.std.specs.Prelude.{◌≡◌, ◌+◌, ◌≤◌, true, IfSome, IsSome, OnOk, OnErr, take, vec_capacity};
+ghost use Rattle.std.specs.Prelude.{◌≡◌, ◌+◌, ◌≤◌, true, IfSome, IsSome, OnOk, OnErr, length, take, vec_capacity};
 ghost use Rattle.core_machine.specs.Machine.{came_home, broke_down, is_among, IsLawful};
 ghost use Rattle.core_machine.specs.Jobs.{DoneStands};
-ghost use Rattle.core_machine.specs.Answered.{IsRefusal, TurnedAs};
-ghost use Rattle.board.specs.Looks.{LooksSo};
+ghost use Rattle.core_machine.specs.Answered.{IsRefusal, TurnedAs, LeastTurnedAs};
 ghost use Rattle.board.specs.Counts.{all_tries};
 ghost use Rattle.board.specs.Holding.{FinishedAs};
 
-use crate::look::Look;
 use crate::plays::Slot;
 use core_machine::{Finished, Turned};
 use stage_steps::Stage;
@@ -33,17 +31,34 @@ pub(crate) fn turn_slot<S: Stage>(
     turned
 }
 
-pub(crate) fn look_slot<S: Stage>(slot: &mut Slot<S>) -> Look
+// A turn of the least strand that may have an event.
+pub(crate) fn least_slot<S: Stage>(slot: &mut Slot<S>, room: &mut Vec<u8>) -> Turned<S>
     requires some { IsSome slot.old }
     ensures some { IsSome slot.new }
-    ensures look { IfSome slot.old (λ k. IfSome slot.new (λ l. (l ≡ k) × LooksSo k.0 result)) }
+    ensures turned { IfSome slot.old (λ k. IfSome slot.new (λ l. LeastTurnedAs S.stands k.0 (vec_capacity room.old) result l.0 room.new.items × (l.1 ≡ k.1) × IsLawful l.0)) }
+    ensures room { IsRefusal result → (room.new.items ≡ room.old.items) × (vec_capacity room.new ≡ vec_capacity room.old) }
+    ensures capacity { vec_capacity room.old ≤ vec_capacity room.new }
 {
     let Some((mut core, turns)) = mem::replace(slot, None) else {
         unreachable!()
     };
-    let look = core.look();
+    let turned = core.turn_least(room);
     *slot = Some((core, turns));
-    look
+    turned
+}
+
+// How many jobs are out.
+pub(crate) fn out_slot<S: Stage>(slot: &mut Slot<S>) -> u32
+    requires some { IsSome slot.old }
+    ensures some { IsSome slot.new }
+    ensures out { IfSome slot.old (λ k. IfSome slot.new (λ l. (l ≡ k) × (result ≡ length k.0.out))) }
+{
+    let Some((core, turns)) = mem::replace(slot, None) else {
+        unreachable!()
+    };
+    let out = core.out_count();
+    *slot = Some((core, turns));
+    out
 }
 
 // The answer is whether there was memory.

@@ -6,7 +6,7 @@ use atomic_table::Seat;
 use stage_steps::Stage;
 use std::hint::spin_loop;
 use std::sync::Wait;
-use std::sync::atomic::AtomicU64;
+use std::sync::atomic::Ordering;
 use std::thread::yield_now;
 use std::time::Duration;
 
@@ -21,9 +21,18 @@ const SHORTEST_NAP: u64 = 50;
 
 const LONGEST_NAP: u64 = 1_000;
 
-/// Sleeps so many microseconds, or less. Nobody wakes it, since no other thread has the word.
-pub fn nap<R: Wait>(rt: &R, micros: u64) {
-    AtomicU64::new(0).park_timeout(rt, 0, Duration::from_micros(micros));
+// Naps, of which nothing is proved.
+impl<S: Stage> Board<S> {
+    /// Sleeps so many microseconds, or less, and not at all after `end_naps`.
+    pub fn nap<R: Wait>(&self, rt: &R, micros: u64) {
+        self.bell.park_timeout(rt, 0, Duration::from_micros(micros));
+    }
+
+    /// Wakes all that nap on the board, and lets nobody nap there any more.
+    pub fn end_naps(&self) {
+        self.bell.store(1, Ordering::SeqCst);
+        self.bell.wake_all();
+    }
 }
 
 impl<S: Stage> Board<S> {
@@ -80,7 +89,7 @@ impl<S: Stage> Board<S> {
             if self.take_within(seat, NAPPING_TRIES) {
                 return;
             }
-            nap(rt, micros);
+            self.nap(rt, micros);
             micros = micros.saturating_mul(2).min(LONGEST_NAP);
         }
         unreachable!()

@@ -16,7 +16,7 @@ impl<S: Stage> Board<S> {
     ghost use Rattle.board.specs.Calls.{HeldTurn, TurnTold, TryTurnTold, HasNoJob, GoesOn};
     ghost use Rattle.board.specs.Holding.{IsHolder, IsAtRest, HasLetGo, IfKept};
 
-    pub(crate) fn turn_held(
+    fn turn_held(
         &self,
         seat: &mut Seat<Slot<S>, View>,
         strand: u32,

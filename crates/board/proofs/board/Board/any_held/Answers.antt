@@ -1,45 +1,71 @@
-use Rattle.std.proofs.Common.{◌≡◌, sym, ap, ◌∙◌, refl, subst, Some, None, false, length}
+-- Each refusal gives the core back as it was, and work gives it back with the entry.
+use Rattle.std.proofs.Common.{◌≡◌, ℕ, sym, ap, ◌∙◌, subst, Some, None, false, length}
 use Rattle.std.specs.Prelude.{vec_capacity}
 use Rattle.core_machine.specs.Machine.{Machine}
 use Rattle.core_machine.specs.Answered.{LeastReady}
 use Rattle.board.specs.Rule.{Kept}
-use Rattle.board.specs.Plays.{Sat, without_slot}
-use Rattle.board.specs.Calls.{HeldAny}
-use Rattle.board.specs.Holding.{IfKept}
+use Rattle.board.specs.Plays.{Sat}
+use Rattle.board.specs.Calls.{IsSpent, WantsRoom}
+use Rattle.board.specs.Holding.{with_kept}
 use Rattle.board.proofs.Slots.{one_kept}
-use Rattle.board.proofs.Holder.{same_holder, may_unchanged, refused, refused_broken}
+use Rattle.board.proofs.Holder.{may_unchanged, refused, refused_broken}
+use Rattle.board.proofs.Working.{work_parts, work_told}
 use Rattle.board.proofs.board.Board.any_held.Goals as goal
 
-pub look_core-requires : goal.look_core-requires
-look_core-requires g c = let h = c.requires.holder in record { id = c.requires.id; kept = (h.kept, h.slot, tt) }
+pub least_core-requires : goal.least_core-requires
+least_core-requires g c = let h = c.requires.holder in record { id = c.requires.id; kept = (h.kept, h.slot, tt) }
+
+pub give_work-requires-clause-parts : goal.give_work-requires-clause-parts
+give_work-requires-clause-parts g c = let h = c.requires.holder in let t = c.in-Work.ensures.turned h.kept h.slot in let job = c.in-Work.job in
+    work_parts g.S.Stage.stands c.args.seat.now.me c.least_core.new.seat.me h t.0 job.strand t.2.0 (vec_capacity c.args.room.now) job c.least_core.new.room.items t.1 t.2.2 t.3 t.4
+
+pub returns-in-Work-clause-told : goal.returns-in-Work-clause-told
+returns-in-Work-clause-told g c x at = let h = c.requires.holder in let t = c.in-Work.ensures.turned h.kept h.slot in let job = c.in-Work.job in
+    let same : h.kept ≡ x = one_kept h.kept x (sym h.slot ∙ at) in (
+      t.2.0,
+      subst (λ (y : Kept). LeastReady y.0 (Some (job.strand, t.2.0))) same t.2.1,
+      work_told g.S.Stage.stands c.args.seat.now.me c.least_core.new.seat.me h t.0 job.strand t.2.0 (vec_capacity c.args.room.now) job c.least_core.new.room.items t.1 t.2.2 t.3 t.4
+          c.give_work.new.seat.me c.place-place.result c.place-place.ensures c.give_work.ensures.gave x at,
+    )
+
+pub out_core-out-requires : goal.out_core-out-requires
+out_core-out-requires g c = let h = c.requires.holder in let t = c.in-NotReady.ensures.turned h.kept h.slot in
+    record { id = c.least_core.ensures.id.0 ∙ c.requires.id; kept = (t.0, ap (λ (z : Sat). z.1) t.1, tt) }
 
 pub give-requires-clause-may : goal.give-requires-clause-may
-give-requires-clause-may g c = let h = c.requires.holder in let t = c.in-Broken.ensures.look h.kept h.slot in
-    may_unchanged c.args.seat.now.me c.look_core.new.seat.me h h.kept t.0 refl refl
+give-requires-clause-may g c = let h = c.requires.holder in let t = c.in-NotReady.ensures.turned h.kept h.slot in
+    let o = c.out_core-out.ensures.out t.0 (ap (λ (z : Sat). z.1) t.1) in
+    may_unchanged c.args.seat.now.me c.out_core-out.new.seat.me h t.0 (o.0 ∙ ap (λ (z : Sat). with_kept z.0 t.0) t.1) t.2.2 t.3
 
-pub give-requires-in-Idle-clause-may : goal.give-requires-in-Idle-clause-may
-give-requires-in-Idle-clause-may g c = let h = c.requires.holder in let t = c.in-Idle.ensures.look h.kept h.slot in
-    may_unchanged c.args.seat.now.me c.look_core.new.seat.me h h.kept t.0 refl refl
-
-pub least_held-requires-clause-holder : goal.least_held-requires-clause-holder
-least_held-requires-clause-holder g c = let h = c.requires.holder in let t = c.in-Ready.ensures.look h.kept h.slot in
-    same_holder c.args.seat.now.me c.look_core.new.seat.me h t.0
-
-pub least_held-requires-clause-least : goal.least_held-requires-clause-least
-least_held-requires-clause-least g c k at = let h = c.requires.holder in let t = c.in-Ready.ensures.look h.kept h.slot in
-    let same : h.kept ≡ k = one_kept h.kept k (sym (ap (λ (m : Sat). m.1) t.0) ∙ at) in
-    subst (λ (x : Kept). LeastReady x.0 (Some (c.in-Ready.strand, c.in-Ready.stream))) same t.1.1
-
-pub returns-in-Broken-clause-told : goal.returns-in-Broken-clause-told
-returns-in-Broken-clause-told g c = let h = c.requires.holder in let t = c.in-Broken.ensures.look h.kept h.slot in
-    refused_broken c.args.seat.now.me c.look_core.new.seat.me h h.kept t.0 refl refl c.give.new.seat.me c.give.ensures.gave t.1
-
-pub returns-in-Idle-clause-told : goal.returns-in-Idle-clause-told
-returns-in-Idle-clause-told g c k at = let h = c.requires.holder in let t = c.in-Idle.ensures.look h.kept h.slot in
-    let r = refused c.args.seat.now.me c.look_core.new.seat.me h h.kept t.0 refl refl c.give-in-Idle.new.seat.me (λ (x : Machine). (x.is_broken ≡ false) × LeastReady x None × (c.in-Idle.out ≡ length x.out)) c.give-in-Idle.ensures.gave t.1 k at in
+pub returns-in-NotReady-clause-told : goal.returns-in-NotReady-clause-told
+returns-in-NotReady-clause-told g c x at = let h = c.requires.holder in let t = c.in-NotReady.ensures.turned h.kept h.slot in
+    let o = c.out_core-out.ensures.out t.0 (ap (λ (z : Sat). z.1) t.1) in
+    let r = refused c.args.seat.now.me c.out_core-out.new.seat.me h t.0 (o.0 ∙ ap (λ (z : Sat). with_kept z.0 t.0) t.1) t.2.2 t.3 c.give.new.seat.me
+    (λ (z : Machine). (z.is_broken ≡ false) × LeastReady z None × (c.out_core-out.result ≡ length z.out)) c.give.ensures.gave (t.2.0, t.2.1, o.1 ∙ ap (λ (z : Machine). length z.out) t.2.2) x at in
     (r.0, r.1, r.2.0, r.2.1, r.2.2)
 
-pub returns-in-Ready-clause-told : goal.returns-in-Ready-clause-told
-returns-in-Ready-clause-told g c = let h = c.requires.holder in let t = c.in-Ready.ensures.look h.kept h.slot in let me = c.args.seat.now.me in
-    let whole : c.look_core.new.seat.me ≡ me = ◌∙◌ {A = Sat} t.0 (λ i. (me.0, sym h.slot i)) in
-    subst (λ (m : Sat). IfKept m (λ k. HeldAny g.S.Stage.stands (without_slot m.0) k.0 (vec_capacity c.args.room.now) c.least_held.result c.least_held.new.seat.me.0 c.least_held.new.room.items)) whole c.least_held.ensures.told
+pub give-requires-in-Spent-clause-may : goal.give-requires-in-Spent-clause-may
+give-requires-in-Spent-clause-may g c = let h = c.requires.holder in let t = c.in-Spent.ensures.turned h.kept h.slot in
+    may_unchanged c.args.seat.now.me c.least_core.new.seat.me h t.0 t.1 t.2.2.3 t.3
+
+pub returns-in-Spent-clause-told : goal.returns-in-Spent-clause-told
+returns-in-Spent-clause-told g c = let h = c.requires.holder in let t = c.in-Spent.ensures.turned h.kept h.slot in
+    refused c.args.seat.now.me c.least_core.new.seat.me h t.0 t.1 t.2.2.3 t.3 c.give-in-Spent.new.seat.me (λ (z : Machine). (r : ℕ × ℕ) × LeastReady z (Some r) × IsSpent z r.0 r.1)
+    c.give-in-Spent.ensures.gave (t.2.0, t.2.1, (t.2.2.0, t.2.2.1, t.2.2.2))
+
+pub give-requires-in-Room-clause-may : goal.give-requires-in-Room-clause-may
+give-requires-in-Room-clause-may g c = let h = c.requires.holder in let t = c.in-Room.ensures.turned h.kept h.slot in
+    may_unchanged c.args.seat.now.me c.least_core.new.seat.me h t.0 t.1 t.2.2.5 t.3
+
+pub returns-in-Room-clause-told : goal.returns-in-Room-clause-told
+returns-in-Room-clause-told g c = let h = c.requires.holder in let t = c.in-Room.ensures.turned h.kept h.slot in
+    refused c.args.seat.now.me c.least_core.new.seat.me h t.0 t.1 t.2.2.5 t.3 c.give-in-Room.new.seat.me (λ (z : Machine). (r : ℕ × ℕ) × LeastReady z (Some r) × WantsRoom z r.0 r.1 (vec_capacity c.args.room.now) c.in-Room.size)
+    c.give-in-Room.ensures.gave (t.2.0, t.2.1, (t.2.2.0, t.2.2.1, t.2.2.2, t.2.2.3, t.2.2.4))
+
+pub give-requires-in-Broken-clause-may : goal.give-requires-in-Broken-clause-may
+give-requires-in-Broken-clause-may g c = let h = c.requires.holder in let t = c.in-Broken.ensures.turned h.kept h.slot in
+    may_unchanged c.args.seat.now.me c.least_core.new.seat.me h t.0 t.1 t.2.1 t.3
+
+pub returns-in-Broken-clause-told : goal.returns-in-Broken-clause-told
+returns-in-Broken-clause-told g c = let h = c.requires.holder in let t = c.in-Broken.ensures.turned h.kept h.slot in
+    refused_broken c.args.seat.now.me c.least_core.new.seat.me h t.0 t.1 t.2.1 t.3 c.give-in-Broken.new.seat.me c.give-in-Broken.ensures.gave t.2.0
