@@ -1,0 +1,66 @@
+-- What a turn and a finish leave of a worker's pass.
+use Rattle.std.proofs.Common.{◌≡◌, ℕ, ◌+◌, List, [], ◌∷◌, ◌++◌, length, sym, refl, ap, ◌∙◌, subst, arith, None}
+use Rattle.pipe_model.specs.declared.net.Strand.{Strand}
+use Rattle.pipe_model.specs.Event.{Event}
+use Rattle.core_machine.specs.declared.job.RunEnd.TheVariants as Run
+use Rattle.core_machine.specs.Machine.{Machine}
+use Rattle.core_machine.specs.Jobs.{JobState}
+use Rattle.core_machine.specs.Answered.{LeastReady, Ends}
+use Rattle.board.specs.Counts.{times}
+use Rattle.board.specs.Rule.{machine_of}
+use Rattle.board.specs.Calls.{CanFinish, GoesOn, Worked, Unchanged}
+use Rattle.board.specs.declared.view.View.{View}
+use Rattle.board.proofs.Sums.{times-append, times-one, only-same}
+use Rattle.board.proofs.Prefixes.{prefix_self, prefix_trans}
+use Rattle.workers.specs.Work.{IsSettled, HasWorked, Owes}
+
+module _ {S : Type 0} (stands : S → Strand → List Event → Type 0) (v w : View) (m : Machine) (strand stream room : ℕ) (job : JobState S) (place : ℕ) (bytes : List ℕ)
+    (t : Worked stands v m strand stream room job place w bytes) where
+  made : (q : ℕ) → times q w.mine ≡ times q v.mine + times q (place ∷ [])
+  made q = ap (times q) t.mine ∙ times-append q v.mine (place ∷ [])
+
+  -- the job that a turn gave may be finished
+  pub can_finish : CanFinish w job.place
+  can_finish = subst (CanFinish w) (sym t.place_is.1) (
+    (let a = made place in let b = times-one place place ∙ only-same place in omega arith),
+    ap (times place) t.others.0 ∙ t.new.1,
+    ap (times place) t.others.1 ∙ t.new.2,
+  )
+
+  -- and it is the only one that the pass has out
+  pub owes_one : IsSettled v → Owes w job.place
+  owes_one settled = subst (Owes w) (sym t.place_is.1)
+      (λ q. let a = made q in let b = settled q in let c = ap (times q) t.others.0 in let d = ap (times q) t.others.1 in omega arith)
+
+pub home_settled : (v w : View) (p : ℕ) → Owes v p → w.mine ≡ v.mine → w.home ≡ v.home ++ p ∷ [] → w.lost ≡ v.lost → IsSettled w
+home_settled v w p owes mine home lost q = let a = owes q in let b = ap (times q) mine in let c = ap (times q) home in let d = ap (times q) lost in let e = times-append q v.home (p ∷ []) in omega arith
+
+pub lost_settled : (v w : View) (p : ℕ) → Owes v p → w.mine ≡ v.mine → w.home ≡ v.home → w.lost ≡ v.lost ++ p ∷ [] → IsSettled w
+lost_settled v w p owes mine home lost q = let a = owes q in let b = ap (times q) mine in let c = ap (times q) home in let d = ap (times q) lost in let e = times-append q v.lost (p ∷ []) in omega arith
+
+pub still_settled : (v w : View) → IsSettled v → w.mine ≡ v.mine → (w.home ≡ v.home) × (w.lost ≡ v.lost) → IsSettled w
+still_settled v w settled mine others q = let a = settled q in let b = ap (times q) mine in let c = ap (times q) others.0 in let d = ap (times q) others.1 in omega arith
+
+pub worked_none : (v : View) → HasWorked v v
+worked_none v = record { net = (refl, refl); shares = refl; seen = prefix_self v.seen }
+
+pub worked_more : (u v w : View) → HasWorked u v → HasWorked v w → HasWorked u w
+worked_more u v w a b = record {
+  net = (b.net.0 ∙ a.net.0, b.net.1 ∙ a.net.1);
+  shares = b.shares ∙ a.shares;
+  seen = prefix_trans u.seen v.seen w.seen a.seen b.seen;
+}
+
+pub worked_by : (v w : View) → GoesOn v w → HasWorked v w
+worked_by v w goes = record { net = goes.net; shares = goes.shares; seen = goes.seen }
+
+none_in : (l : List ℕ) → 0 ≡ length l → l ≡ []
+none_in [] e = refl
+none_in (x ∷ l) e = absurd (omega arith)
+
+-- where no strand may have an event and none is out, the journal is complete
+pub idle_completes : (w : View) → LeastReady (machine_of w) None → 0 ≡ length w.out → Ends Run.Complete (machine_of w)
+idle_completes w none out = (none_in w.out out, none)
+
+pub unchanged_settled : (v w : View) (m : Machine) → IsSettled v → Unchanged v m w → IsSettled w
+unchanged_settled v w m settled same = still_settled v w settled same.1 (same.2, same.3)

@@ -1,0 +1,3 @@
+pub mod AfterTurns
+pub mod Dealing
+pub mod Together

@@ -1,0 +1,11 @@
+//! Workers on a board: each works in a thread of its own, and together they run a core to its end.
+#![tactic(auto)]
+
+mod driving;
+mod hands;
+mod turns;
+mod waits;
+mod working;
+
+pub use driving::drive;
+pub use working::{WorkEnd, work};
