@@ -1,5 +1,5 @@
 -- The command that the words of a call mean.
-use Rattle.std.specs.Prelude.{◌&&◌, ◌||◌, ◌≤◌, ⊤, ℕ, List, [], ◌∷◌, Option, Some, None, true, codes, if◌then◌else◌, is_some, length, nat_le, option_and_then, option_map}
+use Rattle.std.specs.Prelude.{◌&&◌, ◌||◌, ◌<◌, ◌≤◌, ⊤, ℕ, List, [], ◌∷◌, Option, Some, None, true, codes, if◌then◌else◌, is_some, length, nat_le, option_and_then, option_map}
 use Rattle.std.specs.Str.{all_ascii_digits}
 use Rattle.clap.specs.Words.{App, Rule, Text, first_of, fault_of, matches_of, new_app, new_rule, with_rule}
 use Rattle.clap.specs.Kinds.{Kinds}
@@ -124,8 +124,8 @@ unless_faulty (kind ∷ kinds) command = None
 abbrev pub command_of : List Text → Option Command
 command_of words = unless_faulty (fault_of app words) (demanded (given_by (λ id. first_of id (matches_of app words))))
 
--- a run and a sample have at most 50,000,000 steps
-abbrev pub StepsWithin : Command → Type 0
-StepsWithin (Run spec workers steps trace) = steps ≤ 50000000
-StepsWithin (Check spec name) = ⊤
-StepsWithin (Sample lines workers steps) = steps ≤ 50000000
+-- a run and a sample have 1 to 64 workers and at most 50,000,000 steps
+abbrev pub IsWithinRanges : Command → Type 0
+IsWithinRanges (Run spec workers steps trace) = (0 < workers) × (workers ≤ 64) × (steps ≤ 50000000)
+IsWithinRanges (Check spec name) = ⊤
+IsWithinRanges (Sample lines workers steps) = (0 < workers) × (workers ≤ 64) × (steps ≤ 50000000)

@@ -1,6 +1,6 @@
 ghost use Rattle.std.specs.Prelude.{IfOk};
 ghost use Rattle.clap.specs.Words.{first_value, found_of};
-ghost use Rattle.call_words.specs.Command.{StepsWithin, check_of, demanded, given_by, run_of, sample_of};
+ghost use Rattle.call_words.specs.Command.{IsWithinRanges, check_of, demanded, given_by, run_of, sample_of};
 ghost use Rattle.call_words.specs.Gives.{Gives};
 
 use crate::command::{Command, WordsFault};
@@ -12,7 +12,7 @@ use std::alloc::Global;
 // The command of what the words give.
 pub fn demanded(alloc: Global, matches: &ArgMatches<'_>) -> Result<Command, WordsFault>
     ensures command { Gives (demanded (given_by (first_value (found_of matches.now)))) result }
-    ensures few { IfOk result StepsWithin }
+    ensures few { IfOk result IsWithinRanges }
 {
     match (
         matches.get_str("spec"),
@@ -29,7 +29,7 @@ pub fn demanded(alloc: Global, matches: &ArgMatches<'_>) -> Result<Command, Word
 // The run of a specification.
 fn run(alloc: Global, spec: &str, matches: &ArgMatches<'_>) -> Result<Command, WordsFault>
     ensures command { Gives (run_of spec.now (given_by (first_value (found_of matches.now)))) result }
-    ensures few { IfOk result StepsWithin }
+    ensures few { IfOk result IsWithinRanges }
 {
     let workers = workers_in(matches.get_str("workers"))?;
     let steps = steps_in(matches.get_str("steps"))?;
@@ -51,7 +51,7 @@ fn check(
     matches: &ArgMatches<'_>,
 ) -> Result<Command, WordsFault>
     ensures command { Gives (check_of spec.now name.now (given_by (first_value (found_of matches.now)))) result }
-    ensures few { IfOk result StepsWithin }
+    ensures few { IfOk result IsWithinRanges }
 {
     if matches.get_str("workers").is_some()
         || matches.get_str("steps").is_some()
@@ -67,7 +67,7 @@ fn check(
 // The sample of so many lines.
 fn sample(lines: &str, matches: &ArgMatches<'_>) -> Result<Command, WordsFault>
     ensures command { Gives (sample_of lines.now (given_by (first_value (found_of matches.now)))) result }
-    ensures few { IfOk result StepsWithin }
+    ensures few { IfOk result IsWithinRanges }
 {
     if matches.get_str("trace").is_some() {
         return Err(WordsFault::Usage);

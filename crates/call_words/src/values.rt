@@ -1,4 +1,4 @@
-ghost use Rattle.std.specs.Prelude.{◌≤◌, IfOk, option_map};
+ghost use Rattle.std.specs.Prelude.{◌<◌, ◌≤◌, IfOk, option_map};
 ghost use Rattle.call_words.specs.Command.{name_if, name_in, number_in, number_or, steps_in, workers_in};
 ghost use Rattle.call_words.specs.Gives.{Gives};
 
@@ -12,7 +12,8 @@ const MOST_NAME: usize = 255;
 
 // The number of workers of a word, 4 where there is none.
 pub fn workers_in(word: Option<&str>) -> Result<u32, WordsFault>
-    ensures { Gives (workers_in (option_map (λ word. word.now) word.entry)) result }
+    ensures workers { Gives (workers_in (option_map (λ word. word.now) word.entry)) result }
+    ensures few { IfOk result (λ workers. (0 < workers) × (workers ≤ 64)) }
 {
     let workers = number_or(4, 1, 64, word)?;
     Ok(workers as u32)
@@ -37,6 +38,7 @@ pub fn lines_in(word: &str) -> Result<u32, WordsFault>
 // The number of a word, or the default where there is none.
 fn number_or(default: u64, least: u64, most: u64, word: Option<&str>) -> Result<u64, WordsFault>
     ensures number { Gives (number_or default least most (option_map (λ word. word.now) word.entry)) result }
+    ensures least { least ≤ default → IfOk result (λ number. least ≤ number) }
     ensures most { default ≤ most → IfOk result (λ number. number ≤ most) }
 {
     match word {
@@ -48,6 +50,7 @@ fn number_or(default: u64, least: u64, most: u64, word: Option<&str>) -> Result<
 // The number of a word, from `least` to `most`.
 fn number_in(least: u64, most: u64, word: &str) -> Result<u64, WordsFault>
     ensures number { Gives (number_in least most word.now) result }
+    ensures least { IfOk result (λ number. least ≤ number) }
     ensures most { IfOk result (λ number. number ≤ most) }
 {
     match number(word.as_bytes()) {

@@ -1,6 +1,6 @@
 ghost use Rattle.std.specs.Prelude.{◌≡◌, IfErr, IfOk, None, Some, map};
 ghost use Rattle.std.specs.String.{string_bytes};
-ghost use Rattle.call_words.specs.Command.{StepsWithin, command_of};
+ghost use Rattle.call_words.specs.Command.{IsWithinRanges, command_of};
 
 use crate::command::{Command, WordsFault};
 use crate::demands::demanded;
@@ -11,7 +11,7 @@ use std::alloc::Global;
 pub fn read_words(alloc: Global, words: &[String]) -> Result<Command, WordsFault>
     ensures read { IfOk result (λ command. command_of (map (λ word. string_bytes word) words.now) ≡ Some command) }
     ensures refused { IfErr result (λ fault. fault ≡ WordsFault.Usage → command_of (map (λ word. string_bytes word) words.now) ≡ None) }
-    ensures few { IfOk result StepsWithin }
+    ensures few { IfOk result IsWithinRanges }
 {
     let matches = matches_of(alloc, words)?;
     demanded(alloc, &matches)

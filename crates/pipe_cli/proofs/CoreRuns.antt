@@ -1,5 +1,5 @@
 -- What a core has done at the end of its run.
-use Rattle.std.proofs.Common.{◌≡◌, ℕ, true, false, List, [], refl, sym, ◌∙◌, ap, subst, arith, None, is_some}
+use Rattle.std.proofs.Common.{◌≡◌, ℕ, true, false, List, refl, sym, ◌∙◌, ap, subst, arith, None, is_some}
 use Rattle.pipe_model.specs.declared.net.Net.{Net}
 use Rattle.pipe_model.specs.declared.step.Entry.{Entry}
 use Rattle.pipe_model.specs.Licence.{licence, none_left}
@@ -7,7 +7,8 @@ use Rattle.pipe_model.specs.Play.{play, IsComplete}
 use Rattle.pipe_model.specs.Reply.{reply}
 use Rattle.core_machine.specs.declared.job.RunEnd.TheVariants as End
 use Rattle.core_machine.specs.Machine.{Machine, started, left_by, state_of, HasStopped, IsLawful}
-use Rattle.core_machine.specs.Answered.{HasRun, Ends}
+use Rattle.core_machine.specs.Answered.{Ends}
+use Rattle.workers.specs.Driven.{HasAdvanced}
 use Rattle.pipe_cli.specs.declared.status.Outcome.{Outcome}
 use Rattle.pipe_cli.specs.declared.status.Outcome.TheVariants.{Spent}
 use Rattle.pipe_cli.specs.Meaning.{outcome_of}
@@ -26,18 +27,15 @@ stopped_all m stopped = subst (λ out. (s k : ℕ) → licence m.net (play m.net
 pub stopped_complete : (m : Machine) → HasStopped m → IsComplete m.net m.journal
 stopped_complete m stopped = complete_if m.net m.journal (stopped_all m stopped)
 
-module _ (net : Net) (steps : ℕ) (old new : Machine) (first : old ≡ started net steps) (run : HasRun old new) (lawful : IsLawful new) where
+module _ (net : Net) (steps : ℕ) (old new : Machine) (first : old ≡ started net steps) (run : HasAdvanced old new) (lawful : IsLawful new) where
   budget_is : new.budget ≡ steps
-  budget_is = ap (λ (m : Machine). m.budget) run.after ∙ ap (λ (m : Machine). m.budget) first
-
-  out_is : new.out ≡ []
-  out_is = ap (λ (m : Machine). m.out) run.after ∙ ap (λ (m : Machine). m.out) first
+  budget_is = run.budget ∙ ap (λ (m : Machine). m.budget) first
 
   run_ended : (outcome : Outcome) → EndsAs steps new outcome → IsRun net steps new outcome
   run_ended outcome ends = record {
-    net_is = ap (λ (m : Machine). m.net) run.after ∙ ap (λ (m : Machine). m.net) first;
+    net_is = run.net ∙ ap (λ (m : Machine). m.net) first;
     legal = lawful.legal;
-    home = out_is;
+    home = run.home;
     within = let w = lawful.within in omega (arith, w, budget_is);
     ends = ends;
   }
@@ -49,4 +47,4 @@ module _ (net : Net) (steps : ℕ) (old new : Machine) (first : old ≡ started 
   -- its journal was full before
   pub run_spent : Ends End.Spent new → IsRun net steps new (Spent steps)
   run_spent ends = run_ended (Spent steps) (spends refl (ends.0 ∙ budget_is)
-      (record { strand = ends.1.0.0; stream = ends.1.0.1 }, subst (λ out. is_some (licence new.net (play new.net new.journal) (left_by new.journal out) ends.1.0.0 ends.1.0.1) ≡ true) out_is ends.1.1.0))
+      (record { strand = ends.1.0.0; stream = ends.1.0.1 }, subst (λ out. is_some (licence new.net (play new.net new.journal) (left_by new.journal out) ends.1.0.0 ends.1.0.1) ≡ true) run.home ends.1.1.0))

@@ -2,7 +2,7 @@ ghost use Rattle.std.specs.Prelude.{◌≡◌, ℕ, map, MatchResult, IfOk};
 ghost use Rattle.std.specs.String.{string_bytes};
 ghost use Rattle.pipe_model.specs.WellFormed.{IsWellFormed};
 ghost use Rattle.net_graph.specs.Fed.{AreUnfiled};
-ghost use Rattle.call_words.specs.Command.{StepsWithin};
+ghost use Rattle.call_words.specs.Command.{IsWithinRanges};
 ghost use Rattle.pipe_cli.specs.Meaning.{IsNetOf, spec_of};
 ghost use Rattle.pipe_cli.specs.Refusals.{IsTextOutcome};
 ghost use Rattle.pipe_cli.specs.Steps.{IsCall, StopsWords};
@@ -27,7 +27,7 @@ pub(crate) fn called(alloc: Global, words: &[String]) -> Result<Call, Outcome>
     ensures called { MatchResult result (λ call. IsCall (map (λ word. string_bytes word) words.now) call.command call.net) (λ outcome. StopsWords (map (λ word. string_bytes word) words.now) outcome) }
     ensures whole { IfOk result (λ call. IsWellFormed call.net) }
     ensures unfiled { IfOk result (λ call. AreUnfiled call.net) }
-    ensures few { IfOk result (λ call. StepsWithin call.command) }
+    ensures few { IfOk result (λ call. IsWithinRanges call.command) }
 {
     let command = match read_words(alloc, words) {
         Ok(command) => command,

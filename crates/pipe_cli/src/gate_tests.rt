@@ -78,7 +78,7 @@ fn pages<R: Files + AllocGlobal>(rt: &R) -> Option<u64> {
     text.as_str().split(' ').next()?.parse().ok()
 }
 
-// LOCATE sees three records, the CONSOLE behind it the two of them that have a `b`, and the reading CONSOLE none.
+// One worker: LOCATE sees three records, the CONSOLE behind it the two of them that have a `b`, and the reading CONSOLE none.
 #[test]
 fn the_gate_is_entered_once_for_each_record_seen(rt: HostRuntime) -> Result<(), Fail> {
     let alloc = rt.alloc();
@@ -87,7 +87,7 @@ fn the_gate_is_entered_once_for_each_record_seen(rt: HostRuntime) -> Result<(), 
         rt: &rt,
         entries: &entries,
     };
-    let words = strings(alloc, &["console | locate /b/ | console"])?;
+    let words = strings(alloc, &["console | locate /b/ | console", "--workers", "1"])?;
     let mut streams = in_memory(alloc, b"ab\ncd\nb", 2, &[], &[], 64)?;
     assert_eq!(rt; call(&rt, alloc, &words, &mut streams, &gate), 0);
     assert!(rt; entries.are(&[1, 2, 1, 1, 2]));
@@ -109,7 +109,7 @@ fn the_gate_is_entered_before_the_work_on_a_record(rt: HostRuntime) -> Result<()
         rt: &rt,
         entries: &entries,
     };
-    let words = strings(alloc, &["console | reverse | hole"])?;
+    let words = strings(alloc, &["console | reverse | hole", "--workers", "1"])?;
     let bytes: Vec<u8> = vec![in alloc; b'x'; LONG]?;
     let mut streams = in_memory(alloc, &bytes, LONG, &[], &[], 64)?;
     assert_eq!(rt; call(&rt, alloc, &words, &mut streams, &gate), 0);

@@ -30,3 +30,5 @@ mod gate_tests;
 mod order_tests;
 #[cfg(test)]
 mod tests;
+#[cfg(test)]
+mod worker_tests;

@@ -28,7 +28,7 @@ use std::thread::Threads;
 /// shelf the files before are. A check fetches the journal before the files, plays it instead of a run, and writes what it is. The sample
 /// reads nothing. The gate is entered before the work on each record that a stage saw.
 pub fn pipe_main<Rt: Threads + Wait + Sync, I: Source, O: Sink, E: Sink, F: Shelf, G: Gate + Sync>(
-    _rt: &Rt,
+    rt: &Rt,
     alloc: Global,
     words: &[String],
     input: &mut I,
@@ -48,12 +48,13 @@ pub fn pipe_main<Rt: Threads + Wait + Sync, I: Source, O: Sink, E: Sink, F: Shel
         (device (E.written diag.old) (E.faults diag.old)) (device (E.written diag.new) (E.faults diag.new))
         result }
 {
-    let told = run(alloc, words, input, output, shelf, gate);
+    let told = run(rt, alloc, words, input, output, shelf, gate);
     report(told, diag)
 }
 
 // Does what the words say, apart from telling the outcome.
-fn run<I: Source, O: Sink, F: Shelf, G: Gate>(
+fn run<Rt: Threads + Wait + Sync, I: Source, O: Sink, F: Shelf, G: Gate + Sync>(
+    rt: &Rt,
     alloc: Global,
     words: &[String],
     input: &mut I,
@@ -72,11 +73,20 @@ fn run<I: Source, O: Sink, F: Shelf, G: Gate>(
         Err(outcome) => return tell(alloc, outcome),
     };
     match command {
-        Command::Run { steps, trace, .. } => {
-            run_call(alloc, net, steps, trace, input, output, shelf, gate)
-        }
+        Command::Run {
+            workers,
+            steps,
+            trace,
+            ..
+        } => run_call(
+            rt, alloc, net, steps, workers, trace, input, output, shelf, gate,
+        ),
         Command::Check { name, .. } => check_call(alloc, net, name, input, output, shelf),
-        Command::Sample { lines, steps, .. } => sample_call(alloc, net, lines, steps, output, gate),
+        Command::Sample {
+            lines,
+            workers,
+            steps,
+        } => sample_call(rt, alloc, net, lines, steps, workers, output, gate),
     }
 }
 

@@ -1,5 +1,5 @@
 //! A net is run, and what comes of it is told.
-ghost use Rattle.std.specs.Prelude.{◌≡◌, ◌≤◌, List, [], ◌∷◌, length, IfOk, MatchOption, MatchResult};
+ghost use Rattle.std.specs.Prelude.{◌≡◌, ◌<◌, ◌≤◌, List, [], ◌∷◌, length, IfOk, MatchOption, MatchResult};
 ghost use Rattle.pipe_model.specs.Reply.{WaitLine, reply, console_from};
 ghost use Rattle.pipe_model.specs.WellFormed.{IsWellFormed};
 ghost use Rattle.core_machine.specs.Machine.{HasStopped, started, state_of};
@@ -17,6 +17,9 @@ use pipe_model::{Net, NoMemory, is_shown, worst};
 use stage_table::{BuiltIn, make_all};
 use stall_report::{report, text};
 use std::alloc::Global;
+use std::sync::Wait;
+use std::thread::Threads;
+use workers::drive;
 
 /// A core that ran a net to its end, or as far as the steps allow, and how that ended.
 #[derive(Drop)]
@@ -25,20 +28,24 @@ pub(crate) struct Ran {
     pub outcome: Outcome,
 }
 
-// The net's core, after it ran so.
-pub(crate) fn run_net<G: Gate>(
+// The net's core, after so many workers ran it so.
+pub(crate) fn run_net<Rt: Threads + Wait + Sync, G: Gate + Sync>(
+    rt: &Rt,
     alloc: Global,
     net: Net,
     steps: u64,
+    workers: u32,
     gate: &G,
 ) -> Result<Ran, NoMemory>
     requires whole { IsWellFormed net }
     requires few { steps ≤ 50000000 }
+    requires workers { (0 < workers) × (workers ≤ 64) }
     ensures run { IfOk result (λ ran. IsRun net steps ran.core ran.outcome) }
     ensures few { IfOk result (λ ran. length ran.core.net.strands ≤ 65536) }
 {
-    let mut core = start_net(alloc, net, steps)?;
-    let outcome = match core.run_one_thread(alloc, gate)? {
+    let core = start_net(alloc, net, steps)?;
+    let (core, end) = drive(rt, alloc, core, workers, gate)?;
+    let outcome = match end {
         RunEnd::Complete => outcome_of(alloc, &core)?,
         RunEnd::Spent => Outcome::Spent(steps),
     };

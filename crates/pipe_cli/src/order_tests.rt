@@ -119,7 +119,7 @@ fn answer_in(alloc: Global, spec: &str, order: Order) -> Result<Option<(u64, Vec
 }
 
 // The text that the writing CONSOLE kept.
-fn text_of<S: Stage>(core: &Core<S>) -> &[u8]
+pub(crate) fn text_of<S: Stage>(core: &Core<S>) -> &[u8]
     requires { core.now.out ≡ [] }
 {
     for strand in 0..core.strand_count() {

@@ -1,5 +1,5 @@
 //! A run of a specification.
-ghost use Rattle.std.specs.Prelude.{◌≡◌, ◌≤◌, ℕ, List, [], Option, length, IfOk, MatchResult};
+ghost use Rattle.std.specs.Prelude.{◌≡◌, ◌<◌, ◌≤◌, ℕ, List, [], Option, length, IfOk, MatchResult};
 ghost use Rattle.pipe_model.specs.declared.net.Net.{Net as NetIs};
 ghost use Rattle.outside.specs.Device.{device};
 ghost use Rattle.pipe_model.specs.WellFormed.{IsWellFormed};
@@ -20,6 +20,8 @@ use outside::{Gate, Shelf, Sink, Source};
 use pipe_model::{Net, NoMemory, Rec};
 use stage_table::BuiltIn;
 use std::alloc::Global;
+use std::sync::Wait;
+use std::thread::Threads;
 
 /// A run of which nothing has been written: its core keeps the text for the output and those of the files.
 #[derive(Drop)]
@@ -32,10 +34,12 @@ pub(crate) struct Ready {
 
 // Feeds the net and runs it, and then writes the output, replaces the files and, if one is named, that of the journal. All texts are made
 // before the first byte is written.
-pub(crate) fn run_call<I: Source, O: Sink, F: Shelf, G: Gate>(
+pub(crate) fn run_call<Rt: Threads + Wait + Sync, I: Source, O: Sink, F: Shelf, G: Gate + Sync>(
+    rt: &Rt,
     alloc: Global,
     net: Net,
     steps: u64,
+    workers: u32,
     trace: Option<Rec>,
     input: &mut I,
     output: &mut O,
@@ -45,6 +49,7 @@ pub(crate) fn run_call<I: Source, O: Sink, F: Shelf, G: Gate>(
     requires whole { IsWellFormed net }
     requires unfiled { AreUnfiled net }
     requires few { steps ≤ 50000000 }
+    requires workers { (0 < workers) × (workers ≤ 64) }
     ensures decides { (words : List (List ℕ)) → RunsNet words net steps trace → Decides words
         (outside (device (I.left input.old) (I.faults input.old)) (device (O.written output.old) (O.faults output.old)) (store (F.files shelf.old) (F.faults shelf.old)))
         (outside (device (I.left input.new) (I.faults input.new)) (device (O.written output.new) (O.faults output.new)) (store (F.files shelf.new) (F.faults shelf.new)))
@@ -55,25 +60,28 @@ pub(crate) fn run_call<I: Source, O: Sink, F: Shelf, G: Gate>(
         Ok(net) => net,
         Err(told) => return told,
     };
-    match make_ready(alloc, net, steps, trace, gate) {
+    match make_ready(rt, alloc, net, steps, workers, trace, gate) {
         Ok(ready) => put_out(alloc, ready, output, shelf),
         Err(NoMemory) => no_memory(),
     }
 }
 
 // Runs the net and makes all texts.
-fn make_ready<G: Gate>(
+fn make_ready<Rt: Threads + Wait + Sync, G: Gate + Sync>(
+    rt: &Rt,
     alloc: Global,
     net: Net,
     steps: u64,
+    workers: u32,
     trace: Option<Rec>,
     gate: &G,
 ) -> Result<Ready, NoMemory>
     requires whole { IsWellFormed net }
     requires few { steps ≤ 50000000 }
+    requires workers { (0 < workers) × (workers ≤ 64) }
     ensures { IfOk result (λ ready. IsReady net steps trace ready) }
 {
-    let ran = run_net(alloc, net, steps, gate)?;
+    let ran = run_net(rt, alloc, net, steps, workers, gate)?;
     let puts = files_of(alloc, &ran.core, &ran.outcome)?;
     let trace = trace_of(alloc, trace, &ran.core)?;
     let told = with_text(alloc, ran.outcome)?;

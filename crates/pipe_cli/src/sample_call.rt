@@ -1,5 +1,5 @@
 //! The sample is run and summed up.
-ghost use Rattle.std.specs.Prelude.{◌≡◌, ◌≤◌, ℕ, List, [], length, IfOk};
+ghost use Rattle.std.specs.Prelude.{◌≡◌, ◌<◌, ◌≤◌, ℕ, List, [], length, IfOk};
 ghost use Rattle.outside.specs.Device.{Device, device};
 ghost use Rattle.pipe_model.specs.Reply.{console_from};
 ghost use Rattle.pipe_model.specs.WellFormed.{IsWellFormed};
@@ -23,47 +23,55 @@ use outside::{Gate, Sink};
 use pipe_model::{Net, NoMemory};
 use stage_table::BuiltIn;
 use std::alloc::Global;
+use std::sync::Wait;
+use std::thread::Threads;
 
 // Runs the sample's net on so many lines, and writes its summary where it ends with code 0.
-pub(crate) fn sample_call<O: Sink, G: Gate>(
+pub(crate) fn sample_call<Rt: Threads + Wait + Sync, O: Sink, G: Gate + Sync>(
+    rt: &Rt,
     alloc: Global,
     net: Net,
     count: u32,
     steps: u64,
+    workers: u32,
     output: &mut O,
     gate: &G,
 ) -> Told
     requires whole { IsWellFormed net }
     requires few { steps ≤ 50000000 }
+    requires workers { (0 < workers) × (workers ≤ 64) }
     ensures decides { (words : List (List ℕ)) (input : Device) (shelf : Store) → SamplesNet words net count steps → Decides words
         (outside input (device (O.written output.old) (O.faults output.old)) shelf)
         (outside input (device (O.written output.new) (O.faults output.new)) shelf)
         result.outcome }
     ensures text { IsTelling result }
 {
-    match summed_up(alloc, net, count, steps, gate) {
+    match summed_up(rt, alloc, net, count, steps, workers, gate) {
         Ok(answer) => give(answer, output),
         Err(NoMemory) => no_memory(),
     }
 }
 
 // Feeds the net and runs it, and makes all texts.
-fn summed_up<G: Gate>(
+fn summed_up<Rt: Threads + Wait + Sync, G: Gate + Sync>(
+    rt: &Rt,
     alloc: Global,
     net: Net,
     count: u32,
     steps: u64,
+    workers: u32,
     gate: &G,
 ) -> Result<Answer, NoMemory>
     requires whole { IsWellFormed net }
     requires few { steps ≤ 50000000 }
+    requires workers { (0 < workers) × (workers ≤ 64) }
     ensures means { IfOk result (λ answer. SampleMeans count (with_input (sample_text count) net) steps answer.told.outcome (output_of answer.text.items)) }
     ensures text { IfOk result (λ answer. IsTelling answer.told) }
 {
     let bytes = sample_input(alloc, count)?;
     let mut net = net;
     feed_input(alloc, &mut net, bytes)?;
-    let ran = run_net(alloc, net, steps, gate)?;
+    let ran = run_net(rt, alloc, net, steps, workers, gate)?;
     let text = match ran.outcome {
         Outcome::Done => summary(alloc, count, &ran.core)?,
         _ => Vec::new(alloc),

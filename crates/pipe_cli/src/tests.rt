@@ -212,14 +212,22 @@ fn files_are_read_before_the_run_and_replaced_after_it(rt: HostRuntime) -> Resul
 const JOURNAL: &[u8] =
     b"pipe-journal 1\n0 0\n1 0\n0 0\n1 0\n1 0\n1 0\n0 0\n0 0\n0 0\n1 0\n1 0\nend 11\n";
 
-const STORING: &[&str] = &["literal a | > x", "--trace", "j"];
+const STORING: &[&str] = &["literal a | > x", "--trace", "j", "--workers", "1"];
 
 const CHECKING: &[&str] = &["literal a | console", "--check", "j"];
 
 #[test]
 fn a_journal_is_stored_and_checked(rt: HostRuntime) -> Result<(), Fail> {
     let alloc = rt.alloc();
-    let spent: &[&str] = &["literal a | > x", "--trace", "j", "--steps", "2"];
+    let spent: &[&str] = &[
+        "literal a | > x",
+        "--trace",
+        "j",
+        "--steps",
+        "2",
+        "--workers",
+        "1",
+    ];
     let two: &[u8] = b"pipe-journal 1\n0 0\n1 0\nend 2\n";
     let (x, bad): (Option<&[u8]>, &[u8]) = (Some(b"a\n"), b"pipe-journal 1\n9 0\nend 1\n");
     // Words, the calls of the shelf that fail, the file `j`, and what comes: status, output, text, and the files `j` and `x`.

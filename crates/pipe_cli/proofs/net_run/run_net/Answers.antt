@@ -8,13 +8,13 @@ use Rattle.pipe_cli.proofs.net_run.run_net.Goals.{in-Complete+in_ok-outcome-in-C
 
 pub returns-clause-run : goal.returns-clause-run
 returns-clause-run g c =
-    let core = c.run_one_thread.new.self in
-    let did = c.in_ok-run_one_thread.ensures in
-    elim c.match-branch-3.branch [
+    let core = c.in_ok-core-2.core in
+    let did = c.in_ok-core-2.ensures in
+    elim c.match-end.branch [
       | in-Complete+in_ok-outcome-in-Complete w ↦
-          run_completed c.args.net c.args.steps c.in_ok-core.core core c.in_ok-core.ensures did.runs.0 did.lawful (subst (λ end. Ends end core) w.in-Complete.is did.runs.1)
-          c.match-branch-3.outcome (w.outcome-is ∙ w.in_ok-outcome-in-Complete.ensures)
+          run_completed c.args.net c.args.steps c.in_ok-core.core core c.in_ok-core.ensures did.advances did.lawful (subst (λ end. Ends end core) w.in-Complete.is did.ends)
+          c.match-end.outcome (w.outcome-is ∙ w.in_ok-outcome-in-Complete.ensures)
       | in-Spent w ↦
           subst (λ (o : Outcome). IsRun c.args.net c.args.steps core o) (sym w.outcome-is)
-          (run_spent c.args.net c.args.steps c.in_ok-core.core core c.in_ok-core.ensures did.runs.0 did.lawful (subst (λ end. Ends end core) w.in-Spent.is did.runs.1))
+          (run_spent c.args.net c.args.steps c.in_ok-core.core core c.in_ok-core.ensures did.advances did.lawful (subst (λ end. Ends end core) w.in-Spent.is did.ends))
     ]
