@@ -14,6 +14,7 @@ pub mod Lows
 pub mod Outs
 pub mod Plays
 pub mod Quiet
+pub mod QuietRuns
 pub mod Sounds
 pub mod Starts
 pub mod Steps

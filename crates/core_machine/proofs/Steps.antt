@@ -7,15 +7,15 @@ use Rattle.core_machine.specs.declared.job.RunEnd.TheVariants.{Complete, Spent}
 use Rattle.core_machine.specs.Answered.{LeastReady, LeastEvent, AreLeast, HasRun, Stepped, Ends}
 use Rattle.core_machine.specs.Machine.{Machine, IsLawful}
 
-append_twice : (xs : List Entry) (x : Entry) (ys : List Entry) → (xs ++ x ∷ []) ++ ys ≡ xs ++ x ∷ ys
+pub append_twice : (xs : List Entry) (x : Entry) (ys : List Entry) → (xs ++ x ∷ []) ++ ys ≡ xs ++ x ∷ ys
 append_twice [] x ys = refl
 append_twice (z ∷ zs) x ys = ap (λ l. z ∷ l) (append_twice zs x ys)
 
-append_three : (xs ys zs : List Entry) → (xs ++ ys) ++ zs ≡ xs ++ (ys ++ zs)
+pub append_three : (xs ys zs : List Entry) → (xs ++ ys) ++ zs ≡ xs ++ (ys ++ zs)
 append_three [] ys zs = refl
 append_three (x ∷ xs) ys zs = ap (λ l. x ∷ l) (append_three xs ys zs)
 
-append_none : (xs : List Entry) → xs ++ [] ≡ xs
+pub append_none : (xs : List Entry) → xs ++ [] ≡ xs
 append_none [] = refl
 append_none (x ∷ xs) = ap (λ l. x ∷ l) (append_none xs)
 

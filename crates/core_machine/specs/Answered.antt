@@ -1,9 +1,10 @@
 -- What the answers of a core tell.
-use Rattle.std.specs.Prelude.{◌≡◌, ℕ, ◌<◌, ◌≤◌, Bool, true, false, List, [], ◌∷◌, ◌++◌, length, Option, Some, None, is_some, ℤ, if◌then◌else◌}
+use Rattle.std.specs.Prelude.{◌≡◌, ◌⊎◌, ℕ, ◌<◌, ◌≤◌, Bool, true, false, List, [], ◌∷◌, ◌++◌, length, Option, Some, None, is_some, ℤ, if◌then◌else◌}
 use Rattle.pipe_model.specs.declared.net.Strand.{Strand}
 use Rattle.pipe_model.specs.declared.step.Entry.{Entry}
 use Rattle.pipe_model.specs.declared.step.Out.TheVariants.{Fresh}
 use Rattle.pipe_model.specs.declared.step.Seen.{Seen}
+use Rattle.pipe_model.specs.declared.step.Seen.TheVariants.{Took, Put}
 use Rattle.pipe_model.specs.declared.step.Want.{Want as Asked}
 use Rattle.pipe_model.specs.declared.step.Want.TheVariants as Ask
 use Rattle.pipe_model.specs.Event.{Event, Want, has_ended, code_of}
@@ -87,12 +88,38 @@ abbrev pub Stepped : Machine → Bool → Machine → Type 0
 Stepped m true n = (e : Entry) × LeastReady m (Some (e.strand, e.stream)) × (n ≡ record m { journal = m.journal ++ e ∷ [] })
 Stepped m false n = (n ≡ m) × ((s k : ℕ) → licence_of m s k ≡ None)
 
--- it broke on the way, with the entries made so far
+-- it broke on the way, with the entries made so far: the job of the last one is out, and no other's
 pub record HasBroken (m n : Machine) : Type 0 where
   pub broken : n.is_broken ≡ true
   pub net : n.net ≡ m.net
   pub budget : n.budget ≡ m.budget
   pub longer : IsLonger m.journal n.journal
+  pub more : length m.journal < length n.journal
+  pub out : n.out ≡ length n.journal ∷ []
+
+-- a record was taken or put: there is nothing to look at
+abbrev pub is_quiet : Seen → Bool
+is_quiet (Took i) = true
+is_quiet (Put o) = true
+is_quiet _ = false
+
+-- each entry that was added was that of the least event that might be, by which a record was taken or put
+abbrev pub AreQuiet : Machine → List Entry → Type 0
+AreQuiet m [] = Unit {0}
+AreQuiet m (e ∷ es) =
+    ((seen : Seen) × LeastEvent m (Some (e.strand, e.stream, seen)) × (is_quiet seen ≡ true)) × AreQuiet (record m { journal = m.journal ++ e ∷ [] }) es
+
+-- the core went on so, by so many steps
+pub record HasRunQuietly (m : Machine) (made : ℕ) (n : Machine) : Type 0 where
+  pub more : List Entry
+  pub quiet : AreQuiet m more
+  pub after : n ≡ record m { journal = m.journal ++ more }
+  pub made_is : made ≡ length more
+
+-- why it goes on no further: all steps that it might make are made, or the budget is used up, or no strand may have an event, or the least is of another kind
+abbrev pub IsQuietEnd : ℕ → ℕ → Machine → Type 0
+IsQuietEnd most made m =
+    (made ≡ most) ⊎ ((length m.journal ≡ m.budget) ⊎ (LeastEvent m None ⊎ ((r : ℕ × ℕ × Seen) × LeastEvent m (Some r) × (is_quiet r.2 ≡ false))))
 
 -- how a run ended
 abbrev pub Ends : RunEnd → Machine → Type 0

@@ -1,21 +1,24 @@
+ghost use Rattle.std.specs.Prelude.{◌≡◌};
+ghost use Rattle.core_machine.specs.Answered.{is_quiet};
+
 use crate::actor::{give_up, resume};
 use crate::core_state::Core;
 use crate::floor::Ahead;
 use crate::job::RunEnd;
 use crate::settling::ends;
-use outside::Gate;
+use outside::{Gate, OpenGate};
 use pipe_model::{Entry, NoMemory, Seen};
 use stage_steps::Stage;
 use std::alloc::Global;
 
 impl<S: Stage> Core<S> {
-    ghost use Rattle.std.specs.Prelude.{◌≡◌, ◌<◌, [], Some, false, ◌++◌, ◌∷◌, length, IfOk, OnOk, OnErr};
+    ghost use Rattle.std.specs.Prelude.{◌≡◌, ◌<◌, ◌≤◌, [], Some, false, ◌++◌, ◌∷◌, length, IfOk, OnOk, OnErr};
     ghost use Rattle.pipe_model.specs.Event.{Event};
     ghost use Rattle.stage_steps.specs.Coroutine.{told};
     ghost use Rattle.core_machine.specs.Ahead.{IsAhead, event_ahead};
     ghost use Rattle.core_machine.specs.declared.floor.Ahead.TheVariants as AheadIs;
     ghost use Rattle.core_machine.specs.Machine.{licence_of, IsLawful};
-    ghost use Rattle.core_machine.specs.Answered.{LeastEvent, HasRun, HasBroken, Ends};
+    ghost use Rattle.core_machine.specs.Answered.{LeastEvent, HasRun, HasRunQuietly, HasBroken, Ends, IsQuietEnd};
 
     /// Makes the least event that may be, of the least strand on its least stream, until there is none or the journal
     /// has as many entries as the budget allows. The gate is entered before the work on each record that a strand saw.
@@ -43,6 +46,37 @@ impl<S: Stage> Core<S> {
             None => Ok(RunEnd::Complete),
             Some(_) => Ok(RunEnd::Spent),
         }
+    }
+
+    /// Makes the least event that may be, again and again, at most so many, as long as by it a record is taken or put. No
+    /// gate is entered for these, and no record is looked at. The answer is how many were made. After want of memory the
+    /// core is broken, and the strand of the last entry is out.
+    pub fn run_quietly(&mut self, alloc: Global, most: u64) -> Result<u64, NoMemory>
+        requires home { self.old.out ≡ [] }
+        requires whole { self.old.is_broken ≡ false }
+        ensures quiet { IfOk result (λ made. HasRunQuietly self.old made self.new × (made ≤ most)) }
+        ensures ends { IfOk result (λ made. IsQuietEnd most made self.new) }
+        ensures lacks { OnErr result (HasBroken self.old self.new) }
+        ensures lawful { IsLawful self.new }
+    {
+        let start = self.len();
+        let end = self.budget.min(start.saturating_add(most));
+        let mut ahead = Ahead::Search;
+        while self.len() < end {
+            ahead = match self.next(ahead) {
+                Ahead::Search => return Ok(self.len() - start),
+                Ahead::Saw(_, _) => return Ok(self.len() - start),
+                Ahead::Took(strand, i) => self.go_on(alloc, &OpenGate, strand, i, Seen::Took(i))?,
+                Ahead::Put(strand, o) => self.go_on(alloc, &OpenGate, strand, o, Seen::Put(o))?,
+                Ahead::Other(strand, stream, seen) => {
+                    if !is_quiet(seen) {
+                        return Ok(self.len() - start);
+                    }
+                    self.go_on_otherwise(alloc, &OpenGate, strand, stream, seen)?
+                }
+            };
+        }
+        Ok(self.len() - start)
     }
 
     // The least event that may be, which is looked for where it isn't known, or `Search` where there is none.
@@ -153,4 +187,11 @@ impl<S: Stage> Core<S> {
     {
         self.floor.least_event()
     }
+}
+
+// Whether what is told is that a record was taken or put.
+fn is_quiet(seen: Seen) -> bool
+    ensures { result ≡ is_quiet seen }
+{
+    matches!(seen, Seen::Took(_) | Seen::Put(_))
 }

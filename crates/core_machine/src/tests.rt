@@ -130,6 +130,25 @@ fn a_turn_is_made_where_it_may_be(rt: HostRuntime) -> Result<(), Fail> {
     Ok(())
 }
 
+// After the last CONSOLE saw a record, it and the others take it and have put it, until the next one is seen.
+#[test]
+fn records_are_taken_and_put_in_a_row(rt: HostRuntime) -> Result<(), Fail> {
+    let alloc = rt.alloc();
+    let notes = Notes::new(alloc);
+    let mut core = passing_core(alloc, 40, &notes)?;
+    let mut room = Vec::with_capacity(alloc, 2)?;
+    for strand in [0, 1, 2, 0, 1, 1, 2, 2] {
+        assert!(rt; work(&mut core, alloc, strand, 0, &mut room)?.is_some());
+    }
+    if core.out_count() > 0 || core.is_broken() {
+        panic!(rt; "a job is out")
+    }
+    assert_eq!(rt; core.run_quietly(alloc, 3)?, 3);
+    assert_eq!(rt; core.run_quietly(alloc, 16)?, 1);
+    assert_eq!(rt; core.len(), 12);
+    Ok(())
+}
+
 fn is_send<T: Send>() {}
 
 // A core and its jobs may go to another thread where its coroutines may.

@@ -16,7 +16,7 @@ use Rattle.core_machine.proofs.core_state.Core.go_on.Goals as goal
 mod ComesHome
 mod GivesUp
 use Rattle.core_machine.proofs.core_state.Core.go_on.Answers.ComesHome.{came}
-use Rattle.core_machine.proofs.core_state.Core.go_on.Answers.GivesUp.{sound_broken, lawful_broken, sound_broken_home, lawful_broken_home}
+use Rattle.core_machine.proofs.core_state.Core.go_on.Answers.GivesUp.{sound_broken, lawful_broken, lacks_broken, sound_broken_home, lawful_broken_home, lacks_broken_home}
 
 pub make-requires : goal.make-requires
 make-requires g c =
@@ -177,3 +177,9 @@ invariant_of-self-in_default-come_home = sound_broken_home
 
 pub returns-in_default-come_home-clause-lawful : goal.returns-in_default-come_home-clause-lawful
 returns-in_default-come_home-clause-lawful = lawful_broken_home
+
+pub returns-in_default-resume-clause-lacks : goal.returns-in_default-resume-clause-lacks
+returns-in_default-resume-clause-lacks = lacks_broken
+
+pub returns-in_default-come_home-clause-lacks : goal.returns-in_default-come_home-clause-lacks
+returns-in_default-come_home-clause-lacks = lacks_broken_home

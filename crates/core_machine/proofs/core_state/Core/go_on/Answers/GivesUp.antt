@@ -1,5 +1,7 @@
 -- A strand whose coroutine wanted memory, in place or as it came home, is given up: the core is sound, and broken.
-use Rattle.std.proofs.Common.{rules, ◌≡◌, ◌<◌, suc, true, Some, [], ◌∷◌, ◌++◌, length, slice_set, sym, ◌∙◌, ap, subst}
+use Rattle.std.proofs.Common.{rules, ◌≡◌, ◌<◌, suc, true, Some, [], ◌∷◌, ◌++◌, length, slice_set, refl, arith, sym, ◌∙◌, ap, subst}
+use Rattle.pipe_model.specs.declared.step.Entry.{Entry}
+use Rattle.pipe_model.proofs.Lists.{length_more}
 use Rattle.core_machine.specs.declared.actor.Actor.{Actor}
 use Rattle.core_machine.specs.Actors.{asking_for, given_up}
 use Rattle.core_machine.specs.Machine.{Machine, licence_of, IsLawful}
@@ -70,3 +72,37 @@ lawful_broken_home g c =
     subst (λ n. IsLawful (record { net = n; budget = i.budget; journal = c.push_reserved.new.self.items; out = c.give_up-in_default-come_home.new.out.items; is_broken = true })) (sym (c.come_home.ensures.net ∙ c.make.ensures.net))
     (subst (λ j. IsLawful (record { net = i.floor.net; budget = i.budget; journal = j; out = c.give_up-in_default-come_home.new.out.items; is_broken = true })) (sym c.push_reserved.ensures.items)
     (record { legal = law.legal; within = law.within; bounded = law.bounded }))
+
+pub lacks_broken : goal.returns-in_default-resume-clause-lacks
+lacks_broken g c =
+    let i = c.self.inside in
+    let v : ◌≡◌ {A = Machine} (record { net = i.floor.net; budget = i.budget; journal = i.journal.items; out = i.out.items; is_broken = i.is_broken }) c.args.self.now = c.self.view_is in
+    let e : Entry = record { strand = c.args.strand; stream = c.args.stream } in
+    let longer : c.push_reserved.new.self.items ≡ c.args.self.now.journal ++ e ∷ [] = c.push_reserved.ensures.items ∙ ap (λ (z : Machine). z.journal ++ e ∷ []) v in
+    let alone : i.out.items ≡ [] = subst (λ (z : Machine). z.out ≡ []) (sym v) c.requires.home in
+    let place : c.len.result ≡ length c.push_reserved.new.self.items = search rules in
+    record {
+      broken = refl;
+      net = c.make.ensures.net ∙ ap (λ (z : Machine). z.net) v;
+      budget = ap (λ (z : Machine). z.budget) v;
+      longer = (e ∷ [], longer);
+      more = let a = length_more c.args.self.now.journal e in let b : length c.push_reserved.new.self.items ≡ length (c.args.self.now.journal ++ e ∷ []) = ap length longer in omega (arith, a, b);
+      out = c.give_up.ensures.out ∙ ap (λ o. o ++ c.len.result ∷ []) alone ∙ ap (λ p. p ∷ []) place;
+    }
+
+pub lacks_broken_home : goal.returns-in_default-come_home-clause-lacks
+lacks_broken_home g c =
+    let i = c.self.inside in
+    let v : ◌≡◌ {A = Machine} (record { net = i.floor.net; budget = i.budget; journal = i.journal.items; out = i.out.items; is_broken = i.is_broken }) c.args.self.now = c.self.view_is in
+    let e : Entry = record { strand = c.args.strand; stream = c.args.stream } in
+    let longer : c.push_reserved.new.self.items ≡ c.args.self.now.journal ++ e ∷ [] = c.push_reserved.ensures.items ∙ ap (λ (z : Machine). z.journal ++ e ∷ []) v in
+    let alone : i.out.items ≡ [] = subst (λ (z : Machine). z.out ≡ []) (sym v) c.requires.home in
+    let place : c.len-in_default-come_home.result ≡ length c.push_reserved.new.self.items = search rules in
+    record {
+      broken = refl;
+      net = c.come_home.ensures.net ∙ c.make.ensures.net ∙ ap (λ (z : Machine). z.net) v;
+      budget = ap (λ (z : Machine). z.budget) v;
+      longer = (e ∷ [], longer);
+      more = let a = length_more c.args.self.now.journal e in let b : length c.push_reserved.new.self.items ≡ length (c.args.self.now.journal ++ e ∷ []) = ap length longer in omega (arith, a, b);
+      out = c.give_up-in_default-come_home.ensures.out ∙ ap (λ o. o ++ c.len-in_default-come_home.result ∷ []) alone ∙ ap (λ p. p ∷ []) place;
+    }
