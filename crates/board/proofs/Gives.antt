@@ -1,18 +1,20 @@
 -- What the holder may give back, and what its view shows then: the core as it was, after an entry, after a job came home and after one was lost.
-use Rattle.std.proofs.Common.{◌≡◌, ℕ, suc, ◌+◌, ◌<◌, ◌≤◌, ◌≢◌, ◌⊎◌, ◌||◌, List, [], ◌∷◌, ◌++◌, length, take, sym, refl, ap, ◌∙◌, subst, inl, inr, arith, length-append, Some, Bool, true, cond, not, eq-eqb, ne_eqb}
+use Rattle.std.proofs.Common.{◌≡◌, ℕ, suc, ◌+◌, ◌<◌, ◌≤◌, ◌≢◌, ◌⊎◌, ◌||◌, List, [], ◌∷◌, ◌++◌, length, take, sym, refl, ap, ◌∙◌, subst, inl, inr, arith, length-append, Some, Bool, true, false, cond, not, eq-eqb, ne_eqb, lt-ltb}
+use Rattle.std.specs.Prelude.{nat_lt}
 use mathlib.Core.Logic.{dite}
 use mathlib.Core.List.{IsPrefix}
 use native.Mathlib.Decide.{ℕ_discrete}
 use Rattle.std.proofs.Math.Bool.{or-false, or-true}
-use Rattle.std.proofs.lemmas.List.{take-append-le, length-take}
+use Rattle.std.proofs.lemmas.List.{nil_from_length, take-append-le, length-take}
 use Rattle.pipe_model.specs.declared.step.Entry.{Entry}
-use Rattle.core_machine.specs.Machine.{IsLawful, turned, came_home, broke_down, without, is_among}
-use Rattle.board.specs.Counts.{times, places, all_shares}
-use Rattle.board.specs.Rule.{Kept, machine_of, MayGive}
-use Rattle.board.specs.Plays.{Sees, IsNew, after_raise, after_give}
+use Rattle.core_machine.specs.Machine.{IsLawful, came_home, broke_down, without, is_among}
+use Rattle.board.specs.Counts.{times, all_shares}
+use Rattle.board.specs.Rule.{Kept, machine_of, made_since, HasMade, MayGive}
+use Rattle.board.specs.Plays.{Sees, AreNew, new_places, after_raise, after_give}
 use Rattle.board.specs.declared.view.View.{View}
-use Rattle.board.proofs.Sums.{only, only-same, only-other, times-append, times-cons, times-one, times-push, places-more, places-above}
+use Rattle.board.proofs.Sums.{only, only-same, only-other, times-append, times-cons, times-one, places-le}
 use Rattle.board.proofs.Prefixes.{prefix_trans}
+use Rattle.board.proofs.Raises.{new_is, mine_more, places_more, raised_parts}
 use Rattle.board.proofs.Moves.{same_machine, lawful_on}
 
 -- Places
@@ -70,7 +72,7 @@ module _ (v : View) (h : Kept) (sees : Sees v h) (p : ℕ) (made : 0 < times p v
   is_out = let one = sees.jobs p made in let is : times p h.0.out ≡ 1 = omega arith in (is, among_of p h.0.out (omega arith))
 
   -- with it there are still no more places than were made
-  one_more : (q : ℕ) → times q v.home + times q v.lost + only q p ≤ times q v.mine
+  pub one_more : (q : ℕ) → times q v.home + times q v.lost + only q p ≤ times q v.mine
   one_more q = let old = sees.parts q in dite (ℕ_discrete p q)
       (λ e. let F : ℕ → Type 0 = λ z. times z v.home + times z v.lost + only z p ≤ times z v.mine in let d = only-same p in subst F e (omega arith))
       (λ ne. let other = only-other q p ne in omega arith)
@@ -124,44 +126,41 @@ module _ (v : View) (h k : Kept) (home lost : List ℕ) (sees : Sees v h) (may :
 
 -- A raise
 
-module _ (v : View) (h : Kept) (e : Entry) (sees : Sees v h) (lawful : IsLawful (turned h.0 e)) where
-  abbrev pub one_longer : Kept
-  one_longer = (turned h.0 e, h.1)
+module _ (v : View) (h k : Kept) (home lost : List ℕ) (t : HasMade v h k home lost) where
+  -- who raised the length word for the core that is held may give it back
+  pub raised_may : MayGive (after_raise home lost v k) k (k.0, k.1 + 1) [] []
+  raised_may = same_may (after_raise home lost v k) k refl t.shares (raised_parts v h k home lost t)
 
-  longer_by_one : length (turned h.0 e).journal ≡ length h.0.journal + 1
-  longer_by_one = length-append h.0.journal (e ∷ [])
+  module _ (sees : Sees v h) where
+    broken_too : 0 < length (v.lost ++ lost) → k.0.is_broken ≡ true
+    broken_too some = let all = length-append v.lost lost in dite (ℕ_discrete (length lost) 0)
+        (λ none. t.broken ∙ ap (λ (b : Bool). b || nat_lt 0 (length lost)) (sees.lost (omega arith)))
+        (λ ne. t.broken ∙ ap (λ (b : Bool). h.0.is_broken || b) (lt-ltb 0 (length lost) (omega arith)) ∙ or-true h.0.is_broken)
 
-  module _ (new : IsNew v (length (turned h.0 e).journal)) where
-    place_more : (p : ℕ) → times p (places (length (turned h.0 e).journal)) ≡ times p (places (length h.0.journal)) + only p (length (turned h.0 e).journal)
-    place_more p = ap (λ (z : ℕ). times p (places z)) longer_by_one ∙ (places-more p (length h.0.journal) ∙ ap (λ (z : ℕ). times p (places (length h.0.journal)) + only p z) (sym longer_by_one))
+    sound_too : (v.lost ≡ [] → h.0.is_broken ≡ false) → v.lost ++ lost ≡ [] → k.0.is_broken ≡ false
+    sound_too sound none = let all = length-append v.lost lost in let empty = ap length none in
+        t.broken ∙ (λ i. sound (nil_from_length v.lost (omega arith)) i || nat_lt 0 (length (nil_from_length lost (omega arith) i)))
 
-    out_more : (p : ℕ) → times p (turned h.0 e).out ≡ times p h.0.out + only p (length (turned h.0 e).journal)
-    out_more p = let same : suc (length h.0.journal) ≡ length (turned h.0 e).journal = let a = longer_by_one in omega arith in
-        times-push p (suc (length h.0.journal)) h.0.out ∙ ap (λ (z : ℕ). times p h.0.out + only p z) same
-
-    mine_more : (p : ℕ) → times p (v.mine ++ length (turned h.0 e).journal ∷ []) ≡ times p v.mine + only p (length (turned h.0 e).journal)
-    mine_more p = times-push p (length (turned h.0 e).journal) v.mine
-
-    -- the holder that made an entry and raised the length word sees the core as it is now
-    pub raised_sees : Sees (after_raise v one_longer) one_longer
-    raised_sees = let len : ℕ = length (turned h.0 e).journal in record {
-      net = sees.net;
-      seen = prefix_trans v.seen h.0.journal (turned h.0 e).journal sees.seen (e ∷ [], refl);
-      lawful = lawful;
-      jobs = λ p made. let a = mine_more p in let b = out_more p in let few = sees.out p in let n = longer_by_one in dite (ℕ_discrete len p)
-          (λ is. let one : only p len ≡ 1 = ap (λ (z : ℕ). only p z) is ∙ only-same p in
-          let none : times p v.home ≡ 0 = ap (λ (z : ℕ). times z v.home) (sym is) ∙ new.1 in
-          let above = places-above p (length h.0.journal) (omega arith) in omega arith)
-          (λ ne. let other = only-other p len ne in let old = sees.jobs p (omega arith) in omega arith);
-      mine = λ p. let a = mine_more p in let b = place_more p in let c = sees.mine p in omega arith;
-      out = λ p. let a = out_more p in let b = place_more p in let c = sees.out p in omega arith;
-      parts = λ p. let a = mine_more p in let b = sees.parts p in omega arith;
-      turns = sees.turns;
-      lost = sees.lost;
+    -- the holder that made entries and raised the length word sees the core as it is now
+    pub raised_sees : AreNew v (new_places v k) → Sees (after_raise home lost v k) k
+    raised_sees new = record {
+      net = λ share. let n = sees.net share in (t.net.0 ∙ n.0, t.net.1 ∙ n.1);
+      seen = prefix_trans v.seen h.0.journal k.0.journal sees.seen t.journal;
+      lawful = t.lawful;
+      jobs = λ p some. let a = times-append p v.home home in let b = t.jobs p in let c = mine_more v h k home lost t p in
+          dite (ℕ_discrete (times p (made_since h k)) 0)
+          (λ none. let old = sees.jobs p (omega arith) in omega arith)
+          (λ ne. let out = sees.out p in let more = places_more v h k home lost t p in let few = places-le p (length k.0.journal) in
+          let fresh = new p (subst (λ (l : List ℕ). 0 < times p l) (sym (new_is v h k home lost t)) (omega arith)) in let none = fresh.1 in omega arith);
+      mine = λ p. let a = mine_more v h k home lost t p in let b = places_more v h k home lost t p in let c = sees.mine p in omega arith;
+      out = λ p. let a = t.jobs p in let b = places_more v h k home lost t p in let c = sees.out p in omega arith;
+      parts = raised_parts v h k home lost t;
+      turns = let a = t.turns in let b = sees.turns in omega arith;
+      lost = broken_too;
       all = λ every. let all = sees.all every in record {
-        mine = λ p. let a = mine_more p in let b = place_more p in let c = all.mine p in omega arith;
-        jobs = λ p. let a = out_more p in let b = place_more p in let c = all.jobs p in omega arith;
-        sound = all.sound;
+        mine = λ p. let a = mine_more v h k home lost t p in let b = places_more v h k home lost t p in let c = all.mine p in omega arith;
+        jobs = λ p. let a = times-append p v.home home in let d = t.jobs p in let b = places_more v h k home lost t p in let c = all.jobs p in omega arith;
+        sound = sound_too all.sound;
       };
     }
 

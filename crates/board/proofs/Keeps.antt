@@ -1,5 +1,5 @@
 -- Each of the five steps that change one view keeps the rule, and tells what it should.
-use Rattle.std.proofs.Common.{◌≡◌, ℕ, suc, ◌+◌, ◌-◌, ◌%◌, ◌^◌, ◌<◌, ◌≤◌, ◌||◌, eqb, List, [], ◌∷◌, ◌++◌, length, get_or, set, sym, refl, ap, ◌∙◌, subst, inl, inr, arith, length-set, get_or-set_other, get_or-set_same, length-append, append-nil, Some, None, Bool}
+use Rattle.std.proofs.Common.{◌≡◌, ℕ, ◌+◌, ◌-◌, ◌%◌, ◌^◌, ◌<◌, ◌≤◌, ◌||◌, eqb, List, [], ◌∷◌, length, get_or, set, sym, refl, ap, ◌∙◌, subst, inl, inr, arith, length-set, get_or-set_other, get_or-set_same, length-append, append-nil, Some, None, Bool}
 use mathlib.Core.Logic.{dite}
 use mathlib.Core.List.{IsPrefix}
 use mathlib.Core.Option.{none, some, some-injective, some-ne-none}
@@ -8,15 +8,15 @@ use lib.ListN.{get_elem?}
 use prog.Atomic.{either}
 use Rattle.atomic_table.specs.Table.{step, Act, keeps, takes, gives, Valid, carried_after, stepped, Allows}
 use Rattle.atomic_table.proofs.Lists.{set_here, exchanged}
-use Rattle.pipe_model.specs.declared.step.Entry.{Entry}
 use Rattle.core_machine.specs.Machine.{IsLawful}
 use Rattle.std.specs.Prelude.{nat_lt}
 use Rattle.board.specs.Counts.{times, places, signum, all_shares, all_tries}
-use Rattle.board.specs.Rule.{Kept, Slot, machine_of, Fits, IsOrdered, MayGive, HasTurned}
-use Rattle.board.specs.Plays.{Sat, after_busy, after_take, Tried, Waited, after_raise, IsNew, Raised, after_give, Gave, Learned}
+use Rattle.board.specs.Rule.{Kept, Slot, machine_of, Fits, IsOrdered, made_since, HasMade, MayGive}
+use Rattle.board.specs.Plays.{Sat, after_busy, after_take, Tried, Waited, new_places, after_raise, AreNew, Raised, after_give, Gave, Learned}
 use Rattle.board.specs.declared.view.View.{View}
-use Rattle.board.proofs.Sums.{term_le, only, places-above, places-le, places-more, times-append, times-push, signum-positive, positive-sum, inside}
+use Rattle.board.proofs.Sums.{term_le, places-le, times-append, signum-positive, positive-sum, inside}
 use Rattle.board.proofs.Prefixes.{prefix_self, prefix_trans}
+use Rattle.board.proofs.Raises.{new_is, mine_more, places_more, raised_parts}
 use Rattle.board.proofs.Moves.{BoardState, state_of_board, held_count, holding, same_machine, lawful_on, goes, unmoved, sees, none_out}
 use Rattle.board.proofs.Slots.{one_kept}
 
@@ -102,26 +102,19 @@ holder : (s : BoardState) (o : IsOrdered s) (id : ℕ) (v : View) (h : Kept) →
 holder s o id v h at held = let x : ℕ = get_or s.words 1 0 in let one : held_count v.held ≡ 1 = ap held_count held in let part = term_le holding s.views id v at in let all = o.holders in
     (o.held id v h at held, dite (ℕ_discrete x 0) (λ z. let down : signum x ≡ 0 = ap signum z in absurd (omega arith)) (λ ne. omega arith), one)
 
-raises_now : (s : BoardState) (o : IsOrdered s) (n id : ℕ) (v : View) (k : Kept) (e : Entry) → get_elem? s.views id ≡ some v → get_or s.words 0 0 < 18446744073709551616 → HasTurned v o.now k e
-    → (w : View) × (a : Act Slot) × Valid s.homes ((0, Some k) ∷ []) a × IsOrdered (stepped s 0 ((get_or s.words 0 0 + 1) % 2 ^ 64) id ((0, Some k) ∷ []) w a)
-    × Raised (step n 0 1 0 none) (v, (0, Some k) ∷ []) (get_or s.words 0 0) (w, carried_after ((0, Some k) ∷ []) a)
-raises_now s o n id v k e at small t =
-    let w : View = after_raise v k in let x : ℕ = get_or s.words 0 0 in let y : ℕ = (x + 1) % 2 ^ 64 in let was : Kept = o.now in let f : Fits was v = o.fits id v at in
+raises_now : (s : BoardState) (o : IsOrdered s) (n id : ℕ) (v : View) (k : Kept) (made : ℕ) (home lost : List ℕ) → get_elem? s.views id ≡ some v → get_or s.words 0 0 < 18446744073709551616 → HasMade v o.now k home lost
+    → length k.0.journal ≡ length o.now.0.journal + made
+    → (w : View) × (a : Act Slot) × Valid s.homes ((0, Some k) ∷ []) a × IsOrdered (stepped s 0 ((get_or s.words 0 0 + made) % 2 ^ 64) id ((0, Some k) ∷ []) w a)
+    × Raised home lost (step n 0 made 0 none) (v, (0, Some k) ∷ []) (get_or s.words 0 0) (w, carried_after ((0, Some k) ∷ []) a)
+raises_now s o n id v k made home lost at small t longer =
+    let w : View = after_raise home lost v k in let x : ℕ = get_or s.words 0 0 in let y : ℕ = (x + made) % 2 ^ 64 in let was : Kept = o.now in let f : Fits was v = o.fits id v at in
     let here = holder s o id v was at t.held in let wide = o.words in let long = o.long in let turn : ℕ = get_or s.words 1 0 in
-    let len : ℕ = length was.0.journal in let most = o.lawful.within in let bounded = o.lawful.bounded in
-    let journal : k.0.journal ≡ was.0.journal ++ e ∷ [] = ap (λ (z : Kept). z.0.journal) t.kept in
-    let out : k.0.out ≡ was.0.out ++ suc len ∷ [] = ap (λ (z : Kept). z.0.out) t.kept in
-    let more : length k.0.journal ≡ len + 1 = ap length journal ∙ length-append was.0.journal (e ∷ []) in
-    let is : y ≡ x + 1 = omega arith in
-    let grows : IsPrefix was.0.journal k.0.journal = (e ∷ [], sym journal) in
-    let number : k.1 ≡ was.1 = ap (λ (z : Kept). z.1) t.kept in
+    let len : ℕ = length was.0.journal in let within = t.lawful.within in let bounded = t.lawful.bounded in
+    let is : y ≡ x + made = omega arith in let number = t.turns in
     let zero_at : get_or (set s.words 0 y) 0 0 ≡ y = get_or-set_same s.words 0 y 0 (omega arith) in
     let one_at : get_or (set s.words 0 y) 1 0 ≡ turn = get_or-set_other s.words 0 1 y 0 (λ e. omega arith) in
     let out_here : 0 < turn = here.1 in
-    let new_place : (p : ℕ) → times p (places (length k.0.journal)) ≡ times p (places len) + only p (length k.0.journal) = λ p. ap (λ (z : ℕ). times p (places z)) more ∙ (places-more p len ∙ ap (λ (z : ℕ). times p (places len) + only p z) (sym more)) in
-    let unmade : times (length k.0.journal) v.mine ≡ 0 = let p : ℕ = length k.0.journal in let part = term_le (λ (u : View). times p u.mine) s.views id v at in let all = o.mine p in let above = places-above p len (omega arith) in omega arith in
-    let mine_more : (p : ℕ) → times p w.mine ≡ times p v.mine + only p (length k.0.journal) = λ p. times-push p (length k.0.journal) v.mine in
-    let out_more : (p : ℕ) → times p k.0.out ≡ times p was.0.out + only p (length k.0.journal) = λ p. let same : suc len ≡ length k.0.journal = omega arith in ap (times p) out ∙ (times-push p (suc len) was.0.out ∙ ap (λ (z : ℕ). times p was.0.out + only p z) same) in (
+    let unmade : (p : ℕ) → 0 < times p (made_since was k) → times p v.mine ≡ 0 = λ p h. let part = term_le (λ (u : View). times p u.mine) s.views id v at in let all = o.mine p in let more = places_more v was k home lost t p in let few = places-le p (length k.0.journal) in omega arith in (
       w,
       keeps,
       tt,
@@ -129,15 +122,15 @@ raises_now s o n id v k e at small t =
         holders = let same : signum (get_or (set s.words 0 y) 1 0) ≡ signum turn = ap signum one_at in let one = here.2 in omega arith;
         held = λ k' e'. cc;
         others = inl (here.2);
-        journal = grows;
-        net = ap (λ (z : Kept). z.0.net) t.kept;
-        budget = ap (λ (z : Kept). z.0.budget) t.kept;
+        journal = t.journal;
+        net = t.net.0;
+        budget = t.net.1;
         later = omega arith;
         fits = record {
-          net = λ h. (ap (λ (z : Kept). z.0.net) t.kept ∙ (f.net h).0, ap (λ (z : Kept). z.0.budget) t.kept ∙ (f.net h).1);
-          seen = prefix_trans v.seen was.0.journal k.0.journal f.seen grows;
+          net = λ h. (t.net.0 ∙ (f.net h).0, t.net.1 ∙ (f.net h).1);
+          seen = prefix_trans v.seen was.0.journal k.0.journal f.seen t.journal;
           told = f.told;
-          parts = λ p. let old = f.parts p in let new = mine_more p in omega arith;
+          parts = raised_parts v was k home lost t;
           turn = let old = f.turn in omega arith;
           used = f.used;
           idle = λ z. let some_share = t.shares in absurd (omega arith);
@@ -145,20 +138,21 @@ raises_now s o n id v k e at small t =
         fresh = λ z. absurd (omega arith);
         newer = λ z. absurd (omega arith);
         latest = λ z. absurd (omega arith);
-        mine = λ p. let a = mine_more p in let b = new_place p in omega arith;
-        jobs = λ p. let a = out_more p in let b = new_place p in omega arith;
-        lost = λ a b same h. let e : a ≡ b = omega arith in ap (λ (z : Kept). z.0.is_broken) t.kept ∙ (h ∙ ap (nat_lt 0) e);
+        mine = λ p. let a = mine_more v was k home lost t p in let b = places_more v was k home lost t p in omega arith;
+        jobs = λ p. let a = times-append p v.home home in let b = places_more v was k home lost t p in let c = t.jobs p in omega arith;
+        lost = λ a c sum h. let e : c ≡ a + length lost = let l = length-append v.lost lost in omega arith in t.broken ∙ (ap (λ (b : Bool). b || nat_lt 0 (length lost)) h ∙ (sym (positive-sum a (length lost)) ∙ ap (nat_lt 0) (sym e)));
         turns = omega arith;
         tries = omega arith;
         shares = refl;
       }),
-      (λ k' e'. let same : k ≡ k' = one_kept k k' e' in subst (λ (z : Kept). ◌≡◌ {A = Sat} (after_raise v k, (0, Some k) ∷ []) (after_raise v z, (0, Some z) ∷ []) × IsNew v (length z.0.journal)) same
-          (refl, (unmade, (let parts = f.parts (length k.0.journal) in omega arith), (let parts = f.parts (length k.0.journal) in omega arith)))),
+      (λ k' e'. let same : k ≡ k' = one_kept k k' e' in subst (λ (z : Kept). ◌≡◌ {A = Sat} (after_raise home lost v k, (0, Some k) ∷ []) (after_raise home lost v z, (0, Some z) ∷ []) × AreNew v (new_places v z)) same
+          (refl, (λ p h. let none = unmade p (subst (λ (l : List ℕ). 0 < times p l) (new_is v was k home lost t) h) in let parts = f.parts p in (none, omega arith, omega arith)))),
     )
 
-pub raises : (n id : ℕ) (m : Sat) (v : View) (h k : Kept) (e : Entry) → m ≡ (v, (0, Some k) ∷ []) → HasTurned v h k e → Allows IsOrdered n id m 0 (λ y. (y + 1) % 2 ^ 64) (Raised (step n 0 1 0 none) m)
-raises n id m v h k e is t = subst (λ (z : Sat). Allows IsOrdered n id z 0 (λ y. (y + 1) % 2 ^ 64) (Raised (step n 0 1 0 none) z)) (sym is)
-    (λ s o _ at small. let here = holder s o id v h at t.held in raises_now s o n id v k e at small (subst (λ (z : Kept). HasTurned v z k e) here.0 t))
+pub raises : (n id : ℕ) (m : Sat) (v : View) (h k : Kept) (made : ℕ) (home lost : List ℕ) → m ≡ (v, (0, Some k) ∷ []) → HasMade v h k home lost → length k.0.journal ≡ length h.0.journal + made
+    → Allows IsOrdered n id m 0 (λ y. (y + made) % 2 ^ 64) (Raised home lost (step n 0 made 0 none) m)
+raises n id m v h k made home lost is t longer = subst (λ (z : Sat). Allows IsOrdered n id z 0 (λ y. (y + made) % 2 ^ 64) (Raised home lost (step n 0 made 0 none) z)) (sym is)
+    (λ s o _ at small. let here = holder s o id v h at t.held in let was = subst (λ (z : Kept). HasMade v z k home lost × (length k.0.journal ≡ length z.0.journal + made)) here.0 (t, longer) in raises_now s o n id v k made home lost at small was.0 was.1)
 
 gives_now : (s : BoardState) (o : IsOrdered s) (n id : ℕ) (v : View) (k : Kept) (home lost : List ℕ) → get_elem? s.views id ≡ some v → length s.homes ≡ 1 → MayGive v o.now k home lost
     → (w : View) × (a : Act Slot) × Valid s.homes ((0, Some k) ∷ []) a × IsOrdered (stepped s 1 0 id ((0, Some k) ∷ []) w a)

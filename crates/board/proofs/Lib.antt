@@ -1,12 +1,14 @@
 pub mod Sums
 pub mod Prefixes
 pub mod Slots
+pub mod Raises
 pub mod Moves
 pub mod Keeps
 pub mod Joins
 pub mod Gives
 pub mod Holder
 pub mod Working
+pub mod Onward
 pub mod Tells
 pub mod Works
 pub mod LoneNet

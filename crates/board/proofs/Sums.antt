@@ -1,5 +1,5 @@
 -- Sums over lists that change at one place, and counts of places.
-use Rattle.std.proofs.Common.{◌≡◌, ℕ, zero, suc, ◌+◌, ◌<◌, ◌≤◌, ◌≢◌, ◌||◌, List, [], ◌∷◌, ◌++◌, length, set, sym, refl, ap, subst, ◌∙◌, arith, cond, eqb, eq-eqb, ne_eqb, lt-ltb}
+use Rattle.std.proofs.Common.{◌≡◌, ℕ, zero, suc, ◌+◌, ◌-◌, ◌<◌, ◌≤◌, ◌≢◌, ◌||◌, List, [], ◌∷◌, ◌++◌, length, set, sym, refl, ap, ◌∙◌, arith, cond, eqb, eq-eqb, ne_eqb, lt-ltb}
 use mathlib.Core.Logic.{dite}
 use native.Mathlib.Decide.{ℕ_discrete}
 use mathlib.Core.Option.{some, some-injective, some-ne-none}
@@ -7,7 +7,7 @@ use lib.ListN.{get_elem?}
 use Rattle.std.specs.Prelude.{sum_by, nat_lt}
 use Rattle.std.specs.List.{range_with_len}
 use Rattle.std.proofs.lemmas.List.Sums.{sum_by-cons, sum_by-append, sum_by_push}
-use Rattle.board.specs.Counts.{times, places, signum}
+use Rattle.board.specs.Counts.{times, places, places_after, signum}
 
 module _ {A : Type 0} (g : A → ℕ) where
   pub sum-one : (x : A) → sum_by g (x ∷ []) ≡ g x
@@ -86,11 +86,7 @@ range_more a (suc n) = let e : a + 1 + n ≡ a + suc n = omega arith in ap (λ (
 places-suc : (p n : ℕ) → times p (places (suc n)) ≡ times p (places n) + only p (suc n)
 places-suc p n = let e : 1 + n ≡ suc n = omega arith in ap (times p) (range_more 1 n) ∙ times-push p (1 + n) (places n) ∙ ap (λ (z : ℕ). times p (places n) + only p z) e
 
--- one entry more is one place more
-pub places-more : (p n : ℕ) → times p (places (n + 1)) ≡ times p (places n) + only p (n + 1)
-places-more p n = let e : suc n ≡ n + 1 = omega arith in subst (λ (m : ℕ). times p (places m) ≡ times p (places n) + only p m) e (places-suc p n)
-
-pub places-above : (p n : ℕ) → n < p → times p (places n) ≡ 0
+places-above : (p n : ℕ) → n < p → times p (places n) ≡ 0
 places-above p zero h = refl
 places-above p (suc n) h = let other = only-other p (suc n) (λ e. omega arith) in let more = places-above p n (omega arith) in omega (arith, places-suc p n)
 
@@ -99,11 +95,28 @@ places-le p zero = omega arith
 places-le p (suc n) = let step = places-suc p n in
     dite (ℕ_discrete (suc n) p) (λ e. let above = places-above p n (omega arith) in let le = only-le p (suc n) in omega arith) (λ ne. let other = only-other p (suc n) ne in let more = places-le p n in omega arith)
 
-pub places-inside : (p n : ℕ) → 0 < p → p ≤ n → times p (places n) ≡ 1
-places-inside p zero h le = absurd (omega arith)
-places-inside p (suc n) h le = let step = places-suc p n in
-    dite (ℕ_discrete (suc n) p) (λ e. let above = places-above p n (omega arith) in let one : only p (suc n) ≡ 1 = ap (λ b. cond b 1 0) (eq-eqb (suc n) p e) in omega arith)
-    (λ ne. let other = only-other p (suc n) ne in let more = places-inside p n h (omega arith) in omega arith)
+-- The places after some entries
+
+range_parts : (a i j : ℕ) → range_with_len a (i + j) ≡ range_with_len a i ++ range_with_len (a + i) j
+range_parts a zero j = let e : 0 + j ≡ j = omega arith in let d : a ≡ a + 0 = omega arith in ap (range_with_len a) e ∙ ap (λ (z : ℕ). range_with_len z j) d
+range_parts a (suc i) j = let e : suc i + j ≡ suc (i + j) = omega arith in let d : a + 1 + i ≡ a + suc i = omega arith in
+    ap (range_with_len a) e ∙ ap (λ (l : List ℕ). a ∷ l) (range_parts (a + 1) i j ∙ ap (λ (z : ℕ). range_with_len (a + 1) i ++ range_with_len z j) d)
+
+-- the places of n entries are those of the first m and those after them
+pub places-parts : (p m n : ℕ) → m ≤ n → times p (places n) ≡ times p (places m) + times p (places_after m n)
+places-parts p m n le = let e : n ≡ m + (n - m) = omega arith in let d : 1 + m ≡ m + 1 = omega arith in
+    ap (λ (z : ℕ). times p (places z)) e ∙ (ap (times p) (range_parts 1 m (n - m) ∙ ap (λ (z : ℕ). places m ++ range_with_len z (n - m)) d) ∙ times-append p (places m) (places_after m n))
+
+pub places_after-none : (m n : ℕ) → n ≡ m → places_after m n ≡ []
+places_after-none m n e = let none : n - m ≡ 0 = omega arith in ap (range_with_len (m + 1)) none
+
+pub places_after-one : (m n : ℕ) → n ≡ m + 1 → places_after m n ≡ n ∷ []
+places_after-one m n e = let one : n - m ≡ 1 = omega arith in ap (range_with_len (m + 1)) one ∙ ap (λ (z : ℕ). z ∷ []) (sym e)
+
+-- where there are some, the last one is the number of entries
+pub places_after-last : (p m n : ℕ) → m < n → times p (places_after m n) ≡ times p (places_after m (n - 1)) + times p (n ∷ [])
+places_after-last p m n lt = let k : ℕ = n - 1 - m in let e : n - m ≡ suc k = omega arith in let d : m + 1 + k ≡ n = omega arith in
+    ap (λ (z : ℕ). times p (range_with_len (m + 1) z)) e ∙ (ap (times p) (range_more (m + 1) k ∙ ap (λ (z : ℕ). range_with_len (m + 1) k ++ z ∷ []) d) ∙ times-append p (places_after m (n - 1)) (n ∷ []))
 
 -- Tests of 0
 

@@ -1,5 +1,5 @@
 -- What the calls of a board say of a pass: v is its view before the call, w its view after, and m the core that the call found in the slot.
-use Rattle.std.specs.Prelude.{◌≡◌, ◌≢◌, ℕ, ◌+◌, ◌<◌, ◌≤◌, true, false, List, [], ◌∷◌, ◌++◌, length, Some, None, is_some, ◌⊎◌}
+use Rattle.std.specs.Prelude.{◌≡◌, ◌≢◌, ℕ, ◌+◌, ◌-◌, ◌<◌, ◌≤◌, true, false, List, [], ◌∷◌, ◌++◌, length, Some, None, is_some, ◌⊎◌}
 use mathlib.Core.List.{IsPrefix}
 use Rattle.pipe_model.specs.declared.net.Strand.{Strand}
 use Rattle.pipe_model.specs.declared.step.Entry.{Entry}
@@ -8,8 +8,8 @@ use Rattle.pipe_model.specs.State.{Who}
 use Rattle.core_machine.specs.declared.job.Turned.TheVariants as Turn
 use Rattle.core_machine.specs.Machine.{Machine, IsLawful, licence_of, looks_at, came_home, broke_down}
 use Rattle.core_machine.specs.Jobs.{JobState, FinishedState}
-use Rattle.core_machine.specs.Answered.{IsLook, TurnedAs, LeastReady}
-use Rattle.board.specs.Counts.{times, places, all_shares}
+use Rattle.core_machine.specs.Answered.{IsLook, TurnedAs, LeastReady, HasRunQuietly, HasBroken, IsQuietEnd}
+use Rattle.board.specs.Counts.{times, places, places_after, all_shares}
 use Rattle.board.specs.Rule.{machine_of}
 use Rattle.board.specs.Plays.{after_busy, without_slot, IsNew}
 use Rattle.board.specs.Pass.{HasParts}
@@ -157,6 +157,28 @@ pub record WasLost (v : View) (m : Machine) (place : ℕ) (w : View) : Type 0 wh
   pub lost : w.lost ≡ v.lost ++ place ∷ []
   pub others : (w.mine ≡ v.mine) × (w.home ≡ v.home)
 
+-- the job came home to the core, which then made so many steps by which a record was taken or put, at most as many as it might; its place and theirs are home
+pub record WentOn (v : View) (m : Machine) (place most : ℕ) (w : View) : Type 0 where
+  pub held : Held v m w
+  pub sound : m.is_broken ≡ false
+  pub made : ℕ
+  pub few : made ≤ most
+  pub core : HasRunQuietly (came_home m place) made (machine_of w)
+  -- where no other job was out it made all that it could
+  pub ends : (came_home m place).out ≡ [] → IsQuietEnd most made (machine_of w)
+  pub mine : w.mine ≡ v.mine ++ places_after (length m.journal) (length w.seen)
+  pub home : w.home ≡ v.home ++ place ∷ places_after (length m.journal) (length w.seen)
+  pub lost : w.lost ≡ v.lost
+
+-- the job came home to the core, and of its steps the last one wanted memory: the core is broken, and the place of that step is lost; the others are home
+pub record FellShort (v : View) (m : Machine) (place : ℕ) (w : View) : Type 0 where
+  pub held : Held v m w
+  pub sound : m.is_broken ≡ false
+  pub core : HasBroken (came_home m place) (machine_of w)
+  pub mine : w.mine ≡ v.mine ++ places_after (length m.journal) (length w.seen)
+  pub home : w.home ≡ v.home ++ place ∷ places_after (length m.journal) (length w.seen - 1)
+  pub lost : w.lost ≡ v.lost ++ length w.seen ∷ []
+
 module _ {S : Type 0} where
   -- what a finish says that held the slot
   abbrev pub HeldFinish : View → Machine → ℕ → TryFinish S → View → Type 0
@@ -167,6 +189,16 @@ module _ {S : Type 0} where
   -- what a finish says that waits for the slot
   abbrev pub FinishTold : View → ℕ → TryFinish S → View → Type 0
   FinishTold v place answer w = (m : Machine) × HeldFinish (less_one_try v) m place answer w
+
+  -- what a finish says that held the slot and went on, by so many steps at most
+  abbrev pub HeldFinishOn : View → Machine → ℕ → ℕ → TryFinish S → View → Type 0
+  HeldFinishOn v m place most End.Home w = WentOn v m place most w
+  HeldFinishOn v m place most End.NoMemory w = WasLost v m place w ⊎ FellShort v m place w
+  HeldFinishOn v m place most (End.Busy back) w = ⊥
+
+  -- what such a finish says, which waits for the slot
+  abbrev pub FinishOnTold : View → ℕ → ℕ → TryFinish S → View → Type 0
+  FinishOnTold v place most answer w = (m : Machine) × HeldFinishOn (less_one_try v) m place most answer w
 
   -- what a finish says that tries once to take the slot: where it is busy, the job is handed back
   abbrev pub TryFinishTold : View → FinishedState S → TryFinish S → View → Type 0

@@ -1,11 +1,14 @@
 -- What a seat knows while it has the slot in hand. It serves the inside.
 use Rattle.std.specs.Prelude.{◌≡◌, ℕ, ◌+◌, ◌<◌, ◌≤◌, Bool, true, false, List, [], ◌∷◌, length, Some, None}
 use Rattle.core_machine.specs.Machine.{Machine, came_home, broke_down}
+use Rattle.core_machine.specs.Answered.{HasRunQuietly, HasBroken, IsQuietEnd}
 use Rattle.board.specs.Counts.{all_tries}
-use Rattle.board.specs.Rule.{Kept, MayGive}
-use Rattle.board.specs.Plays.{Sat, Sees, IsNew, after_raise, after_give}
+use Rattle.board.specs.Rule.{Kept, MayGive, HasMade}
+use Rattle.board.specs.Plays.{Sat, Sees, AreNew, new_places, after_raise, after_give}
 use Rattle.board.specs.Pass.{HasParts}
 use Rattle.board.specs.declared.view.View.{View}
+use Rattle.board.specs.declared.core_box.Came.{Came}
+use Rattle.board.specs.declared.core_box.Came.TheVariants.{Home, Short, Lost}
 
 -- the seat has the slot, with a core and its number
 abbrev pub HasKept : Sat → (Kept → Type 0) → Type 0
@@ -31,9 +34,13 @@ MayGiveBack home lost m = HasKept m (λ k. (k.1 ≤ all_tries) × ((h : Kept) ×
 abbrev pub GaveBack : List ℕ → List ℕ → Sat → Sat → Type 0
 GaveBack home lost m n = IfKept m (λ k. (r : ℕ) × (n ≡ (after_give home lost r m.0 (counted k), [])))
 
--- the seat raised the length word for the last entry of its core, and gave the slot back
-abbrev pub GaveWork : Sat → Sat → Type 0
-GaveWork m n = IfKept m (λ k. ((r : ℕ) × (n ≡ (after_give [] [] r (after_raise m.0 k) (counted k), []))) × IsNew m.0 (length k.0.journal))
+-- the seat may raise the length word by so many entries and give the slot back, with the places that it brought home and those that it lost
+abbrev pub MayGiveMade : ℕ → List ℕ → List ℕ → Sat → Type 0
+MayGiveMade made home lost m = HasKept m (λ k. (k.1 ≤ all_tries) × ((h : Kept) × HasMade m.0 h k home lost × (length k.0.journal ≡ length h.0.journal + made)))
+
+-- and did so
+abbrev pub GaveMade : List ℕ → List ℕ → Sat → Sat → Type 0
+GaveMade home lost m n = IfKept m (λ k. ((r : ℕ) × (n ≡ (after_give [] [] r (after_raise home lost m.0 k) (counted k), []))) × AreNew m.0 (new_places m.0 k))
 
 -- the seat has no slot in hand, and its view says so
 abbrev pub HasLetGo : Sat → Type 0
@@ -59,3 +66,11 @@ pub record IsHolder (m : Sat) : Type 0 where
 abbrev pub FinishedAs : Machine → ℕ → Bool → Machine → Type 0
 FinishedAs m place true n = (m.is_broken ≡ false) × (n ≡ came_home m place)
 FinishedAs m place false n = n ≡ broke_down m
+
+-- how a core brings a job home and goes on by quiet steps, at most so many
+abbrev pub CameAs : ℕ → Machine → ℕ → Came → Machine → Type 0
+CameAs most m place (Home made) n =
+    (m.is_broken ≡ false) × HasRunQuietly (came_home m place) made n × (made ≤ most) × ((came_home m place).out ≡ [] → IsQuietEnd most made n)
+CameAs most m place (Short made) n =
+    (m.is_broken ≡ false) × ((came_home m place).out ≡ []) × HasBroken (came_home m place) n × (length n.journal ≡ length m.journal + made)
+CameAs most m place Lost n = n ≡ broke_down m

@@ -1,10 +1,10 @@
 -- How a view begins, is cut and joined, and what each step tells: of the seat before, the number found and the seat after. It serves the inside.
-use Rattle.std.specs.Prelude.{◌≡◌, ◌≢◌, ℕ, ◌+◌, ◌-◌, ◌<◌, ◌≤◌, List, [], ◌∷◌, ◌++◌, length, Some, None, true, false, cond, nat_lt}
+use Rattle.std.specs.Prelude.{◌≡◌, ◌≢◌, ℕ, ◌+◌, ◌-◌, ◌<◌, ◌≤◌, List, [], ◌∷◌, ◌++◌, length, Option, Some, None, true, false, cond, nat_lt}
 use mathlib.Core.List.{IsPrefix}
 use Rattle.atomic_table.specs.Table.{Me, Step}
 use Rattle.pipe_model.specs.declared.step.Entry.{Entry}
 use Rattle.core_machine.specs.Machine.{Machine, IsLawful}
-use Rattle.board.specs.Counts.{times, places, all_shares, all_tries}
+use Rattle.board.specs.Counts.{times, places, places_after, all_shares, all_tries}
 use Rattle.board.specs.Rule.{Kept, Slot}
 use Rattle.board.specs.declared.view.View.{View}
 
@@ -102,9 +102,18 @@ after_busy v = record v { tries = v.tries - 1 }
 abbrev pub after_take : View → Kept → View
 after_take v k = record v { tries = v.tries - 1; held = Some k }
 
--- the last entry of the core k is one more that this view made
-abbrev pub after_raise : View → Kept → View
-after_raise v k = record v { mine = v.mine ++ length k.0.journal ∷ []; held = Some k }
+-- how many entries the core has that is held
+abbrev pub held_length : Option Kept → ℕ
+held_length (Some h) = length h.0.journal
+held_length None = 0
+
+-- the places of the entries that k has beyond those of the core that the view holds
+abbrev pub new_places : View → Kept → List ℕ
+new_places v k = places_after (held_length v.held) (length k.0.journal)
+
+-- they are this view's, and of its jobs those of the places in home came home and those in lost were lost
+abbrev pub after_raise : List ℕ → List ℕ → View → Kept → View
+after_raise home lost v k = record v { mine = v.mine ++ new_places v k; home = v.home ++ home; lost = v.lost ++ lost; held = Some k }
 
 -- the slot was given back with k, r being what the turn word was
 abbrev pub after_give : List ℕ → List ℕ → ℕ → View → Kept → View
@@ -150,6 +159,10 @@ pub record Sees (v : View) (k : Kept) : Type 0 where
 abbrev pub IsNew : View → ℕ → Type 0
 IsNew v p = (times p v.mine ≡ 0) × (times p v.home ≡ 0) × (times p v.lost ≡ 0)
 
+-- and so is each of these
+abbrev pub AreNew : View → List ℕ → Type 0
+AreNew v new = (p : ℕ) → 0 < times p new → IsNew v p
+
 -- Steps
 
 -- the slot was at home, and is now with this seat
@@ -166,9 +179,9 @@ Tried st m r n = (r ≡ 0 → Took m n) × (r ≢ 0 → (n ≡ (after_busy m.0, 
 abbrev pub Waited : Told
 Waited st m r n = (r ≡ 0 → Took m n) × (r ≢ 0 → n ≡ m)
 
--- a fetch_add of 1 on the length word, by the holder
-abbrev pub Raised : Told
-Raised st m r n = (k : Kept) → m.1 ≡ (0, Some k) ∷ [] → (n ≡ (after_raise m.0 k, (0, Some k) ∷ [])) × IsNew m.0 (length k.0.journal)
+-- a fetch_add on the length word, by the holder, of the number of entries that it made, with the places that were brought home and lost
+abbrev pub Raised : List ℕ → List ℕ → Told
+Raised home lost st m r n = (k : Kept) → m.1 ≡ (0, Some k) ∷ [] → (n ≡ (after_raise home lost m.0 k, (0, Some k) ∷ [])) × AreNew m.0 (new_places m.0 k)
 
 -- a swap of 0 on the turn word, with the places that were brought home and lost
 abbrev pub Gave : List ℕ → List ℕ → Told

@@ -4,9 +4,8 @@ use mathlib.Core.Option.{none, some}
 use mathlib.Core.List.{IsPrefix}
 use lib.ListN.{get_elem?}
 use Rattle.atomic_table.specs.Table.{State}
-use Rattle.pipe_model.specs.declared.step.Entry.{Entry}
-use Rattle.core_machine.specs.Machine.{Machine, IsLawful, turned}
-use Rattle.board.specs.Counts.{times, places, signum, all_shares, all_tries}
+use Rattle.core_machine.specs.Machine.{Machine, IsLawful}
+use Rattle.board.specs.Counts.{times, places, places_after, signum, all_shares, all_tries}
 use Rattle.board.specs.declared.view.View.{View}
 
 -- a core, and how often it was given back
@@ -75,12 +74,21 @@ pub record IsOrdered (s : State Slot View) : Type 0 where
   pub tries : sum_by (λ (v : View). v.tries) s.views + sum_by (λ (v : View). v.used) s.views + slice_index s.words 1 ≡ all_tries
   pub shares : sum_by (λ (v : View). v.shares) s.views ≡ all_shares
 
--- the holder of h turned the core, and the length word is still to be raised
-pub record HasTurned (v : View) (h k : Kept) (e : Entry) : Type 0 where
+-- the places of the entries that k has beyond those of h
+abbrev pub made_since : Kept → Kept → List ℕ
+made_since h k = places_after (length h.0.journal) (length k.0.journal)
+
+-- the holder of h made entries, so that the core is k; of its jobs those of the places in home came home and those in lost were lost. The length word is still to be raised
+pub record HasMade (v : View) (h k : Kept) (home lost : List ℕ) : Type 0 where
   pub held : v.held ≡ Some h
   pub shares : 0 < v.shares
-  pub kept : k ≡ (turned h.0 e, h.1)
+  pub turns : k.1 ≡ h.1
+  pub net : (k.0.net ≡ h.0.net) × (k.0.budget ≡ h.0.budget)
+  pub journal : IsPrefix h.0.journal k.0.journal
   pub lawful : IsLawful k.0
+  pub jobs : (p : ℕ) → times p home + times p k.0.out ≡ times p (made_since h k) + times p h.0.out
+  pub parts : (p : ℕ) → times p v.home + times p home + (times p v.lost + times p lost) ≤ times p v.mine + times p (made_since h k)
+  pub broken : k.0.is_broken ≡ (h.0.is_broken || nat_lt 0 (length lost))
 
 -- the holder of h may give k back, with the places that it brought home and those that it lost
 pub record MayGive (v : View) (h k : Kept) (home lost : List ℕ) : Type 0 where

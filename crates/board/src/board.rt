@@ -1,5 +1,6 @@
 ghost use Rattle.std.specs.Prelude.{◌≡◌};
 
+use crate::bell::Bell;
 use crate::core_box::CoreBox;
 use crate::pass::Pass;
 use crate::plays::{About, Order, Slot};
@@ -10,15 +11,14 @@ use stage_steps::Stage;
 use std::alloc::Global;
 use std::snapshot::Snapshot;
 use std::sync::Wait;
-use std::sync::atomic::AtomicU64;
 
 /// A core in a slot that one pass at a time takes in hand, with two words: the length of the journal, and 0 exactly
 /// while the slot is at home.
 #[derive(Drop)]
 pub struct Board<S: Stage> {
     pub(crate) table: Table<Slot<S>, View, About<S>, Order, Global>,
-    // Where those sleep who have nothing to do: 0 until `end_naps`.
-    pub(crate) bell: AtomicU64,
+    // For those who have nothing to do.
+    pub(crate) bell: Bell,
     ghost sized: { (table.shared.table_id.words ≡ 2) × (table.shared.table_id.slots ≡ 1) },
 }
 
@@ -76,7 +76,7 @@ impl<S: Stage> Board<S> {
             Ok((table, seat)) => Ok((
                 Board {
                     table,
-                    bell: AtomicU64::new(0),
+                    bell: Bell::new(),
                 },
                 Pass {
                     badge: seat.into_badge(),

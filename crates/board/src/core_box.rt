@@ -10,6 +10,17 @@ pub struct CoreBox<S: Stage> {
     core: Box<Core<S>>,
 }
 
+/// What came of a job that was brought home, and of the steps made after it.
+#[derive(Clone, Copy, Debug, PartialEq, Eq)]
+pub(crate) enum Came {
+    /// It is home, and so many steps were made.
+    Home { made: u64 },
+    /// It is home, but the last of so many steps wanted memory.
+    Short { made: u64 },
+    /// There was no memory to bring it home.
+    Lost,
+}
+
 impl<S: Stage> Model for CoreBox<S> {
     ghost use Rattle.core_machine.specs.Machine.{Machine};
 
@@ -23,6 +34,7 @@ impl<S: Stage> CoreBox<S> {
     ghost use Rattle.core_machine.specs.Machine.{came_home, broke_down, is_among, IsLawful};
     ghost use Rattle.core_machine.specs.Jobs.{DoneStands};
     ghost use Rattle.core_machine.specs.Answered.{IsRefusal, TurnedAs, LeastTurnedAs};
+    ghost use Rattle.board.specs.Holding.{CameAs};
 
     /// Want of memory hands the core back.
     pub(crate) fn new(alloc: Global, core: Core<S>) -> Result<CoreBox<S>, Core<S>>
@@ -74,5 +86,34 @@ impl<S: Stage> CoreBox<S> {
         ensures lawful { IsLawful self.new }
     {
         self.core.finish(done)
+    }
+
+    pub(crate) fn len(&self) -> u64
+        ensures { result ≡ length self.now.journal }
+    {
+        self.core.len()
+    }
+
+    /// Brings a job home, and goes on by steps by which a record is taken or put, at most so many, where no other job
+    /// is out.
+    pub(crate) fn finish_and_go_on(&mut self, alloc: Global, done: Finished<S>, most: u64) -> Came
+        requires among { is_among done.place self.old.out ≡ true }
+        requires stands { DoneStands S.stands self.old.net (take done.place self.old.journal) done }
+        ensures came { CameAs most self.old done.place result self.new }
+        ensures lawful { IsLawful self.new }
+    {
+        if self.core.finish(done).is_err() {
+            return Came::Lost;
+        }
+        if self.core.out_count() > 0 {
+            return Came::Home { made: 0 };
+        }
+        let start = self.core.len();
+        match self.core.run_quietly(alloc, most) {
+            Ok(made) => Came::Home { made },
+            Err(_) => Came::Short {
+                made: self.core.len() - start,
+            },
+        }
     }
 }

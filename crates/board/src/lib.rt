@@ -3,9 +3,11 @@
 #![tactic(auto)]
 
 mod answers;
+mod bell;
 mod board;
 mod core_box;
 mod finishing;
+mod going_on;
 mod holding;
 #[cfg(test)]
 mod lone;

@@ -74,14 +74,7 @@ impl<S: Stage> Play<Slot<S>, View> for Await {
     ghost then = { Waited };
 }
 
-/// The holder raises the length word.
-pub struct Raise;
-
-impl<S: Stage> Play<Slot<S>, View> for Raise {
-    ghost then = { Raised };
-}
-
-/// The places that come home and that are lost as the slot is given back. Each call picks them.
+/// The places that come home and that are lost in a step of the holder. Each call picks them.
 pub trait Brings {
     ghost home: { List ℕ };
 
@@ -92,6 +85,13 @@ impl Brings for Brand {
     ghost home = { [] };
 
     ghost lost = { [] };
+}
+
+/// The holder raises the length word by the entries that it made.
+pub struct Raise<B: Brings>(PhantomData<B>);
+
+impl<B: Brings, S: Stage> Play<Slot<S>, View> for Raise<B> {
+    ghost then = { Raised B.home B.lost };
 }
 
 /// The holder gives the slot back.

@@ -4,11 +4,13 @@ ghost use Rattle.core_machine.specs.Machine.{came_home, broke_down, is_among, Is
 ghost use Rattle.core_machine.specs.Jobs.{DoneStands};
 ghost use Rattle.core_machine.specs.Answered.{IsRefusal, TurnedAs, LeastTurnedAs};
 ghost use Rattle.board.specs.Counts.{all_tries};
-ghost use Rattle.board.specs.Holding.{FinishedAs};
+ghost use Rattle.board.specs.Holding.{FinishedAs, CameAs};
 
+use crate::core_box::Came;
 use crate::plays::Slot;
 use core_machine::{Finished, Turned};
 use stage_steps::Stage;
+use std::alloc::Global;
 use std::mem;
 
 pub(crate) fn turn_slot<S: Stage>(
@@ -75,6 +77,28 @@ pub(crate) fn finish_slot<S: Stage>(slot: &mut Slot<S>, done: Finished<S>) -> bo
     let home = core.finish(done).is_ok();
     *slot = Some((core, turns));
     home
+}
+
+// Brings a job home and goes on. The second of the answer is how many entries the journal has now.
+pub(crate) fn finish_on_slot<S: Stage>(
+    alloc: Global,
+    slot: &mut Slot<S>,
+    done: Finished<S>,
+    most: u64,
+) -> (Came, u64)
+    requires some { IsSome slot.old }
+    requires among { IfSome slot.old (λ k. is_among done.place k.0.out ≡ true) }
+    requires stands { IfSome slot.old (λ k. DoneStands S.stands k.0.net (take done.place k.0.journal) done) }
+    ensures some { IsSome slot.new }
+    ensures came { IfSome slot.old (λ k. IfSome slot.new (λ l. CameAs most k.0 done.place result.0 l.0 × (result.1 ≡ length l.0.journal) × (l.1 ≡ k.1) × IsLawful l.0)) }
+{
+    let Some((mut core, turns)) = mem::replace(slot, None) else {
+        unreachable!()
+    };
+    let came = core.finish_and_go_on(alloc, done, most);
+    let len = core.len();
+    *slot = Some((core, turns));
+    (came, len)
 }
 
 pub(crate) fn count_slot<S: Stage>(slot: &mut Slot<S>)

@@ -6,9 +6,7 @@ use atomic_table::Seat;
 use stage_steps::Stage;
 use std::hint::spin_loop;
 use std::sync::Wait;
-use std::sync::atomic::Ordering;
 use std::thread::yield_now;
-use std::time::Duration;
 
 // How often one looks at the slot before it lets others run.
 const AWAKE_TRIES: u32 = 100;
@@ -20,20 +18,6 @@ const NAPPING_TRIES: u32 = 16;
 const SHORTEST_NAP: u64 = 50;
 
 const LONGEST_NAP: u64 = 1_000;
-
-// Naps, of which nothing is proved.
-impl<S: Stage> Board<S> {
-    /// Sleeps so many microseconds, or less, and not at all after `end_naps`.
-    pub fn nap<R: Wait>(&self, rt: &R, micros: u64) {
-        self.bell.park_timeout(rt, 0, Duration::from_micros(micros));
-    }
-
-    /// Wakes all that nap on the board, and lets nobody nap there any more.
-    pub fn end_naps(&self) {
-        self.bell.store(1, Ordering::SeqCst);
-        self.bell.wake_all();
-    }
-}
 
 impl<S: Stage> Board<S> {
     ghost use Rattle.std.specs.Prelude.{◌≡◌, true, false};
@@ -89,7 +73,7 @@ impl<S: Stage> Board<S> {
             if self.take_within(seat, NAPPING_TRIES) {
                 return;
             }
-            self.nap(rt, micros);
+            self.bell.nap(rt, micros);
             micros = micros.saturating_mul(2).min(LONGEST_NAP);
         }
         unreachable!()

@@ -6,6 +6,7 @@ use crate::{Board, Pass, TryAny, TryFinish, TryTurn};
 use pipe_model::{NoMemory, Seen};
 use stage_steps::{Listed, Stage, TextLines};
 use std::alloc::Global;
+use std::sync::Wait;
 use std::test::Fail;
 
 fn is_send<T: Send>() {}
@@ -24,12 +25,15 @@ fn a_board_and_its_passes_may_go_to_other_threads() {
     all_may_cross::<Listed<TextLines>>();
 }
 
-// The event of the least strand that may have one, with its work: what its coroutine was told.
-fn work<S: Stage>(
+// The event of the least strand that may have one, with its work: what its coroutine was told. The core goes on then, or
+// it doesn't.
+fn work<S: Stage, R: Wait>(
+    rt: &R,
     board: &Board<S>,
     pass: &mut Pass,
     alloc: Global,
     room: &mut Vec<u8>,
+    goes_on: bool,
 ) -> Result<Option<Seen>, NoMemory>
     requires board { board_of pass.old ≡ board_id board.now }
     requires tries { 2 ≤ (view pass.old).tries }
@@ -42,7 +46,12 @@ fn work<S: Stage>(
     };
     let seen = job.seen();
     let done = job.run(alloc, room);
-    let TryFinish::Home = board.try_finish(pass, done) else {
+    let answer = if goes_on {
+        board.finish_and_go_on(rt, alloc, pass, done, 16)
+    } else {
+        board.try_finish(pass, done)
+    };
+    let TryFinish::Home = answer else {
         return Err(NoMemory);
     };
     Ok(Some(seen))
@@ -57,11 +66,11 @@ fn passes_make_events_and_meet(rt: HostRuntime) -> Result<(), Fail> {
     };
     let mut room = Vec::new(alloc);
     assert_eq!(rt;
-        work(&board, &mut pass, alloc, &mut room)?,
+        work(&rt, &board, &mut pass, alloc, &mut room, false)?,
         Some(Seen::Up(-1, 0))
     );
     assert_eq!(rt;
-        work(&board, &mut pass, alloc, &mut room)?,
+        work(&rt, &board, &mut pass, alloc, &mut room, true)?,
         Some(Seen::Up(0, 0))
     );
     let (mut a, mut b) = board.split(pass, 1_000);

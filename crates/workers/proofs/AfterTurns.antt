@@ -1,16 +1,16 @@
 -- What a turn and a finish leave of a worker's pass.
-use Rattle.std.proofs.Common.{◌≡◌, ℕ, ◌+◌, List, [], ◌∷◌, ◌++◌, length, sym, refl, ap, ◌∙◌, subst, arith, None}
+use Rattle.std.proofs.Common.{◌≡◌, ℕ, ◌+◌, ◌-◌, List, [], ◌∷◌, ◌++◌, length, sym, refl, ap, ◌∙◌, subst, arith, None}
 use Rattle.pipe_model.specs.declared.net.Strand.{Strand}
 use Rattle.pipe_model.specs.Event.{Event}
 use Rattle.core_machine.specs.declared.job.RunEnd.TheVariants as Run
 use Rattle.core_machine.specs.Machine.{Machine}
 use Rattle.core_machine.specs.Jobs.{JobState}
 use Rattle.core_machine.specs.Answered.{LeastReady, Ends}
-use Rattle.board.specs.Counts.{times}
+use Rattle.board.specs.Counts.{times, places_after}
 use Rattle.board.specs.Rule.{machine_of}
-use Rattle.board.specs.Calls.{CanFinish, GoesOn, Worked, Unchanged}
+use Rattle.board.specs.Calls.{CanFinish, GoesOn, Worked, Unchanged, WentOn, FellShort, less_one_try}
 use Rattle.board.specs.declared.view.View.{View}
-use Rattle.board.proofs.Sums.{times-append, times-one, only-same}
+use Rattle.board.proofs.Sums.{times-append, times-cons, times-one, only-same, places_after-last}
 use Rattle.board.proofs.Prefixes.{prefix_self, prefix_trans}
 use Rattle.workers.specs.Work.{IsSettled, HasWorked, Owes}
 
@@ -32,11 +32,23 @@ module _ {S : Type 0} (stands : S → Strand → List Event → Type 0) (v w : V
   owes_one settled = subst (Owes w) (sym t.place_is.1)
       (λ q. let a = made q in let b = settled q in let c = ap (times q) t.others.0 in let d = ap (times q) t.others.1 in omega arith)
 
-pub home_settled : (v w : View) (p : ℕ) → Owes v p → w.mine ≡ v.mine → w.home ≡ v.home ++ p ∷ [] → w.lost ≡ v.lost → IsSettled w
-home_settled v w p owes mine home lost q = let a = owes q in let b = ap (times q) mine in let c = ap (times q) home in let d = ap (times q) lost in let e = times-append q v.home (p ∷ []) in omega arith
-
 pub lost_settled : (v w : View) (p : ℕ) → Owes v p → w.mine ≡ v.mine → w.home ≡ v.home → w.lost ≡ v.lost ++ p ∷ [] → IsSettled w
 lost_settled v w p owes mine home lost q = let a = owes q in let b = ap (times q) mine in let c = ap (times q) home in let d = ap (times q) lost in let e = times-append q v.lost (p ∷ []) in omega arith
+
+-- the job came home and further steps were made, which are home too
+pub went_settled : (v w : View) (m : Machine) (place most : ℕ) → Owes v place → WentOn (less_one_try v) m place most w → IsSettled w
+went_settled v w m place most owes t q =
+    let new : List ℕ = places_after (length m.journal) (length w.seen) in
+    let a = owes q in let b = ap (times q) t.mine ∙ times-append q v.mine new in let c = ap (times q) t.home ∙ times-append q v.home (place ∷ new) in
+    let d = times-cons q place new in let e = times-one q place in let f = ap (times q) t.lost in omega arith
+
+-- the same, but the last of these steps is lost
+pub short_settled : (v w : View) (m : Machine) (place : ℕ) → Owes v place → FellShort (less_one_try v) m place w → IsSettled w
+short_settled v w m place owes t q =
+    let n : ℕ = length w.seen in let new : List ℕ = places_after (length m.journal) n in let rest : List ℕ = places_after (length m.journal) (n - 1) in
+    let a = owes q in let b = ap (times q) t.mine ∙ times-append q v.mine new in let c = ap (times q) t.home ∙ times-append q v.home (place ∷ rest) in
+    let d = times-cons q place rest in let e = times-one q place in let f = ap (times q) t.lost ∙ times-append q v.lost (n ∷ []) in
+    let last = places_after-last q (length m.journal) n t.core.more in omega arith
 
 pub still_settled : (v w : View) → IsSettled v → w.mine ≡ v.mine → (w.home ≡ v.home) × (w.lost ≡ v.lost) → IsSettled w
 still_settled v w settled mine others q = let a = settled q in let b = ap (times q) mine in let c = ap (times q) others.0 in let d = ap (times q) others.1 in omega arith

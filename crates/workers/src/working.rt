@@ -58,7 +58,7 @@ pub fn work<S: Stage + Send, R: Wait, G: Gate + Sync>(
             AfterTurn::Idle => waits.wait(rt, board),
             AfterTurn::Ended(end) => {
                 if matches!(end, WorkEnd::Complete | WorkEnd::Spent | WorkEnd::Broken) {
-                    board.end_naps();
+                    board.end_rest();
                 }
                 return end;
             }

@@ -9,15 +9,15 @@ use Rattle.board.specs.Calls.{IsSpent, WantsRoom}
 use Rattle.board.specs.Holding.{with_kept}
 use Rattle.board.proofs.Slots.{one_kept}
 use Rattle.board.proofs.Holder.{may_unchanged, refused, refused_broken}
-use Rattle.board.proofs.Working.{work_parts, work_told}
+use Rattle.board.proofs.Working.{work_may, work_told}
 use Rattle.board.proofs.board.Board.any_held.Goals as goal
 
 pub least_core-requires : goal.least_core-requires
 least_core-requires g c = let h = c.requires.holder in record { id = c.requires.id; kept = (h.kept, h.slot, tt) }
 
-pub give_work-requires-clause-parts : goal.give_work-requires-clause-parts
-give_work-requires-clause-parts g c = let h = c.requires.holder in let t = c.in-Work.ensures.turned h.kept h.slot in let job = c.in-Work.job in
-    work_parts g.S.Stage.stands c.args.seat.now.me c.least_core.new.seat.me h t.0 job.strand t.2.0 (vec_capacity c.args.room.now) job c.least_core.new.room.items t.1 t.2.2 t.3 t.4
+pub give_work-requires-clause-may : goal.give_work-requires-clause-may
+give_work-requires-clause-may g c = let h = c.requires.holder in let t = c.in-Work.ensures.turned h.kept h.slot in let job = c.in-Work.job in
+    work_may g.S.Stage.stands c.args.seat.now.me c.least_core.new.seat.me h t.0 job.strand t.2.0 (vec_capacity c.args.room.now) job c.least_core.new.room.items t.1 t.2.2 t.3 t.4
 
 pub returns-in-Work-clause-told : goal.returns-in-Work-clause-told
 returns-in-Work-clause-told g c x at = let h = c.requires.holder in let t = c.in-Work.ensures.turned h.kept h.slot in let job = c.in-Work.job in

@@ -3,15 +3,15 @@ use Rattle.std.specs.Prelude.{vec_capacity}
 use Rattle.core_machine.specs.Machine.{Machine}
 use Rattle.board.specs.Calls.{IsUnready, IsSpent, WantsRoom}
 use Rattle.board.proofs.Holder.{may_unchanged, refused, refused_broken}
-use Rattle.board.proofs.Working.{work_parts, work_told}
+use Rattle.board.proofs.Working.{work_may, work_told}
 use Rattle.board.proofs.board.Board.turn_held.Goals as goal
 
 pub turn_core-requires : goal.turn_core-requires
 turn_core-requires g c = let h = c.requires.holder in record { id = c.requires.id; kept = (h.kept, h.slot, tt) }
 
-pub give_work-requires-clause-parts : goal.give_work-requires-clause-parts
-give_work-requires-clause-parts g c = let h = c.requires.holder in let t = c.in-Work.ensures.turned h.kept h.slot in
-    work_parts g.S.Stage.stands c.args.seat.now.me c.turn_core.new.seat.me h t.0 c.args.strand c.args.stream (vec_capacity c.args.room.now) c.in-Work.job c.turn_core.new.room.items t.1 t.2 t.3 t.4
+pub give_work-requires-clause-may : goal.give_work-requires-clause-may
+give_work-requires-clause-may g c = let h = c.requires.holder in let t = c.in-Work.ensures.turned h.kept h.slot in
+    work_may g.S.Stage.stands c.args.seat.now.me c.turn_core.new.seat.me h t.0 c.args.strand c.args.stream (vec_capacity c.args.room.now) c.in-Work.job c.turn_core.new.room.items t.1 t.2 t.3 t.4
 
 pub returns-in-Work-clause-told : goal.returns-in-Work-clause-told
 returns-in-Work-clause-told g c = let h = c.requires.holder in let t = c.in-Work.ensures.turned h.kept h.slot in
