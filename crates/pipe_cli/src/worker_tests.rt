@@ -4,7 +4,7 @@ use crate::called::{Call, called};
 use crate::net_run::start_net;
 use crate::order_tests::text_of;
 use crate::tests::{call, in_memory, strings};
-use board::Board;
+use board::{Board, TryFinish, TryTurn};
 use core_machine::{Core, RunEnd};
 use outside::{Gate, OpenGate};
 use pipe_model::NoMemory;
@@ -131,5 +131,39 @@ fn workers_make_as_many_entries_as_one_thread(rt: HostRuntime) -> Result<(), Fai
         assert_eq!(rt; core.len(), 32);
         assert_eq!(rt; text_of(&core), b"yy1\n".as_slice());
     }
+    Ok(())
+}
+
+// Two passes turn a strand each, and each brings its own job home.
+#[test]
+fn two_passes_bring_home_their_own_jobs(rt: HostRuntime) -> Result<(), Fail> {
+    let alloc = rt.alloc();
+    let core = core_of(alloc, "literal a | console", 11)?;
+    let Ok((board, pass)) = Board::new(alloc, core) else {
+        return Err(NoMemory.into());
+    };
+    let (mut a, mut b) = board.split(pass, 8);
+    let mut room = Vec::new(alloc);
+    let mut other_room = Vec::new(alloc);
+    let TryTurn::Work(job, receipt) = board.try_turn(&mut a, 0, 0, &mut room) else {
+        panic!(rt; "no event of the first strand")
+    };
+    assert_eq!(rt; receipt.place, 1);
+    let TryTurn::NotReady = board.try_turn(&mut b, 0, 0, &mut other_room) else {
+        panic!(rt; "a second event of a strand that is out")
+    };
+    let TryTurn::Work(other_job, other_receipt) = board.try_turn(&mut b, 1, 0, &mut other_room)
+    else {
+        panic!(rt; "no event of the second strand")
+    };
+    assert_eq!(rt; other_receipt.place, 2);
+    let done = job.run(alloc, &room);
+    let other_done = other_job.run(alloc, &other_room);
+    let TryFinish::Home = board.try_finish(&mut a, done) else {
+        panic!(rt; "the first job isn't home")
+    };
+    let TryFinish::Home = board.finish(&rt, &mut b, other_done) else {
+        panic!(rt; "the second job isn't home")
+    };
     Ok(())
 }
