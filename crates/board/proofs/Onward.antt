@@ -12,7 +12,7 @@ use Rattle.board.specs.Calls.{CanFinish, CameHome, WentOn, FellShort}
 use Rattle.board.specs.Holding.{IfKept, with_kept, MayGiveBack, GaveBack, MayGiveMade, GaveMade, IsHolder, FinishedAs, CameAs}
 use Rattle.board.specs.declared.core_box.Came.TheVariants.{Home, Short}
 use Rattle.board.specs.declared.view.View.{View}
-use Rattle.board.proofs.Sums.{only, times-cons, times-one, places_after-none, places_after-last}
+use Rattle.board.proofs.Sums.{only, times-append, times-cons, times-one, places_after-none, places_after-last}
 use Rattle.board.proofs.Gives.{is_out, one_more, taken_out}
 use Rattle.board.proofs.Holder.{of_kept, home_back, home_told, may_made, given_made}
 
@@ -20,12 +20,12 @@ use Rattle.board.proofs.Holder.{of_kept, home_back, home_told, may_made, given_m
 
 module _ (most : ℕ) (m k n : Machine) (p : ℕ) (sound : m.is_broken ≡ false) (home : k ≡ came_home m p) where
   pub came_on : (made : ℕ) → HasRunQuietly k made n → made ≤ most → IsQuietEnd most made n → CameAs most m p (Home made) n
-  came_on made run few ends = (sound, subst (λ (x : Machine). HasRunQuietly x made n) home run, few, λ _. ends)
+  came_on made run few ends = (sound, subst (λ (x : Machine). HasRunQuietly x made n) home run, few, ends)
 
-  pub came_short : (start len : ℕ) → length k.out ≤ 0 → HasBroken k n → start ≡ length k.journal → len ≡ length n.journal → CameAs most m p (Short (len - start)) n
-  came_short start len none broken start_is len_is =
+  pub came_short : (start len : ℕ) → HasBroken k n → start ≡ length k.journal → len ≡ length n.journal → CameAs most m p (Short (len - start)) n
+  came_short start len broken start_is len_is =
       let same : length k.journal ≡ length m.journal = ap (λ (x : Machine). length x.journal) home in let more = broken.more in
-      (sound, ap (λ (x : Machine). x.out) (sym home) ∙ nil_from_length k.out (omega arith), subst (λ (x : Machine). HasBroken x n) home broken, omega arith)
+      (sound, subst (λ (x : Machine). HasBroken x n) home broken, omega arith)
 
 -- No step was made
 
@@ -44,7 +44,7 @@ went_nowhere v m p most w n f c =
       made = 0;
       few = f.2;
       core = subst (HasRunQuietly (came_home m p) 0) shows f.1;
-      ends = λ alone. subst (IsQuietEnd most 0) shows (f.3 alone);
+      ends = subst (IsQuietEnd most 0) shows f.3;
       mine = c.others.0 ∙ (sym (append-nil v.mine) ∙ ap (λ (l : List ℕ). v.mine ++ l) (sym none));
       home = c.home ∙ ap (λ (l : List ℕ). v.home ++ p ∷ l) (sym none);
       lost = c.others.1;
@@ -102,7 +102,7 @@ module _ (m n : Sat) (h : IsHolder m) (l : Kept) (p most made : ℕ) (can : CanF
           made = made;
           few = f.2;
           core = subst (HasRunQuietly (came_home h.kept.0 p) made) (sym g.core) f.1;
-          ends = λ alone. subst (IsQuietEnd most made) (sym g.core) (f.3 alone);
+          ends = subst (IsQuietEnd most made) (sym g.core) f.3;
           mine = g.mine ∙ ap (λ (j : List Entry). m.0.mine ++ places_after old_length (length j)) same;
           home = g.home_is ∙ ap (λ (j : List Entry). m.0.home ++ p ∷ places_after old_length (length j)) same;
           lost = g.lost_is ∙ append-nil m.0.lost;
@@ -128,13 +128,13 @@ module _ (m n : Sat) (h : IsHolder m) (l : Kept) (p most made : ℕ) (can : CanF
       held = h.held;
       shares = h.shares;
       turns = turns;
-      net = (f.2.net, f.2.budget);
-      journal = (f.2.longer.0, sym f.2.longer.1);
+      net = (f.1.net, f.1.budget);
+      journal = (f.1.longer.0, sym f.1.longer.1);
       lawful = lawful;
-      jobs = λ q. let a = taken_out q p h.kept.0.out out_one in let b = times-cons q p but_last in let c = times-one q p in let none : times q (without p h.kept.0.out) ≡ 0 = ap (times q) f.1 in
-          let last = places_after-last q old_length new_length f.2.more in let d : times q l.0.out ≡ times q (new_length ∷ []) = ap (times q) f.2.out in omega arith;
-      parts = λ q. let a = more q in let b = times-cons q p but_last in let last = places_after-last q old_length new_length f.2.more in omega arith;
-      broken = f.2.broken ∙ sym (or-true h.kept.0.is_broken);
+      jobs = λ q. let a = taken_out q p h.kept.0.out out_one in let b = times-cons q p but_last in let c = times-one q p in
+          let last = places_after-last q old_length new_length f.1.more in let d = ap (times q) f.1.out ∙ times-append q (without p h.kept.0.out) (new_length ∷ []) in omega arith;
+      parts = λ q. let a = more q in let b = times-cons q p but_last in let last = places_after-last q old_length new_length f.1.more in omega arith;
+      broken = f.1.broken ∙ sym (or-true h.kept.0.is_broken);
     }
 
     fell : (w : Sat) → GaveMade (p ∷ but_last) (new_length ∷ []) n w → FellShort (without_slot m.0) h.kept.0 p w.0
@@ -144,7 +144,7 @@ module _ (m n : Sat) (h : IsHolder m) (l : Kept) (p most made : ℕ) (can : CanF
         record {
           held = g.held;
           sound = f.0;
-          core = subst (HasBroken (came_home h.kept.0 p)) (sym g.core) f.2;
+          core = subst (HasBroken (came_home h.kept.0 p)) (sym g.core) f.1;
           mine = g.mine ∙ ap (λ (j : List Entry). m.0.mine ++ places_after old_length (length j)) same;
           home = g.home_is ∙ ap (λ (j : List Entry). m.0.home ++ p ∷ places_after old_length (length j - 1)) same;
           lost = g.lost_is ∙ ap (λ (j : List Entry). m.0.lost ++ length j ∷ []) same;
@@ -152,10 +152,10 @@ module _ (m n : Sat) (h : IsHolder m) (l : Kept) (p most made : ℕ) (can : CanF
 
     module _ (place len : ℕ) (is : place ≡ p) (now : len ≡ new_length) where
       short_list : place ∷ places_after (len - made) (len - 1) ≡ p ∷ but_last
-      short_list = let old : len - made ≡ old_length = let a = f.3 in omega arith in λ i. is i ∷ places_after (old i) (now i - 1)
+      short_list = let old : len - made ≡ old_length = let a = f.2 in omega arith in λ i. is i ∷ places_after (old i) (now i - 1)
 
       pub short_may : MayGiveMade made (place ∷ places_after (len - made) (len - 1)) (len ∷ []) n
-      short_may = subst (λ (z : List ℕ × ℕ). MayGiveMade made z.0 (z.1 ∷ []) n) (λ i. (sym short_list i, sym now i)) (may_made m n h l (p ∷ but_last) (new_length ∷ []) e short_made made f.3)
+      short_may = subst (λ (z : List ℕ × ℕ). MayGiveMade made z.0 (z.1 ∷ []) n) (λ i. (sym short_list i, sym now i)) (may_made m n h l (p ∷ but_last) (new_length ∷ []) e short_made made f.2)
 
       pub fell_short : (w : Sat) → GaveMade (place ∷ places_after (len - made) (len - 1)) (len ∷ []) n w → IfKept m (λ x. FellShort (without_slot m.0) x.0 p w.0)
       fell_short w gave = of_kept m h (λ (y : Kept). FellShort (without_slot m.0) y.0 p w.0) (fell w (subst (λ (z : List ℕ × ℕ). GaveMade z.0 (z.1 ∷ []) n w) (λ i. (short_list i, now i)) gave))

@@ -164,8 +164,7 @@ pub record WentOn (v : View) (m : Machine) (place most : ℕ) (w : View) : Type 
   pub made : ℕ
   pub few : made ≤ most
   pub core : HasRunQuietly (came_home m place) made (machine_of w)
-  -- where no other job was out it made all that it could
-  pub ends : (came_home m place).out ≡ [] → IsQuietEnd most made (machine_of w)
+  pub ends : IsQuietEnd most made (machine_of w)
   pub mine : w.mine ≡ v.mine ++ places_after (length m.journal) (length w.seen)
   pub home : w.home ≡ v.home ++ place ∷ places_after (length m.journal) (length w.seen)
   pub lost : w.lost ≡ v.lost

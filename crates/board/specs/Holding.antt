@@ -70,7 +70,7 @@ FinishedAs m place false n = n ≡ broke_down m
 -- how a core brings a job home and goes on by quiet steps, at most so many
 abbrev pub CameAs : ℕ → Machine → ℕ → Came → Machine → Type 0
 CameAs most m place (Home made) n =
-    (m.is_broken ≡ false) × HasRunQuietly (came_home m place) made n × (made ≤ most) × ((came_home m place).out ≡ [] → IsQuietEnd most made n)
+    (m.is_broken ≡ false) × HasRunQuietly (came_home m place) made n × (made ≤ most) × IsQuietEnd most made n
 CameAs most m place (Short made) n =
-    (m.is_broken ≡ false) × ((came_home m place).out ≡ []) × HasBroken (came_home m place) n × (length n.journal ≡ length m.journal + made)
+    (m.is_broken ≡ false) × HasBroken (came_home m place) n × (length n.journal ≡ length m.journal + made)
 CameAs most m place Lost n = n ≡ broke_down m

@@ -1,6 +1,4 @@
 //! How those wait who have nothing to do.
-ghost use Rattle.std.specs.Prelude.{◌≡◌, ◌*◌, ◌⊎◌};
-
 use crate::board::Board;
 use stage_steps::Stage;
 use std::sync::Wait;
@@ -8,26 +6,21 @@ use std::sync::atomic::{AtomicU64, Ordering};
 use std::thread::yield_now;
 use std::time::Duration;
 
-// The shortest nap and the longest, in microseconds.
-const SHORTEST_NAP: u64 = 50;
-
-const LONGEST_NAP: u64 = 16_000;
-
 // At most so many watch at once.
 const MOST_WATCHERS: u64 = 3;
 
-// How often one who watches looks.
-const MOST_LOOKS: u32 = 64;
+// How often one who watches looks: each look gives way to others, and takes a fifth of a microsecond or more.
+const MOST_LOOKS: u32 = 128;
 
-// How often in a row it has to find what it found before.
-const STILL_LOOKS: u32 = 6;
+// How often in a row it has to find what it found before: a job is long that takes some five microseconds.
+const STILL_LOOKS: u32 = 24;
 
 /// Where those sleep who have nothing to do, and what they watch. Nothing is proved of it.
 #[derive(Drop)]
 pub(crate) struct Bell {
     // 1 once the work has ended, and 0 before.
     ended: AtomicU64,
-    // Another number whenever the slot was given back.
+    // Another number whenever a job was brought home.
     pace: AtomicU64,
     watchers: AtomicU64,
 }
@@ -52,14 +45,14 @@ impl Bell {
         self.ended.wake_all();
     }
 
-    /// For the holder of the slot, who gives it back: nobody else writes here.
+    /// For the holder of the slot, who brought a job home: nobody else writes here.
     #[inline(always)]
-    pub(crate) fn note_given(&self) {
+    pub(crate) fn note_home(&self) {
         let pace = self.pace.load(Ordering::Relaxed);
         self.pace.store(pace.wrapping_add(1), Ordering::Relaxed);
     }
 
-    // Whether the slot was given back, and then for some microseconds wasn't, while one looked for a limited time. It isn't
+    // Whether a job was brought home, and then for some microseconds none was, while one looked for a limited time. It isn't
     // looked at where enough others do so.
     fn becomes_still(&self) -> bool {
         let others = self.watchers.fetch_add(1, Ordering::SeqCst);
@@ -90,18 +83,15 @@ impl Bell {
 }
 
 impl<S: Stage> Board<S> {
-    /// Waits for something to do. The time has come where the slot was given back and then stays at home: others are out
-    /// with jobs that take long, and something may be left to do. While it goes round fast, or not at all, one sleeps, so
-    /// many microseconds, but not once the work has ended. The answer is how long to sleep next time: the shortest time
-    /// where something may be left to do, and else twice as long, at most the longest.
-    pub fn rest<R: Wait>(&self, rt: &R, micros: u64) -> u64
-        ensures { (result ≡ 50) ⊎ ((result ≡ 2 * micros) ⊎ (result ≡ 16000)) }
-    {
-        if self.bell.becomes_still() {
-            return SHORTEST_NAP;
-        }
+    /// Watches for some microseconds whether others are at work on jobs that take long: then something may be left to do. It
+    /// is false where jobs come home fast, or none does, or where enough others watch.
+    pub fn sees_long_jobs(&self) -> bool {
+        self.bell.becomes_still()
+    }
+
+    /// Sleeps so many microseconds, or less, and not at all once the work has ended.
+    pub fn rest<R: Wait>(&self, rt: &R, micros: u64) {
         self.bell.nap(rt, micros);
-        micros.saturating_mul(2).min(LONGEST_NAP)
     }
 
     /// Says that the work has ended: it wakes all that rest, and nobody sleeps there any more.

@@ -94,8 +94,7 @@ impl<S: Stage> CoreBox<S> {
         self.core.len()
     }
 
-    /// Brings a job home, and goes on by steps by which a record is taken or put, at most so many, where no other job
-    /// is out.
+    /// Brings a job home, and goes on by steps by which a record is taken or put, at most so many.
     pub(crate) fn finish_and_go_on(&mut self, alloc: Global, done: Finished<S>, most: u64) -> Came
         requires among { is_among done.place self.old.out ≡ true }
         requires stands { DoneStands S.stands self.old.net (take done.place self.old.journal) done }
@@ -104,9 +103,6 @@ impl<S: Stage> CoreBox<S> {
     {
         if self.core.finish(done).is_err() {
             return Came::Lost;
-        }
-        if self.core.out_count() > 0 {
-            return Came::Home { made: 0 };
         }
         let start = self.core.len();
         match self.core.run_quietly(alloc, most) {

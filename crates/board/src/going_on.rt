@@ -35,6 +35,7 @@ impl<S: Stage> Board<S> {
         ensures told { IfKept seat.old.me (λ k. HeldFinishOn (without_slot seat.old.me.0) k.0 done.place most result seat.new.me.0) }
     {
         let place = done.place();
+        self.bell.note_home();
         let (came, len) = self.finish_on_core(alloc, seat, done, most);
         match came {
             Came::Home { made: 0 } => {
@@ -84,8 +85,8 @@ impl<S: Stage> Board<S> {
     ghost use Rattle.board.specs.Calls.{CanFinish, FinishOnTold, GoesOn};
     ghost use Rattle.board.specs.Names.{view, board_of, board_id};
 
-    /// Takes back a job as `finish` does. Then, where no other job is out, it makes the least event that may be, at most
-    /// `most` times, as long as by it a record is taken or put; no job of these is out afterwards. `NoMemory` says that
+    /// Takes back a job as `finish` does. Then it makes the least event that may be, at most `most` times, as long as by
+    /// it a record is taken or put; no job of these is out afterwards. `NoMemory` says that
     /// the job, the core or a stage that went on wanted memory: the core is broken, and the strand of the job, or of the
     /// last entry, stays out. It uses one try, waits where the slot is out, and never answers `Busy`.
     pub fn finish_and_go_on<R: Wait>(

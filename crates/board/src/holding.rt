@@ -123,7 +123,6 @@ impl<S: Stage> Board<S> {
         ensures gave { GaveBack B.home B.lost seat.old.me seat.new.me }
     {
         self.count(seat);
-        self.bell.note_given();
         self.table.shared.swap::<Give<B>>(seat, TURN, 0);
     }
 

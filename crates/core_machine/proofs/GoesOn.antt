@@ -1,5 +1,6 @@
 -- A strand that is told an event goes on in place: its turn and its coming home in one.
-use Rattle.std.proofs.Common.{◌≡◌, ℕ, zero, suc, ◌<◌, true, false, cond, ◌&&◌, ◌||◌, not, List, [], ◌∷◌, ◌++◌, length, refl, sym, ◌∙◌, ap, subst, Some, None, is_some, slice_get, slice_set}
+use Rattle.std.proofs.Common.{◌≡◌, ℕ, zero, suc, ◌<◌, true, false, cond, ◌&&◌, ◌||◌, ◌==◌, not, arith, List, [], ◌∷◌, ◌++◌, length, refl, sym, ◌∙◌, ap, subst, Some, None, is_some, slice_get, slice_set}
+use Rattle.std.proofs.lemmas.Bool.{ne_eqb}
 use Rattle.std.specs.Prelude.{take}
 use Rattle.pipe_model.specs.declared.net.Net.{Net}
 use Rattle.pipe_model.specs.declared.net.Strand.{Strand}
@@ -11,7 +12,7 @@ use Rattle.pipe_model.specs.Event.Event.{Up, Saw, SawEnd, SawAllEnd, Took, Put, 
 use Rattle.pipe_model.specs.State.{Who, past}
 use Rattle.pipe_model.specs.Licence.{licence}
 use Rattle.pipe_model.specs.Play.{play}
-use Rattle.pipe_model.proofs.Truths.{neither}
+use Rattle.pipe_model.proofs.Truths.{neither, or_second}
 use Rattle.pipe_model.proofs.Numbers.{test_same}
 use Rattle.pipe_model.proofs.Lists.{get_set_same}
 use Rattle.record_pool.specs.PoolState.{PoolState}
@@ -27,7 +28,7 @@ use Rattle.core_machine.specs.Ahead.{HasGoneQuietly}
 use Rattle.core_machine.specs.Floor.{IsInUse, CanMake, StaysEarly}
 use Rattle.core_machine.specs.Jobs.{JobState, JobStands, HasGoneOn}
 use Rattle.core_machine.specs.Machine.{left_by, without, is_among, looks_at}
-use Rattle.core_machine.specs.Sound.{IsSound}
+use Rattle.core_machine.specs.Sound.{AreLast, IsSound}
 use Rattle.core_machine.specs.Woken.{HasReturned, LeastEventAwake, may_settle}
 use Rattle.core_machine.proofs.Jobs.{can_run, done_take}
 use Rattle.core_machine.proofs.Sounds.{can_make, sight_held, told_are, can_home, ended_is, came_early, in_use, sound_home, turned_past, goes_on, sound_turned, job_turned, job_event}
@@ -42,8 +43,19 @@ set_set (z ∷ zs) (suc i) x y = ap (λ l. z ∷ l) (set_set zs i x y)
 pub none_without : (p : ℕ) → without p (p ∷ []) ≡ []
 none_without p = ap (λ b. cond (not b) (p ∷ []) []) (test_same p)
 
-pub one_among : (p : ℕ) → is_among p (p ∷ []) ≡ true
-one_among p = ap (λ b. b || false) (test_same p)
+-- the place of a new entry is taken out again, and those that were out before are left
+pub without_end : (net : Net) (journal : List Entry) (out : List ℕ) → AreLast net journal out → without (suc (length journal)) (out ++ suc (length journal) ∷ []) ≡ out
+without_end net journal [] last = none_without (suc (length journal))
+without_end net journal (q ∷ out) last =
+    let here : ℕ = suc (length journal) in
+    let rest : List ℕ = without here (out ++ here ∷ []) in
+    let there = last.0.there in
+    ap (λ b. cond (not b) (q ∷ rest) rest) (ne_eqb q here (λ e. omega (arith, e, there))) ∙ ap (λ l. q ∷ l) (without_end net journal out last.1)
+
+-- the last place of those that are out is one of them
+pub among_end : (p : ℕ) (out : List ℕ) → is_among p (out ++ p ∷ []) ≡ true
+among_end p [] = ap (λ b. b || false) (test_same p)
+among_end p (q ∷ out) = or_second (q == p) (is_among p (out ++ p ∷ [])) (among_end p out)
 
 -- an event ends a strand just where what is told of it is the end
 end_told : (e : Event) (h : List Event) → has_ended h ≡ false → has_ended (e ∷ h) ≡ ends (told e)
@@ -116,15 +128,12 @@ module _ {S : Type 0} (stands : S → Strand → List Event → Type 0) (net : N
     pub went_out : IsInUse net d'
     went_out = in_use stands net budget longer (out ++ here ∷ []) (slice_set actors s off) d' pool' lost
 
-    module _ (alone : out ≡ []) (bytes : List ℕ) (bytes_are : bytes ≡ bytes_told (looks_at net s) d' pool' s seen) (resumed : Resumes stands stage next seen bytes asked) where
+    module _ (bytes : List ℕ) (bytes_are : bytes ≡ bytes_told (looks_at net s) d' pool' s seen) (resumed : Resumes stands stage next seen bytes asked) where
       abbrev out' : List ℕ
       out' = out ++ here ∷ []
 
-      out_is : out' ≡ here ∷ []
-      out_is = ap (λ l. l ++ here ∷ []) alone
-
       among : is_among here out' ≡ true
-      among = ap (is_among here) out_is ∙ one_among here
+      among = among_end here out
 
       done : HasGoneOn stands net (take here longer) s here next asked
       done = done_take stands net longer its (job off refl refl refl) bytes (job_bytes off refl refl refl bytes bytes_are) next asked resumed
@@ -145,14 +154,14 @@ module _ {S : Type 0} (stands : S → Strand → List Event → Type 0) (net : N
       -- and its strand came home
       pub went_home : (shown : Asked) → (Telling.ended_at d' s ≡ false → shown ≡ bare asked) →
           (d2 : DeskState) (pool2 : PoolState) → HasReturned d' pool' s asked d2 pool2 →
-          IsSound stands net budget longer [] (slice_set actors s (gone_on seen next shown a)) d2 pool2
+          IsSound stands net budget longer out (slice_set actors s (gone_on seen next shown a)) d2 pool2
       went_home shown bared d2 pool2 returned =
           let new : Actor S = gone_on seen next shown a in
           let home = sound_home stands net budget longer out' (slice_set actors s off) d' pool' lost s here next asked among done d2 pool2 off (get_set_same actors s off a there)
           returned shown bared in
-          let none : without here out' ≡ [] = ap (without here) out_is ∙ none_without here in
-          subst (λ (l : List (Actor S)). IsSound stands net budget longer [] l d2 pool2) (set_set actors s off new)
-          (subst (λ o. IsSound stands net budget longer o (slice_set (slice_set actors s off) s new) d2 pool2) none home)
+          let before : without here out' ≡ out = without_end net journal out sound.last in
+          subst (λ (l : List (Actor S)). IsSound stands net budget longer out l d2 pool2) (set_set actors s off new)
+          (subst (λ o. IsSound stands net budget longer o (slice_set (slice_set actors s off) s new) d2 pool2) before home)
 
       -- and what it did is all that happened, where it settled nothing for many
       pub gone_quietly : LeastEventAwake d (Some (s, k, seen)) → may_settle d s seen ≡ false → (d2 : DeskState) (pool2 : PoolState) → HasReturned d' pool' s asked d2 pool2 →

@@ -19,9 +19,9 @@ quiet_more m (x ∷ es) e quiet seen next is =
     (quiet.0, quiet_more (record m { journal = m.journal ++ x ∷ [] }) es e quiet.1 seen (subst (λ j. LeastEvent (record m { journal = j }) (Some (e.strand, e.stream, seen))) (sym (append_twice m.journal x es)) next) is)
 
 -- it goes on by a quiet step, where another may be made
-pub quietly_goes : (m n o k : Machine) (s i end : ℕ) (seen : Seen) → (made : ℕ) × HasRunQuietly m made n → n.out ≡ [] → n.is_broken ≡ false → length n.journal < end → o ≡ n → LeastEvent o (Some (s, i, seen)) → is_quiet seen ≡ true →
-    k ≡ record o { journal = o.journal ++ (record { strand = s; stream = i }) ∷ [] } → ((made : ℕ) × HasRunQuietly m made k) × (k.out ≡ []) × (k.is_broken ≡ false) × (length k.journal ≤ end)
-quietly_goes m n o k s i end seen (made, run) out whole few same least quiet after =
+pub quietly_goes : (m n o k : Machine) (s i end : ℕ) (seen : Seen) → (made : ℕ) × HasRunQuietly m made n → n.is_broken ≡ false → length n.journal < end → o ≡ n → LeastEvent o (Some (s, i, seen)) → is_quiet seen ≡ true →
+    k ≡ record o { journal = o.journal ++ (record { strand = s; stream = i }) ∷ [] } → ((made : ℕ) × HasRunQuietly m made k) × (k.is_broken ≡ false) × (length k.journal ≤ end)
+quietly_goes m n o k s i end seen (made, run) whole few same least quiet after =
     let e : Entry = record { strand = s; stream = i } in
     let next : LeastEvent (record m { journal = m.journal ++ run.more }) (Some (s, i, seen)) = subst (λ (z : Machine). LeastEvent z (Some (s, i, seen))) (same ∙ run.after) least in
     let step : k ≡ record n { journal = n.journal ++ e ∷ [] } = after ∙ ap (λ (z : Machine). record z { journal = z.journal ++ e ∷ [] }) same in
@@ -30,7 +30,6 @@ quietly_goes m n o k s i end seen (made, run) out whole few same least quiet aft
     let count : made + 1 ≡ length (run.more ++ e ∷ []) = let a = length_more run.more e in let b = run.made_is in omega (arith, a, b) in
     let long : length k.journal ≡ length (n.journal ++ e ∷ []) = ap (λ (z : Machine). length z.journal) step in (
       (made + 1, record { more = run.more ++ e ∷ []; quiet = quiet_more m run.more e run.quiet seen next quiet; after = now; made_is = count }),
-      ap (λ (z : Machine). z.out) step ∙ out,
       ap (λ (z : Machine). z.is_broken) step ∙ whole,
       let a = length_more n.journal e in omega (arith, a, long, few),
     )
@@ -48,5 +47,5 @@ quietly_breaks m n o k (made, run) same lacks =
       budget = lacks.budget ∙ ap (λ (z : Machine). z.budget) before;
       longer = (run.more ++ lacks.longer.0, longer);
       more = let a = lacks.more in omega (arith, a, long);
-      out = lacks.out;
+      out = lacks.out ∙ ap (λ (z : Machine). z.out ++ length k.journal ∷ []) before;
     }

@@ -1,12 +1,11 @@
 -- The job that a turn gave is run on the bytes of the room, and finished.
-use Rattle.std.proofs.Common.{◌≡◌, ◌==◌, ℕ, suc, true, List, [], ◌∷◌, ◌++◌, length, refl, sym, ◌∙◌, ap, subst, Some}
+use Rattle.std.proofs.Common.{◌≡◌, ℕ, suc, true, List, [], ◌∷◌, ◌++◌, length, refl, sym, ◌∙◌, ap, subst, Some}
 use Rattle.std.specs.Prelude.{take, IfOk}
 use Rattle.pipe_model.specs.declared.net.Strand.{Strand}
 use Rattle.pipe_model.specs.declared.step.Entry.{Entry}
 use Rattle.pipe_model.specs.Event.{Event}
 use Rattle.pipe_model.specs.Licence.{licence, none_left}
 use Rattle.pipe_model.specs.Play.{play}
-use Rattle.pipe_model.proofs.Truths.{or_second}
 use Rattle.pipe_model.proofs.Lists.{length_more}
 use Rattle.stage_steps.specs.Coroutine.{bytes_with, CanResume, Resumes}
 use Rattle.confluence_laws.proofs.LeftOut.{licensed_too}
@@ -14,7 +13,7 @@ use Rattle.core_machine.specs.declared.job.Turned.TheVariants.{Work}
 use Rattle.core_machine.specs.Answered.{TurnedAs}
 use Rattle.core_machine.specs.Jobs.{JobState, FinishedState, JobStands, HasGoneOn, DoneStands}
 use Rattle.core_machine.specs.Machine.{Machine, left_by, is_among, looks_at, state_of}
-use Rattle.core_machine.proofs.GoesOn.{one_among}
+use Rattle.core_machine.proofs.GoesOn.{among_end}
 use Rattle.core_machine.proofs.Jobs.{can_run, done_take, if_ok}
 
 front_and_last : {X : Type 0} (xs ys : List X) (x y : X) → xs ++ x ∷ [] ≡ ys ++ y ∷ [] → (xs ≡ ys) × (x ≡ y)
@@ -29,11 +28,6 @@ front_and_last (z ∷ zs) (w ∷ ws) x y e =
     let rest = front_and_last zs ws x y tails in
     let fronts = rest.0 in
     (cc, rest.1)
-
--- the last place of those that are out is one of them
-among_end : (p : ℕ) (out : List ℕ) → is_among p (out ++ p ∷ []) ≡ true
-among_end p [] = one_among p
-among_end p (q ∷ out) = or_second (q == p) (is_among p (out ++ p ∷ [])) (among_end p out)
 
 module _ {S : Type 0} (stands : S → Strand → List Event → Type 0) (m n : Machine) (s k room : ℕ) (job : JobState S) (bytes : List ℕ) (turned : TurnedAs stands m s k room (Work job) n bytes) where
   given : JobStands stands n.net n.journal job

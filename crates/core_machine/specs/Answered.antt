@@ -88,14 +88,14 @@ abbrev pub Stepped : Machine → Bool → Machine → Type 0
 Stepped m true n = (e : Entry) × LeastReady m (Some (e.strand, e.stream)) × (n ≡ record m { journal = m.journal ++ e ∷ [] })
 Stepped m false n = (n ≡ m) × ((s k : ℕ) → licence_of m s k ≡ None)
 
--- it broke on the way, with the entries made so far: the job of the last one is out, and no other's
+-- it broke on the way, with the entries made so far: the job of the last one is out, beside those that were
 pub record HasBroken (m n : Machine) : Type 0 where
   pub broken : n.is_broken ≡ true
   pub net : n.net ≡ m.net
   pub budget : n.budget ≡ m.budget
   pub longer : IsLonger m.journal n.journal
   pub more : length m.journal < length n.journal
-  pub out : n.out ≡ length n.journal ∷ []
+  pub out : n.out ≡ m.out ++ length n.journal ∷ []
 
 -- a record was taken or put: there is nothing to look at
 abbrev pub is_quiet : Seen → Bool

@@ -49,10 +49,9 @@ impl<S: Stage> Core<S> {
     }
 
     /// Makes the least event that may be, again and again, at most so many, as long as by it a record is taken or put. No
-    /// gate is entered for these, and no record is looked at. The answer is how many were made. After want of memory the
-    /// core is broken, and the strand of the last entry is out.
+    /// gate is entered for these, and no record is looked at. Other strands' jobs may be out meanwhile. The answer is how
+    /// many were made. After want of memory the core is broken, and the strand of the last entry is out.
     pub fn run_quietly(&mut self, alloc: Global, most: u64) -> Result<u64, NoMemory>
-        requires home { self.old.out ≡ [] }
         requires whole { self.old.is_broken ≡ false }
         ensures quiet { IfOk result (λ made. HasRunQuietly self.old made self.new × (made ≤ most)) }
         ensures ends { IfOk result (λ made. IsQuietEnd most made self.new) }
@@ -124,7 +123,6 @@ impl<S: Stage> Core<S> {
     ) -> Result<Ahead, NoMemory>
         requires least { LeastEvent self.old (Some (strand, stream, seen)) }
         requires space { length self.old.journal < self.old.budget }
-        requires home { self.old.out ≡ [] }
         requires whole { self.old.is_broken ≡ false }
         ensures goes { OnOk result (self.new ≡ record self.old { journal = self.old.journal ++ (record { strand = strand; stream = stream }) ∷ [] }) }
         ensures ahead { IfOk result (IsAhead self.new) }
@@ -146,7 +144,6 @@ impl<S: Stage> Core<S> {
     ) -> Result<Ahead, NoMemory>
         requires least { LeastEvent self.old (Some (strand, stream, seen)) }
         requires space { length self.old.journal < self.old.budget }
-        requires home { self.old.out ≡ [] }
         requires whole { self.old.is_broken ≡ false }
         ensures goes { OnOk result (self.new ≡ record self.old { journal = self.old.journal ++ (record { strand = strand; stream = stream }) ∷ [] }) }
         ensures ahead { IfOk result (IsAhead self.new) }

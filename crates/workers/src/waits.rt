@@ -3,38 +3,49 @@ use board::Board;
 use stage_steps::Stage;
 use std::sync::Wait;
 
-// For how long it sleeps at first, in microseconds.
-const FIRST_NAP: u64 = 50;
+// The shortest sleep and the longest, in microseconds.
+const SHORTEST_REST: u64 = 50;
+
+const LONGEST_REST: u64 = 16_000;
 
 // After so many jobs in a row it waits as at the start.
 const JOBS_IN_A_ROW: u32 = 64;
 
-/// For how long a worker sleeps next, where it comes to that, and how many jobs it had in a row.
+/// For how many microseconds a worker sleeps next, where it comes to that, how many jobs it had in a row, and whether it
+/// looks for a job since it saw that those of others take long.
 #[derive(Clone, Copy, Debug, PartialEq, Eq)]
 pub(crate) struct Waits {
     micros: u64,
     jobs: u32,
+    hopes: bool,
 }
 
 impl Waits {
     pub(crate) fn new() -> Waits {
         Waits {
-            micros: FIRST_NAP,
+            micros: SHORTEST_REST,
             jobs: 0,
+            hopes: false,
         }
     }
 
     /// It had a job.
     pub(crate) fn note_job(&mut self) {
         self.jobs = self.jobs.saturating_add(1);
-        if self.jobs == JOBS_IN_A_ROW {
-            self.micros = FIRST_NAP;
+        if self.hopes || self.jobs == JOBS_IN_A_ROW {
+            self.micros = SHORTEST_REST;
         }
+        self.hopes = false;
     }
 
-    /// It had none, and waits.
+    /// It had none, and waits. Where the jobs of others take long it looks again at once; where that was in vain it sleeps,
+    /// twice as long each time, so that it doesn't get in the way of those who work.
     pub(crate) fn wait<S: Stage, R: Wait>(&mut self, rt: &R, board: &Board<S>) {
         self.jobs = 0;
-        self.micros = board.rest(rt, self.micros);
+        self.hopes = !self.hopes && board.sees_long_jobs();
+        if !self.hopes {
+            board.rest(rt, self.micros);
+            self.micros = self.micros.saturating_mul(2).min(LONGEST_REST);
+        }
     }
 }

@@ -18,5 +18,5 @@ returns-clause-came g c =
       | in-Ok w ↦ let made : ℕ = w.in-Ok.made in let q = w.in-Ok.ensures.quiet in
           subst (λ (x : Came). CameAs most m p x n) (sym w.result-is) (came_on most m k n p sound home made (subst (λ (x : Machine). HasRunQuietly x made n) begun q.0) q.1 w.in-Ok.ensures.ends)
       | in-Err w ↦
-          subst (λ (x : Came). CameAs most m p x n) (sym w.result-is) (came_short most m k n p sound home c.len-start.result w.len.result (search rules) (subst (λ (x : Machine). HasBroken x n) begun w.in-Err.ensures.lacks) (search rules) (search rules))
+          subst (λ (x : Came). CameAs most m p x n) (sym w.result-is) (came_short most m k n p sound home c.len-start.result w.len.result (subst (λ (x : Machine). HasBroken x n) begun w.in-Err.ensures.lacks) (search rules) (search rules))
     ]

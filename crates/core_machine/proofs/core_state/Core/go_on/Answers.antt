@@ -1,22 +1,20 @@
 -- The strand goes on in place: the core is sound after it.
-use Rattle.std.proofs.Common.{rules, ◌≡◌, ◌<◌, Some, List, [], ◌∷◌, ◌++◌, length, slice_set, is_some, arith, sym, ◌∙◌, ap, subst, vec_capacity, ◌≤◌}
+use Rattle.std.proofs.Common.{rules, ◌≡◌, ◌<◌, Some, length, slice_set, is_some, arith, sym, ◌∙◌, ap, subst, vec_capacity, ◌≤◌}
 use Rattle.pipe_model.specs.declared.net.Net.{Net}
-use Rattle.run_desk.specs.Turns.{CanCome, bare}
+use Rattle.run_desk.specs.Turns.{CanCome}
 use Rattle.run_desk.specs.Telling as Telling
 use Rattle.core_machine.specs.declared.actor.Actor.{Actor}
-use Rattle.core_machine.specs.Actors.{gone_on, asking_for, bytes_told}
+use Rattle.core_machine.specs.Actors.{asking_for, bytes_told}
 use Rattle.core_machine.specs.Floor.{IsInUse, StaysEarly}
-use Rattle.core_machine.specs.Machine.{Machine, licence_of, IsLawful}
-use Rattle.core_machine.specs.Sound.{IsSound}
-use Rattle.core_machine.specs.Woken.{HasReturned}
-use Rattle.core_machine.proofs.GoesOn.{sights, can_go, went_out, home_ended, home_can, home_early, went_home}
+use Rattle.core_machine.specs.Machine.{Machine, licence_of}
+use Rattle.core_machine.proofs.GoesOn.{sights, can_go, went_out, home_ended, home_can, home_early}
 use Rattle.core_machine.proofs.Plays.{has_seat}
 use Rattle.core_machine.proofs.Sounds.{actor_at, stage_at, its_looks, in_range, seen_back, can_make, in_use, event_is, lawful}
 use Rattle.core_machine.proofs.core_state.Core.go_on.Goals as goal
 mod ComesHome
 mod GivesUp
 use Rattle.core_machine.proofs.core_state.Core.go_on.Answers.ComesHome.{came}
-use Rattle.core_machine.proofs.core_state.Core.go_on.Answers.GivesUp.{sound_broken, lawful_broken, lacks_broken, sound_broken_home, lawful_broken_home, lacks_broken_home}
+use Rattle.core_machine.proofs.core_state.Core.go_on.Answers.GivesUp.{room, room_home, sound_broken, lawful_broken, lacks_broken, sound_broken_home, lawful_broken_home, lacks_broken_home}
 
 pub make-requires : goal.make-requires
 make-requires g c =
@@ -84,8 +82,7 @@ come_home-requires-clause-ended g c =
     let moved = c.make.new.self in
     let bytes_is = c.bytes_told-bytes.ensures ∙ ap (λ b. bytes_told b moved.desk moved.pool c.args.strand c.args.seen) (its_looks g.S.Stage.stands i.floor.net i.budget i.journal.items i.out.items i.actors.items i.floor.desk i.floor.pool c.self.invariant.0 c.args.strand a at) in
     let on = c.in-Ok.ensures in
-    let alone : i.out.items ≡ [] = subst (λ (z : Machine). z.out ≡ []) (sym v) c.requires.home in
-    c.ends.ensures ∙ home_ended g.S.Stage.stands i.floor.net i.budget i.journal.items i.out.items i.actors.items i.floor.desk i.floor.pool c.self.invariant.0 c.args.strand c.args.stream c.requires.least.1.0 may a on.0 at on.3 c.args.seen c.requires.least.1.2 space moved.desk moved.pool c.make.ensures.desk c.make.ensures.pool on.1 on.2 alone c.bytes_told-bytes.result.now bytes_is on.5
+    c.ends.ensures ∙ home_ended g.S.Stage.stands i.floor.net i.budget i.journal.items i.out.items i.actors.items i.floor.desk i.floor.pool c.self.invariant.0 c.args.strand c.args.stream c.requires.least.1.0 may a on.0 at on.3 c.args.seen c.requires.least.1.2 space moved.desk moved.pool c.make.ensures.desk c.make.ensures.pool on.1 on.2 c.bytes_told-bytes.result.now bytes_is on.5
 
 pub come_home-requires-clause-can : goal.come_home-requires-clause-can
 come_home-requires-clause-can g c =
@@ -98,10 +95,9 @@ come_home-requires-clause-can g c =
     let moved = c.make.new.self in
     let bytes_is = c.bytes_told-bytes.ensures ∙ ap (λ b. bytes_told b moved.desk moved.pool c.args.strand c.args.seen) (its_looks g.S.Stage.stands i.floor.net i.budget i.journal.items i.out.items i.actors.items i.floor.desk i.floor.pool c.self.invariant.0 c.args.strand a at) in
     let on = c.in-Ok.ensures in
-    let alone : i.out.items ≡ [] = subst (λ (z : Machine). z.out ≡ []) (sym v) c.requires.home in
     let asked_is : on.2 ≡ c.resume.new.actor.asked = sym (ap (λ (z : Actor g.row.S.Denot). z.asked) on.4) in
-    let ended_is : c.ends.result ≡ Telling.ended_at moved.desk c.args.strand = c.ends.ensures ∙ home_ended g.S.Stage.stands i.floor.net i.budget i.journal.items i.out.items i.actors.items i.floor.desk i.floor.pool c.self.invariant.0 c.args.strand c.args.stream c.requires.least.1.0 may a on.0 at on.3 c.args.seen c.requires.least.1.2 space moved.desk moved.pool c.make.ensures.desk c.make.ensures.pool on.1 on.2 alone c.bytes_told-bytes.result.now bytes_is on.5 in
-    λ going. subst (CanCome moved.desk moved.pool c.args.strand) asked_is (home_can g.S.Stage.stands i.floor.net i.budget i.journal.items i.out.items i.actors.items i.floor.desk i.floor.pool c.self.invariant.0 c.args.strand c.args.stream c.requires.least.1.0 may a on.0 at on.3 c.args.seen c.requires.least.1.2 space moved.desk moved.pool c.make.ensures.desk c.make.ensures.pool on.1 on.2 alone c.bytes_told-bytes.result.now bytes_is on.5 (sym ended_is ∙ going))
+    let ended_is : c.ends.result ≡ Telling.ended_at moved.desk c.args.strand = c.ends.ensures ∙ home_ended g.S.Stage.stands i.floor.net i.budget i.journal.items i.out.items i.actors.items i.floor.desk i.floor.pool c.self.invariant.0 c.args.strand c.args.stream c.requires.least.1.0 may a on.0 at on.3 c.args.seen c.requires.least.1.2 space moved.desk moved.pool c.make.ensures.desk c.make.ensures.pool on.1 on.2 c.bytes_told-bytes.result.now bytes_is on.5 in
+    λ going. subst (CanCome moved.desk moved.pool c.args.strand) asked_is (home_can g.S.Stage.stands i.floor.net i.budget i.journal.items i.out.items i.actors.items i.floor.desk i.floor.pool c.self.invariant.0 c.args.strand c.args.stream c.requires.least.1.0 may a on.0 at on.3 c.args.seen c.requires.least.1.2 space moved.desk moved.pool c.make.ensures.desk c.make.ensures.pool on.1 on.2 c.bytes_told-bytes.result.now bytes_is on.5 (sym ended_is ∙ going))
 
 pub come_home-requires-clause-early : goal.come_home-requires-clause-early
 come_home-requires-clause-early g c =
@@ -114,10 +110,9 @@ come_home-requires-clause-early g c =
     let moved = c.make.new.self in
     let bytes_is = c.bytes_told-bytes.ensures ∙ ap (λ b. bytes_told b moved.desk moved.pool c.args.strand c.args.seen) (its_looks g.S.Stage.stands i.floor.net i.budget i.journal.items i.out.items i.actors.items i.floor.desk i.floor.pool c.self.invariant.0 c.args.strand a at) in
     let on = c.in-Ok.ensures in
-    let alone : i.out.items ≡ [] = subst (λ (z : Machine). z.out ≡ []) (sym v) c.requires.home in
     let asked_is : on.2 ≡ c.resume.new.actor.asked = sym (ap (λ (z : Actor g.row.S.Denot). z.asked) on.4) in
-    let ended_is : c.ends.result ≡ Telling.ended_at moved.desk c.args.strand = c.ends.ensures ∙ home_ended g.S.Stage.stands i.floor.net i.budget i.journal.items i.out.items i.actors.items i.floor.desk i.floor.pool c.self.invariant.0 c.args.strand c.args.stream c.requires.least.1.0 may a on.0 at on.3 c.args.seen c.requires.least.1.2 space moved.desk moved.pool c.make.ensures.desk c.make.ensures.pool on.1 on.2 alone c.bytes_told-bytes.result.now bytes_is on.5 in
-    λ going. subst (StaysEarly moved.desk moved.pool c.args.strand) asked_is (home_early g.S.Stage.stands i.floor.net i.budget i.journal.items i.out.items i.actors.items i.floor.desk i.floor.pool c.self.invariant.0 c.args.strand c.args.stream c.requires.least.1.0 may a on.0 at on.3 c.args.seen c.requires.least.1.2 space moved.desk moved.pool c.make.ensures.desk c.make.ensures.pool on.1 on.2 alone c.bytes_told-bytes.result.now bytes_is on.5 (sym ended_is ∙ going))
+    let ended_is : c.ends.result ≡ Telling.ended_at moved.desk c.args.strand = c.ends.ensures ∙ home_ended g.S.Stage.stands i.floor.net i.budget i.journal.items i.out.items i.actors.items i.floor.desk i.floor.pool c.self.invariant.0 c.args.strand c.args.stream c.requires.least.1.0 may a on.0 at on.3 c.args.seen c.requires.least.1.2 space moved.desk moved.pool c.make.ensures.desk c.make.ensures.pool on.1 on.2 c.bytes_told-bytes.result.now bytes_is on.5 in
+    λ going. subst (StaysEarly moved.desk moved.pool c.args.strand) asked_is (home_early g.S.Stage.stands i.floor.net i.budget i.journal.items i.out.items i.actors.items i.floor.desk i.floor.pool c.self.invariant.0 c.args.strand c.args.stream c.requires.least.1.0 may a on.0 at on.3 c.args.seen c.requires.least.1.2 space moved.desk moved.pool c.make.ensures.desk c.make.ensures.pool on.1 on.2 c.bytes_told-bytes.result.now bytes_is on.5 (sym ended_is ∙ going))
 
 pub come_home-requires-clause-here : goal.come_home-requires-clause-here
 come_home-requires-clause-here g c =
@@ -165,6 +160,12 @@ returns-clause-ahead g c =
 pub returns-clause-lawful : goal.returns-clause-lawful
 returns-clause-lawful g c =
     lawful g.S.Stage.stands c.come_home.new.self.net c.self.inside.budget c.push_reserved.new.self.items c.self.inside.out.items (slice_set c.self.inside.actors.items c.args.strand (asking_for c.come_home.new.want c.resume.new.actor)) c.come_home.new.self.desk c.come_home.new.self.pool (came g (goal.at.returns-clause-lawful g c).In-Ok-come_home).0 c.self.inside.is_broken
+
+pub give_up-requires : goal.give_up-requires
+give_up-requires = room
+
+pub give_up-requires-in_default-come_home : goal.give_up-requires-in_default-come_home
+give_up-requires-in_default-come_home = room_home
 
 pub invariant_of-self : goal.invariant_of-self
 invariant_of-self = sound_broken

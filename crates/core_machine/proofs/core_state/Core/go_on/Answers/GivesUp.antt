@@ -7,8 +7,27 @@ use Rattle.core_machine.specs.Actors.{asking_for, given_up}
 use Rattle.core_machine.specs.Machine.{Machine, licence_of, IsLawful}
 use Rattle.core_machine.specs.Sound.{IsSound}
 use Rattle.core_machine.proofs.GoesOn.{lost}
-use Rattle.core_machine.proofs.Sounds.{actor_at, in_range, on_floor, lawful_turned}
+use Rattle.core_machine.proofs.Sounds.{actor_at, in_range, out_room, on_floor, lawful_turned}
 use Rattle.core_machine.proofs.core_state.Core.go_on.Goals as goal
+
+-- the list of those that are out has room for it
+pub room : goal.give_up-requires
+room g c =
+    let i = c.self.inside in
+    let v : ◌≡◌ {A = Machine} (record { net = i.floor.net; budget = i.budget; journal = i.journal.items; out = i.out.items; is_broken = i.is_broken }) c.args.self.now = c.self.view_is in
+    let may = subst (λ (z : Machine). licence_of z c.args.strand c.args.stream ≡ Some c.requires.least.1.0) (sym v) c.requires.least.1.1 in
+    let few = out_room g.S.Stage.stands i.floor.net i.budget i.journal.items i.out.items i.actors.items i.floor.desk i.floor.pool c.self.invariant.0 c.args.strand c.args.stream c.requires.least.1.0 may in
+    let room = c.self.invariant.2 in
+    search (rules, few, room)
+
+pub room_home : goal.give_up-requires-in_default-come_home
+room_home g c =
+    let i = c.self.inside in
+    let v : ◌≡◌ {A = Machine} (record { net = i.floor.net; budget = i.budget; journal = i.journal.items; out = i.out.items; is_broken = i.is_broken }) c.args.self.now = c.self.view_is in
+    let may = subst (λ (z : Machine). licence_of z c.args.strand c.args.stream ≡ Some c.requires.least.1.0) (sym v) c.requires.least.1.1 in
+    let few = out_room g.S.Stage.stands i.floor.net i.budget i.journal.items i.out.items i.actors.items i.floor.desk i.floor.pool c.self.invariant.0 c.args.strand c.args.stream c.requires.least.1.0 may in
+    let room = c.self.invariant.2 in
+    search (rules, few, room)
 
 pub sound_broken : goal.invariant_of-self
 sound_broken g c =
@@ -79,7 +98,6 @@ lacks_broken g c =
     let v : ◌≡◌ {A = Machine} (record { net = i.floor.net; budget = i.budget; journal = i.journal.items; out = i.out.items; is_broken = i.is_broken }) c.args.self.now = c.self.view_is in
     let e : Entry = record { strand = c.args.strand; stream = c.args.stream } in
     let longer : c.push_reserved.new.self.items ≡ c.args.self.now.journal ++ e ∷ [] = c.push_reserved.ensures.items ∙ ap (λ (z : Machine). z.journal ++ e ∷ []) v in
-    let alone : i.out.items ≡ [] = subst (λ (z : Machine). z.out ≡ []) (sym v) c.requires.home in
     let place : c.len.result ≡ length c.push_reserved.new.self.items = search rules in
     record {
       broken = refl;
@@ -87,7 +105,7 @@ lacks_broken g c =
       budget = ap (λ (z : Machine). z.budget) v;
       longer = (e ∷ [], longer);
       more = let a = length_more c.args.self.now.journal e in let b : length c.push_reserved.new.self.items ≡ length (c.args.self.now.journal ++ e ∷ []) = ap length longer in omega (arith, a, b);
-      out = c.give_up.ensures.out ∙ ap (λ o. o ++ c.len.result ∷ []) alone ∙ ap (λ p. p ∷ []) place;
+      out = c.give_up.ensures.out ∙ ap (λ (z : Machine). z.out ++ c.len.result ∷ []) v ∙ ap (λ p. c.args.self.now.out ++ p ∷ []) place;
     }
 
 pub lacks_broken_home : goal.returns-in_default-come_home-clause-lacks
@@ -96,7 +114,6 @@ lacks_broken_home g c =
     let v : ◌≡◌ {A = Machine} (record { net = i.floor.net; budget = i.budget; journal = i.journal.items; out = i.out.items; is_broken = i.is_broken }) c.args.self.now = c.self.view_is in
     let e : Entry = record { strand = c.args.strand; stream = c.args.stream } in
     let longer : c.push_reserved.new.self.items ≡ c.args.self.now.journal ++ e ∷ [] = c.push_reserved.ensures.items ∙ ap (λ (z : Machine). z.journal ++ e ∷ []) v in
-    let alone : i.out.items ≡ [] = subst (λ (z : Machine). z.out ≡ []) (sym v) c.requires.home in
     let place : c.len-in_default-come_home.result ≡ length c.push_reserved.new.self.items = search rules in
     record {
       broken = refl;
@@ -104,5 +121,5 @@ lacks_broken_home g c =
       budget = ap (λ (z : Machine). z.budget) v;
       longer = (e ∷ [], longer);
       more = let a = length_more c.args.self.now.journal e in let b : length c.push_reserved.new.self.items ≡ length (c.args.self.now.journal ++ e ∷ []) = ap length longer in omega (arith, a, b);
-      out = c.give_up-in_default-come_home.ensures.out ∙ ap (λ o. o ++ c.len-in_default-come_home.result ∷ []) alone ∙ ap (λ p. p ∷ []) place;
+      out = c.give_up-in_default-come_home.ensures.out ∙ ap (λ (z : Machine). z.out ++ c.len-in_default-come_home.result ∷ []) v ∙ ap (λ p. c.args.self.now.out ++ p ∷ []) place;
     }
