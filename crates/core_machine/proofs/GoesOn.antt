@@ -1,5 +1,5 @@
 -- A strand that is told an event goes on in place: its turn and its coming home in one.
-use Rattle.std.proofs.Common.{◌≡◌, ℕ, zero, suc, ◌<◌, true, false, cond, ◌&&◌, ◌||◌, ◌==◌, not, arith, List, [], ◌∷◌, ◌++◌, length, refl, sym, ◌∙◌, ap, subst, Some, None, is_some, slice_get, slice_set}
+use Rattle.std.proofs.Common.{◌≡◌, Bool, ℕ, zero, suc, ◌<◌, true, false, cond, ◌&&◌, ◌||◌, ◌==◌, not, arith, List, [], ◌∷◌, ◌++◌, length, refl, sym, ◌∙◌, ap, subst, Some, None, is_some, slice_get, slice_set}
 use Rattle.std.proofs.lemmas.Bool.{ne_eqb}
 use Rattle.std.specs.Prelude.{take}
 use Rattle.pipe_model.specs.declared.net.Net.{Net}
@@ -17,6 +17,7 @@ use Rattle.pipe_model.proofs.Numbers.{test_same}
 use Rattle.pipe_model.proofs.Lists.{get_set_same}
 use Rattle.record_pool.specs.PoolState.{PoolState}
 use Rattle.stage_steps.specs.Coroutine.{told, bytes_with, CanResume, Resumes}
+use Rattle.stage_steps.specs.PassesOn.{PassesOn}
 use Rattle.run_desk.specs.Desk.{DeskState}
 use Rattle.run_desk.specs.Telling.{sight_through}
 use Rattle.run_desk.specs.Turns.{desk_after_turn, pool_after_turn, CanCome, bare, ends, sees}
@@ -114,12 +115,9 @@ module _ {S : Type 0} (stands : S → Strand → List Event → Type 0) (net : N
 
   -- After the coroutine went on
 
-  module _ (next : S) (asked : Asked) where
-    abbrev on : Actor S
-    on = gone_on seen next asked a
-
+  module _ (next : S) (asked : Asked) (passes : Bool) where
     abbrev off : Actor S
-    off = given_up (gone_on seen next asked a)
+    off = given_up (gone_on seen next asked passes a)
 
     -- the coroutine is given up
     pub lost : IsSound stands net budget longer (out ++ here ∷ []) (slice_set actors s off) d' pool'
@@ -152,13 +150,13 @@ module _ {S : Type 0} (stands : S → Strand → List Event → Type 0) (net : N
       home_early = came_early stands net budget longer out' (slice_set actors s off) d' pool' lost s here next asked among done
 
       -- and its strand came home
-      pub went_home : (shown : Asked) → (Telling.ended_at d' s ≡ false → shown ≡ bare asked) →
+      pub went_home : (shown : Asked) → (passes ≡ true → PassesOn stands next) → (Telling.ended_at d' s ≡ false → shown ≡ bare asked) →
           (d2 : DeskState) (pool2 : PoolState) → HasReturned d' pool' s asked d2 pool2 →
-          IsSound stands net budget longer out (slice_set actors s (gone_on seen next shown a)) d2 pool2
-      went_home shown bared d2 pool2 returned =
-          let new : Actor S = gone_on seen next shown a in
+          IsSound stands net budget longer out (slice_set actors s (gone_on seen next shown passes a)) d2 pool2
+      went_home shown passing bared d2 pool2 returned =
+          let new : Actor S = gone_on seen next shown passes a in
           let home = sound_home stands net budget longer out' (slice_set actors s off) d' pool' lost s here next asked among done d2 pool2 off (get_set_same actors s off a there)
-          returned shown bared in
+          returned shown bared passes passing in
           let before : without here out' ≡ out = without_end net journal out sound.last in
           subst (λ (l : List (Actor S)). IsSound stands net budget longer out l d2 pool2) (set_set actors s off new)
           (subst (λ o. IsSound stands net budget longer o (slice_set (slice_set actors s off) s new) d2 pool2) before home)

@@ -1,3 +1,4 @@
+pub mod Advanced
 pub mod Aheads
 pub mod Away
 pub mod BitSets

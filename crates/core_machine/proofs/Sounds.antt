@@ -22,6 +22,7 @@ use Rattle.pipe_model.proofs.Lists.{at_some, get_set_same, get_set_other, length
 use Rattle.record_pool.specs.PoolState.{PoolState}
 use Rattle.record_pool.specs.Places.{bytes_at}
 use Rattle.stage_steps.specs.Coroutine.{told, bytes_with, meaning, last_seen, IsSeenBefore}
+use Rattle.stage_steps.specs.PassesOn.{PassesOn}
 use Rattle.run_desk.specs.Desk.{DeskState}
 use Rattle.run_desk.specs.Telling.{sight_through}
 use Rattle.run_desk.specs.Standing.{left_out, left_in}
@@ -42,7 +43,7 @@ use Rattle.confluence_laws.proofs.Reached.{play_reached, saw_it}
 use Rattle.confluence_laws.proofs.LeftOut.{licensed_too}
 use Rattle.confluence_laws.proofs.Lengths.{play_last, legal_last}
 use Rattle.core_machine.specs.declared.actor.Actor.{Actor}
-use Rattle.core_machine.specs.Actors.{is_end, come_back, looks_in, bytes_told}
+use Rattle.core_machine.specs.Actors.{is_end, come_back, looks_in, bytes_told, DoesPass}
 use Rattle.core_machine.specs.Answered.{LeastReady, LeastEvent, Shows}
 use Rattle.core_machine.specs.Floor.{FloorState, IsInUse, CanMake, StaysEarly}
 use Rattle.core_machine.specs.Jobs.{JobStands, HasGoneOn}
@@ -226,6 +227,10 @@ module _ {S : Type 0} (stands : S → Strand → List Event → Type 0) (net : N
   pub actor_at : (s : Who) (a : Actor S) → s < length net.strands → a ≡ slice_index_or actors s a → slice_get actors s ≡ Some a
   actor_at s a within read = let count = sound.strands.count in slice_get_read actors (length actors) s a refl (omega (arith, within, count)) read
 
+  -- where it says that its coroutine passes a record on, that does
+  pub does_pass : (s : Who) (a : Actor S) → s < length net.strands → slice_get actors s ≡ Some a → DoesPass stands a
+  does_pass s a within at = let p = at_some net.strands s within in (sound.strands.each s p.0 a p.1 at).passes
+
   -- A turn
 
   module _ (s : Who) (k : ℕ) (e : Event) (may : licence net st left s k ≡ Some e) where
@@ -351,6 +356,7 @@ module _ {S : Type 0} (stands : S → Strand → List Event → Type 0) (net : N
                 asked = λ w q. cc;
                 stands_for = λ y q. absurd (none_some (sym b_out ∙ q));
                 looks = b_looks ∙ old.looks;
+                passes = λ y yes q. absurd (none_some (sym b_out ∙ q));
               } in
               subst (λ h. P h (want_at net (play net longer) (left_by longer out') u) x) (sym h_is) (subst (λ w. P (e ∷ past st s) w x) (sym w_is) (subst (P (e ∷ past st s) None) x_is new))
 
@@ -484,6 +490,7 @@ module _ {S : Type 0} (stands : S → Strand → List Event → Type 0) (net : N
                 asked = λ w q. cc;
                 stands_for = λ y q. absurd (none_some (sym b_out ∙ q));
                 looks = b_looks ∙ old.looks;
+                passes = λ y yes q. absurd (none_some (sym b_out ∙ q));
               } in
               subst (λ t. P (past st t) (want_at net st left u) x) (sym z) (subst (λ w. P (past st s) w x) (sym w_is) (subst (P (past st s) None) x_is new))
 
@@ -504,9 +511,9 @@ module _ {S : Type 0} (stands : S → Strand → List Event → Type 0) (net : N
     left_now = left_home net journal s p its out sound.apart among
 
     module _ (d' : DeskState) (pool' : PoolState) (a : Actor S) (there : slice_get actors s ≡ Some a) (returned : HasReturned d pool s want d' pool')
-        (asked : Asked) (bared : Telling.ended_at d s ≡ false → asked ≡ bare want) where
+        (asked : Asked) (bared : Telling.ended_at d s ≡ false → asked ≡ bare want) (passes : Bool) (passing : passes ≡ true → PassesOn stands stage) where
       abbrev new : Actor S
-      new = come_back stage asked a
+      new = come_back stage asked passes a
 
       want_stays : (u : Who) → u ≢ s → want_at net st (left_by journal (without p out)) u ≡ want_at net st left u
       want_stays u apart = ap (λ l. want_at net st l u) left_now
@@ -559,6 +566,7 @@ module _ {S : Type 0} (stands : S → Strand → List Event → Type 0) (net : N
                 asked = λ w w_is. shown w (sym want_now ∙ w_is);
                 stands_for = λ y y_is. (let y_at : stage ≡ y = cc in subst (λ v. stands v strand.0 (past st s)) y_at (subst (stands stage strand.0) (sym home_past) (done.stood strand.0 strand.1)));
                 looks = old.looks;
+                passes = λ y yes y_is. (let y_at : stage ≡ y = cc in subst (PassesOn stands) y_at (passing yes));
               } in
               subst (λ t. P t q x) (sym z) (subst (λ r. P s r x) q_is (subst (P s strand.0) x_is fresh))
 

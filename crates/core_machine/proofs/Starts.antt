@@ -251,6 +251,7 @@ module _ {S : Type 0} (stands : S → Strand → List Event → Type 0) (net : N
                 asked = λ w w_is. shows_bare [] want w (let m : Some w ≡ Some (meaning want (last_seen [])) = sym w_is ∙ want_now ∙ sym means in cc);
                 stands_for = old.stands_for;
                 looks = old.looks;
+                passes = old.passes;
               } in
               subst (λ y. IsActor stands [] (want_at net nothing_yet (out_from (suc s) n) y) p x) (sym z) (subst (IsActor stands [] (want_at net nothing_yet (out_from (suc s) n) s) p) x_is fresh)
 
@@ -273,6 +274,7 @@ module _ {S : Type 0} (stands : S → Strand → List Event → Type 0) (net : N
         asked = λ w w_is. (let no : None ≡ Some w = sym (no_want net t) ∙ w_is in cc);
         stands_for = λ z z_is. (let got : Some stage ≡ Some z = sym new.stage_is ∙ z_is in let same : stage ≡ z = cc in subst (λ v. stands v p []) same stood);
         looks = new.looks p stood;
+        passes = λ z yes z_is. (let no : false ≡ true = sym new.passes ∙ yes in cc);
       }
 
       new_length : (xs : List S) (bs : List (Actor S)) → AreNew stands xs bs → length bs ≡ length xs

@@ -1,9 +1,12 @@
 -- How what is kept of a strand changes when its coroutine goes out, comes back, or goes on in place.
-use Rattle.std.specs.Prelude.{◌||◌, Bool, true, false, ◌==◌, ℕ, List, [], Some, None, map, slice_index_or}
+use Rattle.std.specs.Prelude.{◌≡◌, ◌||◌, Bool, true, false, ◌==◌, ℕ, List, [], Some, None, map, slice_index_or}
 use Rattle.std.specs.Option.{option_map_or}
+use Rattle.pipe_model.specs.declared.net.Strand.{Strand}
 use Rattle.pipe_model.specs.declared.step.Seen.{Seen}
 use Rattle.pipe_model.specs.declared.step.Seen.TheVariants.{Saw, SawEnd}
 use Rattle.pipe_model.specs.declared.step.Want.{Want}
+use Rattle.pipe_model.specs.Event.{Event}
+use Rattle.stage_steps.specs.PassesOn.{PassesOn}
 use Rattle.record_pool.specs.PoolState.{PoolState}
 use Rattle.record_pool.specs.Places.{bytes_at}
 use Rattle.run_desk.specs.Desk.{DeskState}
@@ -16,22 +19,26 @@ is_end (SawEnd i) = i == 0
 is_end _ = false
 
 abbrev pub gone_out : {S : Type 0} → Seen → Actor S → Actor S
-gone_out seen actor = record { stage = None; asked = actor.asked; looks = actor.looks; saw_end = actor.saw_end || is_end seen }
+gone_out seen actor = record { stage = None; asked = actor.asked; looks = actor.looks; saw_end = actor.saw_end || is_end seen; passes = actor.passes }
 
-abbrev pub come_back : {S : Type 0} → S → Want → Actor S → Actor S
-come_back stage asked actor = record { stage = Some stage; asked = asked; looks = actor.looks; saw_end = actor.saw_end }
+abbrev pub come_back : {S : Type 0} → S → Want → Bool → Actor S → Actor S
+come_back stage asked passes actor = record { stage = Some stage; asked = asked; looks = actor.looks; saw_end = actor.saw_end; passes = passes }
 
--- its coroutine went on in place, and asked for this
-abbrev pub gone_on : {S : Type 0} → Seen → S → Want → Actor S → Actor S
-gone_on seen stage asked actor = record { stage = Some stage; asked = asked; looks = actor.looks; saw_end = actor.saw_end || is_end seen }
+-- it went on in place, asked for this, and may pass on the record that it saw last
+abbrev pub gone_on : {S : Type 0} → Seen → S → Want → Bool → Actor S → Actor S
+gone_on seen stage asked passes actor = record { stage = Some stage; asked = asked; looks = actor.looks; saw_end = actor.saw_end || is_end seen; passes = passes }
+
+-- where it says that its coroutine passes a record on, that does
+abbrev pub DoesPass : {S : Type 0} → (S → Strand → List Event → Type 0) → Actor S → Type 0
+DoesPass {S} stands actor = (stage : S) → actor.passes ≡ true → actor.stage ≡ Some stage → PassesOn stands stage
 
 -- its coroutine is given up
 abbrev pub given_up : {S : Type 0} → Actor S → Actor S
-given_up actor = record { stage = None; asked = actor.asked; looks = actor.looks; saw_end = actor.saw_end }
+given_up actor = record { stage = None; asked = actor.asked; looks = actor.looks; saw_end = actor.saw_end; passes = actor.passes }
 
 -- it asks for this
 abbrev pub asking_for : {S : Type 0} → Want → Actor S → Actor S
-asking_for asked actor = record { stage = actor.stage; asked = asked; looks = actor.looks; saw_end = actor.saw_end }
+asking_for asked actor = record { stage = actor.stage; asked = asked; looks = actor.looks; saw_end = actor.saw_end; passes = actor.passes }
 
 -- the strand of these is given the bytes of what it sees
 abbrev pub looks_in : {S : Type 0} → List (Actor S) → ℕ → Bool

@@ -14,6 +14,7 @@ use Rattle.run_desk.specs.Desk.{DeskState}
 use Rattle.run_desk.specs.Holding.{RunStands, waiting_of}
 use Rattle.core_machine.specs.declared.actor.Actor.{Actor}
 use Rattle.core_machine.specs.Machine.{is_at, left_by}
+use Rattle.core_machine.specs.Actors.{DoesPass}
 use Rattle.core_machine.specs.Answered.{Shows}
 
 -- the place is of the journal, and its strand has done nothing since
@@ -38,6 +39,7 @@ pub record IsActor {S : Type 0} (stands : S → Strand → List Event → Type 0
   pub asked : (w : Want) → want ≡ Some w → Shows h actor.asked w
   pub stands_for : (stage : S) → actor.stage ≡ Some stage → stands stage p h
   pub looks : actor.looks ≡ (form p).looks
+  pub passes : DoesPass stands actor
 
 -- every strand has an actor, whose coroutine is there unless the strand is out
 pub record AreActors {S : Type 0} (stands : S → Strand → List Event → Type 0) (net : Net) (journal : List Entry) (out : List ℕ) (actors : List (Actor S)) : Type 0 where

@@ -22,6 +22,7 @@ pub record IsNew {S : Type 0} (stands : S → Strand → List Event → Type 0) 
   pub stage_is : actor.stage ≡ Some stage
   pub looks : (p : Strand) → stands stage p [] → actor.looks ≡ (form p).looks
   pub saw_end : actor.saw_end ≡ false
+  pub passes : actor.passes ≡ false
 
 -- the same of each of these coroutines
 abbrev pub AreNew : {S : Type 0} → (S → Strand → List Event → Type 0) → List S → List (Actor S) → Type 0

@@ -1,7 +1,8 @@
-ghost use Rattle.std.specs.Prelude.{◌≡◌, ◌<◌, ◌||◌, ◌∷◌, ◌++◌, [], Some, None, length, slice_get, slice_set, vec_capacity, IfOk};
+ghost use Rattle.std.specs.Prelude.{◌≡◌, Bool, true, ◌<◌, ◌||◌, ◌∷◌, ◌++◌, [], Some, None, length, slice_get, slice_set, vec_capacity, IfOk};
 ghost use Rattle.pipe_model.specs.declared.step.Want.{Want as Asked};
 ghost use Rattle.stage_steps.specs.Coroutine.{CanResume, Resumes};
-ghost use Rattle.core_machine.specs.Actors.{is_end, gone_out, come_back, gone_on, given_up, looks_in};
+ghost use Rattle.stage_steps.specs.PassesOn.{PassesOn};
+ghost use Rattle.core_machine.specs.Actors.{is_end, gone_out, come_back, gone_on, given_up, asking_for, looks_in, DoesPass};
 ghost use Rattle.core_machine.specs.declared.actor.Actor.{Actor as ActorIs};
 
 use pipe_model::{NoMemory, Seen, Want};
@@ -20,6 +21,9 @@ pub struct Actor<S: Stage> {
     pub looks: bool,
     /// Whether it has seen the end of input 0.
     pub saw_end: bool,
+    /// Whether its coroutine passes on the record that it saw last, and needn't be told that its record was put and the one
+    /// at hand taken.
+    pub passes: bool,
 }
 
 /// The strand's coroutine goes out, and is told this.
@@ -36,15 +40,14 @@ pub(crate) fn send_out<S: Stage>(actors: &mut Vec<Actor<S>>, strand: usize, seen
     stage
 }
 
-/// The strand's coroutine comes back, and asks for this.
+/// The strand's coroutine comes back, asks for this, and may pass on the record that it saw last.
 #[inline(always)]
-pub(crate) fn take_back<S: Stage>(actor: &mut Actor<S>, stage: S, asked: Want)
-    ensures { actor.new ≡ come_back stage asked actor.old }
+pub(crate) fn take_back<S: Stage>(actor: &mut Actor<S>, stage: S, asked: Want, passes: bool)
+    ensures { actor.new ≡ come_back stage asked passes actor.old }
 {
     actor.stage = Some(stage);
-    let last = mem::replace(&mut actor.asked, asked);
-    // It holds no memory to let go, as in `resume`.
-    ManuallyDrop::new(last);
+    actor.passes = passes;
+    ask(actor, asked);
 }
 
 /// The strand's coroutine, which came back, is given up, as there was no memory: the strand stays out.
@@ -55,26 +58,56 @@ pub(crate) fn stay_out<S: Stage>(actor: &mut Actor<S>)
     actor.stage = None;
 }
 
-/// The strand's coroutine is told this, and goes on in place. What it asks for is kept.
+/// The strand is told this, and goes on in place. Its coroutine is told it, but where that passes a record on and this is
+/// put or taken. What it asks for is kept.
 #[inline(always)]
-pub(crate) fn resume<S: Stage>(
+pub(crate) fn advance<S: Stage>(
+    actor: &mut Actor<S>,
+    alloc: Global,
+    seen: Seen,
+    bytes: &[u8],
+) -> Result<(), NoMemory>
+    requires can { (x : S) × (actor.old.stage ≡ Some x) × CanResume S.stands x seen bytes.now }
+    requires passes { DoesPass S.stands actor.old }
+    ensures { (x : S) × (y : S) × (asked : Asked) × (passes : Bool) × (actor.old.stage ≡ Some x) × (actor.new ≡ gone_on seen y asked passes actor.old) × IfOk result (λ done. Resumes S.stands x y seen bytes.now asked × (passes ≡ true → PassesOn S.stands y)) }
+{
+    match seen {
+        Seen::Put(_) if actor.passes => ask(actor, Want::Take(0)),
+        Seen::Took(_) if actor.passes => ask(actor, Want::Read(0)),
+        _ => return resume(actor, alloc, seen, bytes),
+    }
+    Ok(())
+}
+
+// The strand's coroutine is told this, and goes on.
+#[inline(always)]
+fn resume<S: Stage>(
     actor: &mut Actor<S>,
     alloc: Global,
     seen: Seen,
     bytes: &[u8],
 ) -> Result<(), NoMemory>
     requires { (x : S) × (actor.old.stage ≡ Some x) × CanResume S.stands x seen bytes.now }
-    ensures { (x : S) × (y : S) × (asked : Asked) × (actor.old.stage ≡ Some x) × (actor.new ≡ gone_on seen y asked actor.old) × IfOk result (λ done. Resumes S.stands x y seen bytes.now asked) }
+    ensures { (x : S) × (y : S) × (asked : Asked) × (passes : Bool) × (actor.old.stage ≡ Some x) × (actor.new ≡ gone_on seen y asked passes actor.old) × IfOk result (λ done. Resumes S.stands x y seen bytes.now asked × (passes ≡ true → PassesOn S.stands y)) }
 {
     note_end(actor, seen);
     let Some(stage) = &mut actor.stage else {
         unreachable!()
     };
     let asked = stage.resume(alloc, seen, bytes)?;
+    actor.passes = matches!(seen, Seen::Saw(_)) && stage.passes();
+    ask(actor, asked);
+    Ok(())
+}
+
+// It asks for this.
+#[inline(always)]
+fn ask<S: Stage>(actor: &mut Actor<S>, asked: Want)
+    ensures { actor.new ≡ asking_for asked actor.old }
+{
     let last = mem::replace(&mut actor.asked, asked);
     // It holds no memory to let go: a record that it wrote is in the pool, and so far no stage issues a command.
     ManuallyDrop::new(last);
-    Ok(())
 }
 
 // Keeps whether the strand has seen the end of input 0.

@@ -37,6 +37,7 @@ impl<S: Stage> Core<S> {
     ghost use Rattle.pipe_model.specs.Event.{Event, has_ended};
     ghost use Rattle.pipe_model.specs.State.{past};
     ghost use Rattle.stage_steps.specs.Coroutine.{told, bytes_with};
+    ghost use Rattle.stage_steps.specs.PassesOn.{PassesOn};
     ghost use Rattle.core_machine.specs.Machine.{licence_of, state_of, looks_at, turned, came_home, broke_down, is_among, IsLawful};
     ghost use Rattle.core_machine.specs.Jobs.{JobStands, HasGoneOn, DoneStands};
     ghost use Rattle.core_machine.specs.Answered.{IsRefusal, TurnedAs, LeastTurnedAs};
@@ -165,12 +166,13 @@ impl<S: Stage> Core<S> {
             seen: _,
             stage,
             want,
+            passes,
         } = done;
         let Ok(want) = want else {
             self.is_broken = true;
             return Err(NoMemory);
         };
-        let home = self.come_home(strand, place, stage, want);
+        let home = self.come_home(strand, place, stage, want, passes);
         if home.is_err() {
             self.is_broken = true;
         }
@@ -202,16 +204,24 @@ impl<S: Stage> Core<S> {
 
     // The end of `finish`, where there was memory so far. Out of memory leaves all as it was.
     #[inline(always)]
-    fn come_home(&mut self, strand: u32, place: u64, stage: S, want: Want) -> Result<(), NoMemory>
+    fn come_home(
+        &mut self,
+        strand: u32,
+        place: u64,
+        stage: S,
+        want: Want,
+        passes: bool,
+    ) -> Result<(), NoMemory>
         requires among { is_among place self.old.out ≡ true }
         requires stands { HasGoneOn S.stands self.old.net (take place self.old.journal) strand place stage want }
+        requires passes { passes ≡ true → PassesOn S.stands stage }
         ensures home { OnOk result (self.new ≡ came_home self.old place) }
         ensures err { OnErr result (self.new ≡ self.old) }
     {
         let has_ended = self.floor.has_ended(strand);
         self.floor.wake(strand);
         let actor = &mut self.actors[strand as usize];
-        take_back(actor, stage, want);
+        take_back(actor, stage, want, passes);
         let Ok(()) = self.floor.come_home(strand, has_ended, &mut actor.asked) else {
             stay_out(actor);
             return Err(NoMemory);

@@ -31,14 +31,20 @@ pub struct Finished<S: Stage> {
     pub(crate) seen: Seen,
     pub(crate) stage: S,
     pub(crate) want: Result<Want, NoMemory>,
+    /// Whether the coroutine passes on the record that it saw.
+    pub(crate) passes: bool,
 }
 
 impl<S: Stage> Model for Finished<S> {
+    ghost use Rattle.std.specs.Prelude.{◌≡◌, true};
+    ghost use Rattle.stage_steps.specs.PassesOn.{PassesOn};
     ghost use Rattle.core_machine.specs.Jobs.{FinishedState};
 
     ghost Value = { FinishedState S };
 
     ghost view = { λ done. record { strand = done.strand; place = done.place; seen = done.seen; stage = done.stage; want = done.want } };
+
+    ghost invariant = { λ done. done.passes ≡ true → PassesOn S.stands done.stage };
 }
 
 /// The answer of a turn.
@@ -84,12 +90,14 @@ impl<S: Stage> Job<S> {
             mut stage,
         } = self;
         let want = stage.resume(alloc, seen, bytes);
+        let passes = matches!(seen, Seen::Saw(_)) && want.is_ok() && stage.passes();
         Finished {
             strand,
             place,
             seen,
             stage,
             want,
+            passes,
         }
     }
 

@@ -1,7 +1,7 @@
 ghost use Rattle.std.specs.Prelude.{◌≡◌};
 ghost use Rattle.core_machine.specs.Answered.{is_quiet};
 
-use crate::actor::{give_up, resume};
+use crate::actor::{advance, give_up};
 use crate::core_state::Core;
 use crate::floor::Ahead;
 use crate::job::RunEnd;
@@ -158,7 +158,7 @@ impl<S: Stage> Core<S> {
         self.journal.push_reserved(Entry { strand, stream });
         let actor = &mut self.actors[strand as usize];
         let bytes = self.floor.bytes_told(actor.looks, strand, seen);
-        let Ok(()) = resume(actor, alloc, seen, bytes) else {
+        let Ok(()) = advance(actor, alloc, seen, bytes) else {
             give_up(actor, &mut self.out, self.journal.len() as u64);
             self.is_broken = true; // its coroutine isn't resumed again
             return Err(NoMemory);

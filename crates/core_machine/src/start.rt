@@ -71,6 +71,7 @@ fn new_actor<S: Stage>(stage: S) -> Actor<S>
         asked: Want::Any,
         looks,
         saw_end: false,
+        passes: false,
     }
 }
 

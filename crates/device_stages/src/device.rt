@@ -78,6 +78,16 @@ impl Stage for DeviceStage {
         }
     }
 
+    // A sink keeps what it takes, so it has to be told. The others take no record.
+    #[inline(always)]
+    fn passes(&mut self) -> bool {
+        match self {
+            DeviceStage::Literal(stage) => stage.passes(),
+            DeviceStage::Hole(stage) => stage.passes(),
+            _ => false,
+        }
+    }
+
     fn looks(&self) -> bool {
         match self {
             DeviceStage::Source(stage) => stage.looks(),

@@ -43,6 +43,11 @@ impl EachRecord for Holes {
         Ok(Rec::from_vec(Vec::new(alloc)))
     }
 
+    #[inline(always)]
+    fn is_spent(&self) -> bool {
+        true
+    }
+
     fn looks(&self) -> bool {
         false
     }

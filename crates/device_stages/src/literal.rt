@@ -81,6 +81,11 @@ impl Lists for Literals {
     }
 
     #[inline(always)]
+    fn is_spent(&self) -> bool {
+        matches!(self.due, Due::Nothing)
+    }
+
+    #[inline(always)]
     fn halts(&self) -> bool {
         false
     }

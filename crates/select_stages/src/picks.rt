@@ -117,6 +117,11 @@ impl<P: Picks> Lists for Picked<P> {
     }
 
     #[inline(always)]
+    fn is_spent(&self) -> bool {
+        self.waiting.is_none() && !self.picks.stops()
+    }
+
+    #[inline(always)]
     fn halts(&self) -> bool {
         self.picks.halts()
     }

@@ -105,6 +105,11 @@ impl Stage for SelectStage {
         self.stage.resume(alloc, seen, bytes)
     }
 
+    #[inline(always)]
+    fn passes(&mut self) -> bool {
+        self.stage.passes()
+    }
+
     fn looks(&self) -> bool {
         self.stage.looks()
     }

@@ -63,6 +63,14 @@ impl Lists for SelectLists {
     }
 
     #[inline(always)]
+    fn is_spent(&self) -> bool {
+        match self {
+            SelectLists::Pick(lists) => lists.is_spent(),
+            SelectLists::Hold(_) => false,
+        }
+    }
+
+    #[inline(always)]
     fn halts(&self) -> bool {
         match self {
             SelectLists::Pick(lists) => lists.halts(),

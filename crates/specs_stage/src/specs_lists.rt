@@ -120,6 +120,11 @@ impl Lists for SpecsLists {
     }
 
     #[inline(always)]
+    fn is_spent(&self) -> bool {
+        self.given >= self.due.len() && !self.stops()
+    }
+
+    #[inline(always)]
     fn halts(&self) -> bool {
         !self.has_read && self.was_faulty
     }

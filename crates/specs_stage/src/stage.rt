@@ -89,6 +89,11 @@ impl Stage for SpecsStage {
         self.stage.resume(alloc, seen, bytes)
     }
 
+    #[inline(always)]
+    fn passes(&mut self) -> bool {
+        self.stage.passes()
+    }
+
     fn looks(&self) -> bool {
         self.stage.looks()
     }

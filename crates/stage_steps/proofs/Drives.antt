@@ -1,5 +1,5 @@
 -- The driver of lists, one event on.
-use Rattle.std.proofs.Common.{◌≡◌, ◌<◌, ℕ, Bool, true, false, cond, ◌&&◌, not, List, [], ◌∷◌, length, refl, sym, ◌∙◌, ap, subst, Some, None, Option, ℤ, pos, negsuc, is_none, is_some, option_map}
+use Rattle.std.proofs.Common.{◌≡◌, ℕ, Bool, true, false, cond, ◌&&◌, not, List, ◌∷◌, refl, sym, ◌∙◌, ap, subst, Some, None, Option, ℤ, pos, negsuc, is_none, is_some, option_map, ◌⊎◌, inl, inr}
 use Rattle.std.specs.List.{list_any}
 use Rattle.std.proofs.lemmas.Bool.Decides.{Decides-int_eq}
 use Rattle.pipe_model.specs.declared.net.Strand.{Strand}
@@ -8,27 +8,26 @@ use Rattle.pipe_model.specs.declared.step.Want.{Want as Asked}
 use Rattle.pipe_model.specs.Event.{Event, Want, answers, has_ended}
 use Rattle.pipe_model.specs.Event.Event.{Ended}
 use Rattle.pipe_model.specs.Row.{Act}
-use Rattle.pipe_model.specs.Row.Goal.{Asks as Asking}
-use Rattle.pipe_model.specs.Row.Act.{Takes}
-use Rattle.pipe_model.specs.Shape.{Records, Stream, Order as RowOrder, records_of, next_record}
+use Rattle.pipe_model.specs.Shape.{Records, Stream, Order as RowOrder, records_of}
 use Rattle.pipe_model.specs.Table.{form}
 use Rattle.pipe_model.specs.Next.{Past, past_by, want_in, wanted_by, next}
-use Rattle.pipe_model.specs.Next.Phase.{Doing}
 use Rattle.pipe_model.specs.Next.Phase.{Starting as Reaching}
 use Rattle.stage_steps.specs.declared.group.Repeat.{Repeat}
 use Rattle.stage_steps.specs.declared.outputs.Outputs.{Outputs}
+use Rattle.stage_steps.specs.declared.place.Follow.{Follow}
+use Rattle.stage_steps.specs.declared.place.Follow.TheVariants.{Take}
 use Rattle.stage_steps.specs.declared.place.Place.{Place}
-use Rattle.stage_steps.specs.declared.place.Place.TheVariants.{Starting, Committing, Looking, Writing, Taking, Ending}
+use Rattle.stage_steps.specs.declared.place.Place.TheVariants.{Starting, Committing, Looking, Writing, Taking, Passing, Ending}
 use Rattle.stage_steps.specs.declared.walk.Walk.{Walk}
 use Rattle.stage_steps.specs.Coroutine.{meaning, told, bytes_with, last_seen, owed, IsSeenBefore, IsTold}
 use Rattle.stage_steps.specs.KeptText.{KeptText}
 use Rattle.stage_steps.specs.Kept.{kept_after}
-use Rattle.stage_steps.specs.Listed.{list_row, goal_behind, PlaceIs, AllIs, KeptIs, ListedIs}
-use Rattle.stage_steps.specs.Outputs.{open_after, open_from, live, none_left}
+use Rattle.stage_steps.specs.Listed.{list_row, goal_behind, LooksOn, WritesOn, TakesOn, PlaceIs, AllIs, KeptIs, ListedIs}
+use Rattle.stage_steps.specs.Outputs.{open_after, open_from, none_left}
 use Rattle.stage_steps.specs.Places.{order_of}
 use Rattle.stage_steps.specs.Walk.{Hears, Asks}
 use Rattle.stage_steps.proofs.Acts.{want_first}
-use Rattle.stage_steps.proofs.Walks.{After, by_place, by_want}
+use Rattle.stage_steps.proofs.Walks.{HasRoom, After, by_place, by_want}
 
 -- who is answered has not ended
 pub going : (s : Strand) (h : List Event) (e : Event) → answers (next s h) e ≡ true → (has_ended h ≡ false) × (answers (wanted_by (form s).row s.ports.has_output h) e ≡ true)
@@ -43,23 +42,50 @@ some_is : (f : KeptText → KeptText) (kept : Option KeptText) → is_some (opti
 some_is f None = refl
 some_is f (Some k) = refl
 
+-- where an event answers what is wanted, it isn't in a place that wants something else
+module _ {L : Type 0} (stands : L → Bool → Stream → Records → List Act → Type 0) (order : RowOrder) (t : Stream) (x : L) (hand : Option Repeat) (flags : List Bool) (p : Past) (e : Event) (fits : answers (want_in p.phase) e ≡ true) where
+  not_wanted : (want : Want) → want_in p.phase ≡ Some want → answers (Some want) e ≡ false → ⊥
+  not_wanted want is not = let z : false ≡ true = sym not ∙ subst (λ w. answers w e ≡ true) is fits in cc
+
+  pub looks_not : answers (Some (Want.Read 0)) e ≡ false → LooksOn stands t x hand p → ⊥
+  looks_not not is = not_wanted (Want.Read 0) (ap want_in is.2) not
+
+  pub writes_not : ((o : ℕ) (rec : List ℕ) → answers (Some (Want.Write o rec)) e ≡ false) → (follow : Follow) → WritesOn stands t true x follow hand flags p → ⊥
+  writes_not not follow is =
+      let doing = is.2 in
+      not_wanted (Want.Write doing.1.0 doing.1.1) (ap want_in doing.2 ∙ want_first doing.0 (goal_behind follow t (records_of p.known.seen)) doing.1 doing.3) (not doing.1.0 doing.1.1)
+
+  pub takes_not : answers (Some (Want.Take 0)) e ≡ false → TakesOn stands order t x hand flags p → ⊥
+  takes_not not is = not_wanted (Want.Take 0) (ap want_in is.4) not
+
 -- where it ends with a code, it is in the place where it is to end with it
-ends_at : {L : Type 0} (stands : L → Bool → Stream → Records → List Act → Type 0) (order : RowOrder) (t : Stream) (x : L) (f : Place) (hand : Option Repeat) (flags : List Bool) (p : Past) (code : ℤ) →
-    PlaceIs stands order t true x f hand flags p → answers (want_in p.phase) (Ended code) ≡ true → f ≡ Ending code
-ends_at stands order t x Starting hand flags p code is fits = let z : answers (want_in (Reaching (negsuc 0))) (Ended code) ≡ true = subst (λ f. answers (want_in f) (Ended code) ≡ true) is.3 fits in cc
-ends_at stands order t x Committing hand flags p code is fits = let z : answers (want_in (Reaching (pos 0))) (Ended code) ≡ true = subst (λ f. answers (want_in f) (Ended code) ≡ true) is.3 fits in cc
-ends_at stands order t x Looking hand flags p code is fits = let z : answers (want_in (Doing [] (Asking (Want.Read 0)))) (Ended code) ≡ true = subst (λ f. answers (want_in f) (Ended code) ≡ true) is.2 fits in cc
-ends_at stands order t x (Writing follow) hand flags p code is fits =
-    let doing = is.2 in
-    let z : answers (Some (Want.Write doing.1.0 doing.1.1)) (Ended code) ≡ true =
-    subst (λ w. answers w (Ended code) ≡ true) (want_first doing.0 (goal_behind follow t (records_of p.known.seen)) doing.1 doing.3) (subst (λ f. answers (want_in f) (Ended code) ≡ true) doing.2 fits) in cc
-ends_at stands order t x Taking hand flags p code is fits =
-    let z : answers (want_in (Doing (Takes 0 ∷ live flags is.0) (next_record t (records_of p.known.seen)))) (Ended code) ≡ true = subst (λ f. answers (want_in f) (Ended code) ≡ true) is.4 fits in cc
-ends_at stands order t x (Ending code') hand flags p code is fits = ap Ending (sym ((Decides-int_eq code code').0 (subst (λ f. answers (want_in f) (Ended code) ≡ true) is fits)))
+module _ {L : Type 0} (stands : L → Bool → Stream → Records → List Act → Type 0) (order : RowOrder) (t : Stream) (x : L) (hand : Option Repeat) (flags : List Bool) (p : Past) (code : ℤ) (fits : answers (want_in p.phase) (Ended code) ≡ true) where
+  ends_looking : LooksOn stands t x hand p → ⊥
+  ends_looking is = looks_not stands order t x hand flags p (Ended code) fits refl is
+
+  ends_writing : (follow : Follow) → WritesOn stands t true x follow hand flags p → ⊥
+  ends_writing follow is = writes_not stands order t x hand flags p (Ended code) fits (λ o rec. refl) follow is
+
+  ends_taking : TakesOn stands order t x hand flags p → ⊥
+  ends_taking is = takes_not stands order t x hand flags p (Ended code) fits refl is
+
+  ends_passing : (WritesOn stands t true x Take hand flags p ⊎ (TakesOn stands order t x hand flags p ⊎ LooksOn stands t x hand p)) → ⊥
+  ends_passing (inl is) = ends_writing Take is
+  ends_passing (inr (inl is)) = ends_taking is
+  ends_passing (inr (inr is)) = ends_looking is
+
+  pub ends_at : (f : Place) → PlaceIs stands order t true x f hand flags p → f ≡ Ending code
+  ends_at Starting is = let z : answers (want_in (Reaching (negsuc 0))) (Ended code) ≡ true = subst (λ f. answers (want_in f) (Ended code) ≡ true) is.3 fits in cc
+  ends_at Committing is = let z : answers (want_in (Reaching (pos 0))) (Ended code) ≡ true = subst (λ f. answers (want_in f) (Ended code) ≡ true) is.3 fits in cc
+  ends_at Looking is = absurd (ends_looking is)
+  ends_at (Writing follow) is = absurd (ends_writing follow is)
+  ends_at Taking is = absurd (ends_taking is)
+  ends_at Passing is = absurd (ends_passing is.1)
+  ends_at (Ending code') is = ap Ending (sym ((Decides-int_eq code code').0 (subst (λ f. answers (want_in f) (Ended code) ≡ true) is fits)))
 
 module _ {L : Type 0} (stands : L → Bool → Stream → Records → List Act → Type 0) (made : L → Option (List ℕ)) (looks : Bool) (x y z : L) (seen : Seen) (bytes : List ℕ) (w : Walk) (kept' : Option KeptText) (outputs' : Outputs)
     (place1 place2 : Place) (hand' : Option Repeat) (asked : Asked) (s : Strand) (h : List Event) (e : Event)
-    (is : ListedIs stands looks x w s h) (answer : answers (next s h) e ≡ true) (seen_is : told e ≡ seen) (came : bytes_with (form s).looks e ≡ bytes) (room : length h < 50000000)
+    (is : ListedIs stands looks x w s h) (answer : answers (next s h) e ≡ true) (seen_is : told e ≡ seen) (came : bytes_with (form s).looks e ≡ bytes) (room : HasRoom h e)
     (kept_is : kept' ≡ option_map (kept_after seen bytes) w.kept) (flags_is : outputs'.flags.items ≡ open_after seen w.outputs.flags.items) (connected_is : outputs'.connected ≡ w.outputs.connected)
     (hears : Hears stands looks w.order (is_none kept' && none_left outputs'.connected outputs'.flags.items) x w.place seen bytes y place1)
     (asks : Asks stands made outputs'.flags.items y w.hand place1 z hand' place2 asked) where
@@ -122,7 +148,7 @@ module _ {L : Type 0} (stands : L → Bool → Stream → Records → List Act �
   -- at its end it is where it ends, and stays there
   stays : (code : ℤ) → e ≡ Ended code → (place2 ≡ Ending code) × (asked ≡ Asked.Done code)
   stays code it =
-      let at : w.place ≡ Ending code = ends_at stands (order_of w.order) is.stream x w.place w.hand (open_from 0 outputs old.refused) old code was (subst (λ v. answers (want_in old.phase) v ≡ true) it fits) in
+      let at : w.place ≡ Ending code = ends_at stands (order_of w.order) is.stream x w.hand (open_from 0 outputs old.refused) old code (subst (λ v. answers (want_in old.phase) v ≡ true) it fits) w.place was in
       let here : Hears stands looks w.order (is_none kept' && none_left outputs'.connected outputs'.flags.items) x (Ending code) (told (Ended code)) bytes y place1 =
       subst (λ f. Hears stands looks w.order (is_none kept' && none_left outputs'.connected outputs'.flags.items) x f (told (Ended code)) bytes y place1) at
       (subst (λ v. Hears stands looks w.order (is_none kept' && none_left outputs'.connected outputs'.flags.items) x w.place (told v) bytes y place1) it heard) in
@@ -163,7 +189,7 @@ module _ {L : Type 0} (stands : L → Bool → Stream → Records → List Act �
     kept_is = kept_now all;
   }
 
-  goes_on : has_ended (e ∷ h) ≡ false → ListedIs stands looks z walk s (e ∷ h) × (Some (meaning asked (last_seen (e ∷ h))) ≡ next s (e ∷ h)) × IsSeenBefore asked (e ∷ h)
+  pub goes_on : has_ended (e ∷ h) ≡ false → ListedIs stands looks z walk s (e ∷ h) × (Some (meaning asked (last_seen (e ∷ h))) ≡ next s (e ∷ h)) × IsSeenBefore asked (e ∷ h)
   goes_on more = (stands_for (λ m. (wants m).0) (wants more).2, wants_next more, (wants more).3)
 
   ends_here : (code : ℤ) → e ≡ Ended code → ListedIs stands looks z walk s (e ∷ h) × (Some (meaning asked (last_seen (e ∷ h))) ≡ Some (Want.Done code)) × IsSeenBefore asked (e ∷ h)
@@ -184,9 +210,9 @@ module _ {L : Type 0} (stands : L → Bool → Stream → Records → List Act �
       Hears stands looks w.order (is_none kept' && none_left outputs'.connected outputs'.flags.items) x w.place seen bytes y place1 →
       Asks stands made outputs'.flags.items y w.hand place1 z v.hand v.place asked → Stepped e
   by_event (Ended code) t kept_is flags_is connected_is hears asks =
-      ends_here stands made looks x y z seen bytes w kept' outputs' place1 v.place v.hand asked s h (Ended code) t.stood t.answer t.seen_is t.bytes_are t.room kept_is flags_is connected_is hears asks code refl
+      ends_here stands made looks x y z seen bytes w kept' outputs' place1 v.place v.hand asked s h (Ended code) t.stood t.answer t.seen_is t.bytes_are (λ i rec saw. t.room) kept_is flags_is connected_is hears asks code refl
   by_event e t kept_is flags_is connected_is hears asks =
-      goes_on stands made looks x y z seen bytes w kept' outputs' place1 v.place v.hand asked s h e t.stood t.answer t.seen_is t.bytes_are t.room kept_is flags_is connected_is hears asks (going s h e t.answer).0
+      goes_on stands made looks x y z seen bytes w kept' outputs' place1 v.place v.hand asked s h e t.stood t.answer t.seen_is t.bytes_are (λ i rec saw. t.room) kept_is flags_is connected_is hears asks (going s h e t.answer).0
 
   -- the driver's one step, from what its parts do
   pub steps : (e : Event) → looks' ≡ looks → v ≡ record { order = w.order; place = v.place; hand = v.hand; outputs = outputs'; kept = kept' } → IsTold (λ v s h. ListedIs stands looks v w s h) x seen bytes s h e →

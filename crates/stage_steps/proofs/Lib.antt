@@ -7,6 +7,7 @@ pub mod Flags
 pub mod Groups
 pub mod Lasts
 pub mod Passing
+pub mod PassingOn
 pub mod Planning
 pub mod Searching
 pub mod Sources

@@ -1,5 +1,5 @@
 -- A walk of pairs, one event on.
-use Rattle.std.proofs.Common.{◌≡◌, ◌≤◌, ◌<◌, ℕ, suc, ◌+◌, Bool, true, false, cond, ◌&&◌, not, List, [], ◌∷◌, ◌++◌, length, refl, sym, ◌∙◌, ap, subst, arith, Some, None, Option, ℤ, pos, negsuc, append_assoc}
+use Rattle.std.proofs.Common.{◌≡◌, ◌≤◌, ◌<◌, ℕ, suc, ◌+◌, Bool, true, false, cond, ◌&&◌, not, List, [], ◌∷◌, ◌++◌, length, refl, sym, ◌∙◌, ap, subst, arith, Some, None, Option, ℤ, pos, negsuc, append_assoc, ◌⊎◌, inl, inr}
 use Rattle.std.proofs.lemmas.List.{map-append, length-append}
 use Rattle.std.proofs.lemmas.Bool.{eqb-true}
 use Rattle.std.specs.Prelude.{filter, IsSome}
@@ -26,13 +26,13 @@ use Rattle.stage_steps.specs.declared.order.Order.TheVariants.{WritesFirst, Take
 use Rattle.stage_steps.specs.declared.place.Follow.{Follow}
 use Rattle.stage_steps.specs.declared.place.Follow.TheVariants.{Take, Look, End}
 use Rattle.stage_steps.specs.declared.place.Place.{Place}
-use Rattle.stage_steps.specs.declared.place.Place.TheVariants.{Starting, Committing, Looking, Writing, Taking, Ending}
+use Rattle.stage_steps.specs.declared.place.Place.TheVariants.{Starting, Committing, Looking, Writing, Taking, Passing, Ending}
 use Rattle.stage_steps.specs.Coroutine.{meaning, told, bytes_with, last_seen, record_seen_on, IsSeenBefore}
 use Rattle.stage_steps.specs.Group.{group_acts, held_acts, is_due, IsOfRecord, IsLeftOfRecord}
 use Rattle.stage_steps.specs.KeptText.{KeptText}
 use Rattle.stage_steps.specs.Kept.{kept_after}
 use Rattle.stage_steps.specs.Lists.{Sees, Finishes, Tells}
-use Rattle.stage_steps.specs.Listed.{list_row, first_write, when_written, and_behind, goal_behind, IsBeforeTake, PlaceIs, AllIs, WalkIs}
+use Rattle.stage_steps.specs.Listed.{list_row, first_write, when_written, and_behind, goal_behind, IsBeforeTake, LooksOn, WritesOn, TakesOn, PlaceIs, AllIs, WalkIs}
 use Rattle.stage_steps.specs.Outputs.{open_after, open_from, live, none_left}
 use Rattle.stage_steps.specs.Places.{order_of, want_at, place_with, is_last, sight_place, look_place, taken_place, place_behind}
 use Rattle.stage_steps.specs.Walk.{IsBegun, Hears, Fetches, Puts, Turns, Asks}
@@ -62,6 +62,7 @@ all_same Taking all g h taken seen is = is ∙ ap (λ r. text (r ++ last_seen_on
 all_same Starting all g h taken seen is = is ∙ ap text (sym taken)
 all_same Committing all g h taken seen is = is ∙ ap text (sym taken)
 all_same Looking all g h taken seen is = is ∙ ap text (sym taken)
+all_same Passing all g h taken seen is = is
 all_same (Ending code) all g h taken seen is = tt
 
 none_before : (order : RowOrder) → IsBeforeTake order []
@@ -77,6 +78,10 @@ look_by stands order t has_asked x hand flags p stood none is =
     PlaceIs stands order t has_asked x (cond b (Ending (t.code (records_of p.known.seen))) Looking) hand flags p) [ true ↦ λ e. e | false ↦ λ e. (stood, none, e) ]) is
 
 -- One event
+
+-- where a record is seen there is room for one more
+abbrev pub HasRoom : List Event → Event → Type 0
+HasRoom h e = (i : ℕ) (rec : List ℕ) → e ≡ Saw i rec → length h < 50000000
 
 module _ {L : Type 0} (stands : L → Bool → Stream → Records → List Act → Type 0) (looks keeps : Bool) (order : Order) (t : Stream) (outputs : List Bool) (h : List Event) (bytes : List ℕ)
     (x y : L) (hand : Option Repeat) (place' : Place) (p : Past) where
@@ -209,12 +214,12 @@ module _ {L : Type 0} (stands : L → Bool → Stream → Records → List Act �
         taken = λ kept is taken. taken;
       }
 
-  looked : (e : Event) → stands x false t (records_of p.known.seen) [] → hand ≡ None → length h < 50000000 → answers (Some (Want.Read 0)) e ≡ true → bytes_with looks e ≡ bytes → Hears stands looks order ends_it x Looking (told e) bytes y place' →
+  looked : (e : Event) → stands x false t (records_of p.known.seen) [] → hand ≡ None → HasRoom h e → answers (Some (Want.Read 0)) e ≡ true → bytes_with looks e ≡ bytes → Hears stands looks order ends_it x Looking (told e) bytes y place' →
       Next Looking e (after (list_row (order_of order) keeps t) outputs p (Doing [] (Asking (Want.Read 0))) e)
   looked (Saw i rec) stood none room fits came heard =
       let zero_is : 0 ≡ i = sym (eqb-true i 0 fits) in
       subst (λ j. Next Looking (Saw j rec) (after (list_row (order_of order) keeps t) outputs p (Doing [] (Asking (Want.Read 0))) (Saw j rec))) zero_is
-      (sees rec stood none (omega (arith, few, room)) (λ on. sym came ∙ ap (λ b. bytes_with b (Saw i rec)) on) heard.0 heard.1)
+      (sees rec stood none (let less : length h < 50000000 = room i rec refl in omega (arith, few, less)) (λ on. sym came ∙ ap (λ b. bytes_with b (Saw i rec)) on) heard.0 heard.1)
   looked (SawEnd i) stood none room fits came heard =
       let zero_is : 0 ≡ i = sym (eqb-true i 0 fits) in
       subst (λ j. Next Looking (SawEnd j) (after (list_row (order_of order) keeps t) outputs p (Doing [] (Asking (Want.Read 0))) (SawEnd j))) zero_is (sees_end stood none heard.0 heard.1)
@@ -316,23 +321,63 @@ module _ {L : Type 0} (stands : L → Bool → Stream → Records → List Act �
   }
   ended code _ fits heard = cc
 
-  pub by_place : (f : Place) (e : Event) → PlaceIs stands (order_of order) t true x f hand (open_from 0 outputs p.refused) p → length h < 50000000 →
-      ends_it ≡ (not keeps && none_left (list_any (λ flag. flag) outputs) (open_after (told e) (open_from 0 outputs p.refused))) →
-      answers (want_in p.phase) e ≡ true → bytes_with looks e ≡ bytes → Hears stands looks order ends_it x f (told e) bytes y place' →
-      Next f e (after (list_row (order_of order) keeps t) outputs p p.phase e)
-  by_place Starting e is room ends_is fits came heard =
-      subst (λ z. Next Starting e (after (list_row (order_of order) keeps t) outputs p z e)) (sym is.3) (from_start e is.0 is.1 is.2 (subst (λ z. answers (want_in z) e ≡ true) is.3 fits) heard)
-  by_place Committing e is room ends_is fits came heard =
-      subst (λ z. Next Committing e (after (list_row (order_of order) keeps t) outputs p z e)) (sym is.3) (from_commit e is.0 is.1 is.2 (subst (λ z. answers (want_in z) e ≡ true) is.3 fits) heard)
-  by_place Looking e is room ends_is fits came heard =
+  -- what an event of a place that is still to answer it leads to
+  abbrev Leads : Place → Event → Type 0
+  Leads f e = Hears stands looks order ends_it x f (told e) bytes y place' → Next f e (after (list_row (order_of order) keeps t) outputs p p.phase e)
+
+  at_looking : (e : Event) → LooksOn stands t x hand p → HasRoom h e → answers (want_in p.phase) e ≡ true → bytes_with looks e ≡ bytes → Leads Looking e
+  at_looking e is room fits came heard =
       subst (λ z. Next Looking e (after (list_row (order_of order) keeps t) outputs p z e)) (sym is.2) (looked e is.0 is.1 room (subst (λ z. answers (want_in z) e ≡ true) is.2 fits) came heard)
-  by_place (Writing follow) e is room ends_is fits came heard =
+
+  at_writing : (follow : Follow) (e : Event) → WritesOn stands t true x follow hand (open_from 0 outputs p.refused) p →
+      ends_it ≡ (not keeps && none_left (list_any (λ flag. flag) outputs) (open_after (told e) (open_from 0 outputs p.refused))) → answers (want_in p.phase) e ≡ true → Leads (Writing follow) e
+  at_writing follow e is ends_is fits heard =
       let doing = is.2 in
       subst (λ z. Next (Writing follow) e (after (list_row (order_of order) keeps t) outputs p z e)) (sym doing.2)
       (wrote follow is.0 doing.0 doing.1 e is.1 ends_is doing.2 doing.3 doing.4 is.3
       (subst (λ z. answers z e ≡ true) (want_first doing.0 (goal_behind follow t (records_of p.known.seen)) doing.1 doing.3) (subst (λ z. answers (want_in z) e ≡ true) doing.2 fits)) heard)
-  by_place Taking e is room ends_is fits came heard =
+
+  at_taking : (e : Event) → TakesOn stands (order_of order) t x hand (open_from 0 outputs p.refused) p → answers (want_in p.phase) e ≡ true → Leads Taking e
+  at_taking e is fits heard =
       subst (λ z. Next Taking e (after (list_row (order_of order) keeps t) outputs p z e)) (sym is.4) (took is.0 e is.1 is.2 is.3 (subst (λ z. answers (want_in z) e ≡ true) is.4 fits) heard)
+
+  -- what becomes of a place becomes of one where records are passed on, since nothing is kept there
+  passed : (f : Place) (e : Event) (q : Past) → Next f e q → Next Passing e q
+  passed f e q next = record { walk = next.walk; all = λ kept came is. absurd is; taken = λ kept is taken. absurd is }
+
+  -- an event is heard there as in the place that asked for it, and as nothing in the others
+  passed_writing : (e : Event) → Hears stands looks order ends_it x Passing (told e) bytes y place' → Hears stands looks order ends_it x (Writing Take) (told e) bytes y place'
+  passed_writing (Put o rec) heard = heard
+  passed_writing (Refused o) heard = heard
+  passed_writing _ heard = tt
+
+  passed_taking : (e : Event) → Hears stands looks order ends_it x Passing (told e) bytes y place' → Hears stands looks order ends_it x Taking (told e) bytes y place'
+  passed_taking (Took i) heard = heard
+  passed_taking _ heard = tt
+
+  passed_looking : (e : Event) → Hears stands looks order ends_it x Passing (told e) bytes y place' → Hears stands looks order ends_it x Looking (told e) bytes y place'
+  passed_looking (Saw i rec) heard = heard
+  passed_looking (SawEnd i) heard = heard
+  passed_looking _ heard = tt
+
+  at_passing : (e : Event) → (WritesOn stands t true x Take hand (open_from 0 outputs p.refused) p ⊎ (TakesOn stands (order_of order) t x hand (open_from 0 outputs p.refused) p ⊎ LooksOn stands t x hand p)) → HasRoom h e →
+      ends_it ≡ (not keeps && none_left (list_any (λ flag. flag) outputs) (open_after (told e) (open_from 0 outputs p.refused))) →
+      answers (want_in p.phase) e ≡ true → bytes_with looks e ≡ bytes → Leads Passing e
+  at_passing e (inl is) room ends_is fits came heard = passed (Writing Take) e (after (list_row (order_of order) keeps t) outputs p p.phase e) (at_writing Take e is ends_is fits (passed_writing e heard))
+  at_passing e (inr (inl is)) room ends_is fits came heard = passed Taking e (after (list_row (order_of order) keeps t) outputs p p.phase e) (at_taking e is fits (passed_taking e heard))
+  at_passing e (inr (inr is)) room ends_is fits came heard = passed Looking e (after (list_row (order_of order) keeps t) outputs p p.phase e) (at_looking e is room fits came (passed_looking e heard))
+
+  pub by_place : (f : Place) (e : Event) → PlaceIs stands (order_of order) t true x f hand (open_from 0 outputs p.refused) p → HasRoom h e →
+      ends_it ≡ (not keeps && none_left (list_any (λ flag. flag) outputs) (open_after (told e) (open_from 0 outputs p.refused))) →
+      answers (want_in p.phase) e ≡ true → bytes_with looks e ≡ bytes → Leads f e
+  by_place Starting e is room ends_is fits came heard =
+      subst (λ z. Next Starting e (after (list_row (order_of order) keeps t) outputs p z e)) (sym is.3) (from_start e is.0 is.1 is.2 (subst (λ z. answers (want_in z) e ≡ true) is.3 fits) heard)
+  by_place Committing e is room ends_is fits came heard =
+      subst (λ z. Next Committing e (after (list_row (order_of order) keeps t) outputs p z e)) (sym is.3) (from_commit e is.0 is.1 is.2 (subst (λ z. answers (want_in z) e ≡ true) is.3 fits) heard)
+  by_place Looking e is room ends_is fits came heard = at_looking e is room fits came heard
+  by_place (Writing follow) e is room ends_is fits came heard = at_writing follow e is ends_is fits heard
+  by_place Taking e is room ends_is fits came heard = at_taking e is fits heard
+  by_place Passing e is room ends_is fits came heard = at_passing e is.1 room ends_is fits came heard
   by_place (Ending code) e is room ends_is fits came heard =
       subst (λ z. Next (Ending code) e (after (list_row (order_of order) keeps t) outputs p z e)) (sym is) (ended code e (subst (λ z. answers (want_in z) e ≡ true) is fits) heard)
 
@@ -344,6 +389,7 @@ plain_seen h Starting = tt
 plain_seen h Committing = tt
 plain_seen h Looking = tt
 plain_seen h Taking = tt
+plain_seen h Passing = tt
 plain_seen h (Ending code) = tt
 plain_seen h (Writing follow) = tt
 
@@ -433,4 +479,5 @@ module _ {L : Type 0} (stands : L → Bool → Stream → Records → List Act �
   by_want Looking sight seen is asks = plainly Looking asks is (ap want_in (sym is.2))
   by_want (Writing follow) sight seen is asks = asks_at follow asks.0 asks.1 sight seen is asks.2 asks.3
   by_want Taking sight seen is asks = plainly Taking asks is (ap want_in (sym is.4))
+  by_want Passing sight seen is asks = let no : false ≡ true = is.0 in cc
   by_want (Ending code) sight seen is asks = plainly (Ending code) asks is (ap want_in (sym is))

@@ -9,6 +9,7 @@ pub mod Listed
 pub mod Lists
 pub mod Outputs
 pub mod Parts
+pub mod PassesOn
 pub mod Places
 pub mod Planned
 pub mod Planning

@@ -1,5 +1,5 @@
 -- What the driver of lists stands for.
-use Rattle.std.specs.Prelude.{◌≡◌, ◌≤◌, ◌<◌, IsSome, ℕ, Bool, true, false, not, ◌==◌, if◌then◌else◌, List, [], ◌∷◌, ◌++◌, length, pos, negsuc, is_some}
+use Rattle.std.specs.Prelude.{◌≡◌, ◌≤◌, ◌<◌, IsSome, ◌⊎◌, ℕ, Bool, true, false, not, ◌==◌, if◌then◌else◌, List, [], ◌∷◌, ◌++◌, length, pos, negsuc, is_some}
 use Rattle.std.specs.List.{list_any}
 use Rattle.std.specs.declared.option.Option.{Option}
 use Rattle.std.specs.declared.option.Option.TheVariants.{Some, None}
@@ -22,7 +22,7 @@ use Rattle.stage_steps.specs.declared.group.Repeat.{Repeat}
 use Rattle.stage_steps.specs.declared.place.Follow.{Follow}
 use Rattle.stage_steps.specs.declared.place.Follow.TheVariants.{Take, End}
 use Rattle.stage_steps.specs.declared.place.Place.{Place}
-use Rattle.stage_steps.specs.declared.place.Place.TheVariants.{Starting, Committing, Looking, Writing, Taking, Ending}
+use Rattle.stage_steps.specs.declared.place.Place.TheVariants.{Starting, Committing, Looking, Writing, Taking, Passing, Ending}
 use Rattle.stage_steps.specs.declared.walk.Walk.{Walk}
 use Rattle.stage_steps.specs.Coroutine.{kept_by, record_seen_on}
 use Rattle.stage_steps.specs.Group.{held_acts, IsLeftOfRecord}
@@ -91,24 +91,38 @@ abbrev pub IsBeforeTake : RowOrder → List Act → Type 0
 IsBeforeTake WritesFirst acts = acts ≡ []
 IsBeforeTake TakesFirst acts = Unit {0}
 
--- the walk's place, before it asks or when it has asked
+-- it looks at the next record
+abbrev pub LooksOn : {L : Type 0} → (L → Bool → Stream → Records → List Act → Type 0) → Stream → L → Option Repeat → Past → Type 0
+LooksOn stands t x hand p = stands x false t (records_of p.known.seen) [] × (hand ≡ None) × (p.phase ≡ Doing [] (Asks (Read 0)))
+
+-- it writes pairs, before it asks or when it has asked
+abbrev pub WritesOn : {L : Type 0} → (L → Bool → Stream → Records → List Act → Type 0) → Stream → Bool → L → Follow → Option Repeat → List Bool → Past → Type 0
+WritesOn stands t has_asked x follow hand flags p = (acts : List Act) × stands x (is_last follow) t (records_of p.known.seen) acts
+    × IsDoing has_asked (live flags (and_behind follow (held_acts (at_hand_of (records_of p.known.seen)) hand ++ acts))) (goal_behind follow t (records_of p.known.seen)) p.phase
+    × IsLeftOfRecord (records_of p.known.seen) hand
+
+-- it takes the record at hand
+abbrev pub TakesOn : {L : Type 0} → (L → Bool → Stream → Records → List Act → Type 0) → RowOrder → Stream → L → Option Repeat → List Bool → Past → Type 0
+TakesOn stands order t x hand flags p = (acts : List Act) × stands x false t (records_of p.known.seen) acts × (hand ≡ None) × IsBeforeTake order acts
+    × (p.phase ≡ Doing (Takes 0 ∷ live flags acts) (next_record t (records_of p.known.seen)))
+
+-- the walk's place, before it asks or when it has asked; where it passes a record on it has asked, and it may be in one of three
 abbrev pub PlaceIs : {L : Type 0} → (L → Bool → Stream → Records → List Act → Type 0) → RowOrder → Stream → Bool → L → Place → Option Repeat → List Bool → Past → Type 0
 PlaceIs stands order t has_asked x Starting hand flags p = stands x false t [] [] × (hand ≡ None) × (p.known ≡ nothing_known) × (p.phase ≡ Reaching (negsuc 0))
 PlaceIs stands order t has_asked x Committing hand flags p = stands x false t [] [] × (hand ≡ None) × (p.known ≡ nothing_known) × (p.phase ≡ Reaching (pos 0))
-PlaceIs stands order t has_asked x Looking hand flags p = stands x false t (records_of p.known.seen) [] × (hand ≡ None) × (p.phase ≡ Doing [] (Asks (Read 0)))
-PlaceIs stands order t has_asked x (Writing follow) hand flags p = (acts : List Act) × stands x (is_last follow) t (records_of p.known.seen) acts
-    × IsDoing has_asked (live flags (and_behind follow (held_acts (at_hand_of (records_of p.known.seen)) hand ++ acts))) (goal_behind follow t (records_of p.known.seen)) p.phase
-    × IsLeftOfRecord (records_of p.known.seen) hand
-PlaceIs stands order t has_asked x Taking hand flags p = (acts : List Act) × stands x false t (records_of p.known.seen) acts × (hand ≡ None) × IsBeforeTake order acts
-    × (p.phase ≡ Doing (Takes 0 ∷ live flags acts) (next_record t (records_of p.known.seen)))
+PlaceIs stands order t has_asked x Looking hand flags p = LooksOn stands t x hand p
+PlaceIs stands order t has_asked x (Writing follow) hand flags p = WritesOn stands t has_asked x follow hand flags p
+PlaceIs stands order t has_asked x Taking hand flags p = TakesOn stands order t x hand flags p
+PlaceIs stands order t has_asked x Passing hand flags p = (has_asked ≡ true) × (WritesOn stands t true x Take hand flags p ⊎ (TakesOn stands order t x hand flags p ⊎ LooksOn stands t x hand p))
 PlaceIs stands order t has_asked x (Ending code) hand flags p = p.phase ≡ Doing [] (Ends code)
 
 -- What is kept
 
--- all text that is kept: that of the records taken, and while one is at hand that record too
+-- all text that is kept: that of the records taken, and while one is at hand that record too; where it passes records on it keeps none
 abbrev pub AllIs : Place → List ℕ → List Event → Type 0
 AllIs (Writing Take) all h = all ≡ text (taken_from 0 h ++ last_seen_on 0 h ∷ [])
 AllIs Taking all h = all ≡ text (taken_from 0 h ++ last_seen_on 0 h ∷ [])
+AllIs Passing all h = ⊥
 AllIs (Ending code) all h = Unit {0}
 AllIs _ all h = all ≡ text (taken_from 0 h)
 

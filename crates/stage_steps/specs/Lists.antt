@@ -34,6 +34,10 @@ StandsOn {L} {T} stands x y = (over : Bool) (t : T) (recs : Records) (acts : Lis
 abbrev pub HandsOver : {L T : Type 0} → (L → Bool → T → Records → List Act → Type 0) → (L → Option (List ℕ)) → L → List ℕ → L → Type 0
 HandsOver stands made x rec y = is_some (made x) ≡ true → (rec ≡ unwrap_or (made x) []) × StandsOn stands x y
 
+-- nothing is left to write, and the stream doesn't stop after the records so far
+abbrev pub IsSpent : {L : Type 0} → (L → Bool → Stream → Records → List Act → Type 0) → L → Type 0
+IsSpent stands x = (over : Bool) (t : Stream) (recs : Records) (acts : List Act) → stands x over t recs acts → (acts ≡ []) × (t.stops recs ≡ false)
+
 -- what it tells is what the stream says after the records so far
 abbrev pub Tells : {L A : Type 0} → (L → Bool → Stream → Records → List Act → Type 0) → L → A → (Stream → Records → A) → Type 0
 Tells stands x a f = (over : Bool) (t : Stream) (recs : Records) (acts : List Act) → stands x over t recs acts → a ≡ f t recs

@@ -9,7 +9,7 @@ use Rattle.stage_steps.specs.declared.order.Order.TheVariants.{WritesFirst, Take
 use Rattle.stage_steps.specs.declared.place.Follow.{Follow}
 use Rattle.stage_steps.specs.declared.place.Follow.TheVariants as Follows
 use Rattle.stage_steps.specs.declared.place.Place.{Place}
-use Rattle.stage_steps.specs.declared.place.Place.TheVariants.{Starting, Committing, Looking, Writing, Taking, Ending}
+use Rattle.stage_steps.specs.declared.place.Place.TheVariants.{Starting, Committing, Looking, Writing, Taking, Passing, Ending}
 
 -- the stage table's word for an order
 abbrev pub order_of : Order → RowOrder
@@ -24,6 +24,7 @@ want_at Looking = Read 0
 want_at Taking = Take 0
 want_at (Ending code) = Done code
 want_at (Writing follow) = Done (pos 0)
+want_at Passing = Done (pos 0)
 
 -- the place with a record at hand
 abbrev pub place_with : Order → Place

@@ -1,5 +1,5 @@
 -- How a walk of pairs goes on: where it stands after an event, and what it asks for then.
-use Rattle.std.specs.Prelude.{◌≡◌, ℕ, Bool, true, false, if◌then◌else◌, List, [], ◌++◌, pos, unwrap_or}
+use Rattle.std.specs.Prelude.{◌≡◌, ◌⊎◌, ℕ, Bool, true, false, if◌then◌else◌, List, [], ◌++◌, pos, unwrap_or}
 use Rattle.std.specs.Ordering.{int_eq}
 use Rattle.std.specs.declared.option.Option.{Option}
 use Rattle.std.specs.declared.option.Option.TheVariants.{Some, None}
@@ -14,12 +14,14 @@ use Rattle.stage_steps.specs.declared.group.Group.{Group}
 use Rattle.stage_steps.specs.declared.group.Group.TheVariants.{AtHand, New}
 use Rattle.stage_steps.specs.declared.group.Repeat.{Repeat}
 use Rattle.stage_steps.specs.declared.order.Order.{Order}
+use Rattle.stage_steps.specs.declared.order.Order.TheVariants.{WritesFirst}
 use Rattle.stage_steps.specs.declared.place.Follow.{Follow}
-use Rattle.stage_steps.specs.declared.place.Follow.TheVariants.{Look, End}
+use Rattle.stage_steps.specs.declared.place.Follow.TheVariants.{Take, Look, End}
 use Rattle.stage_steps.specs.declared.place.Place.{Place}
-use Rattle.stage_steps.specs.declared.place.Place.TheVariants.{Starting, Committing, Looking, Writing, Taking, Ending}
+use Rattle.stage_steps.specs.declared.place.Place.TheVariants.{Starting, Committing, Looking, Writing, Taking, Passing, Ending}
+use Rattle.stage_steps.specs.declared.walk.Walk.{Walk}
 use Rattle.stage_steps.specs.Group.{group_acts, held_acts, is_due, less_one, IsHeld, IsOfRecord, IsLeftOfRecord}
-use Rattle.stage_steps.specs.Lists.{Begins, Sees, Finishes, StandsOn, Tells}
+use Rattle.stage_steps.specs.Lists.{Begins, Sees, Finishes, StandsOn, IsSpent, Tells}
 use Rattle.stage_steps.specs.Outputs.{live}
 use Rattle.stage_steps.specs.Places.{want_at, sight_place, taken_place, place_behind, is_last}
 
@@ -37,8 +39,22 @@ Hears stands looks order gives_up x Looking (SawEnd i) bytes y place = Finishes 
 Hears stands looks order gives_up x (Writing follow) (Put o) bytes y place = (y ≡ x) × (place ≡ Writing follow)
 Hears stands looks order gives_up x (Writing follow) (Refused o) bytes y place = (y ≡ x) × (place ≡ (if gives_up then Ending (pos 0) else Writing follow))
 Hears stands looks order gives_up x Taking (Took i) bytes y place = (y ≡ x) × Tells stands x place (taken_place order)
+Hears stands looks order gives_up x Passing (Put o) bytes y place = (y ≡ x) × (place ≡ Writing Take)
+Hears stands looks order gives_up x Passing (Refused o) bytes y place = (y ≡ x) × (place ≡ (if gives_up then Ending (pos 0) else Writing Take))
+Hears stands looks order gives_up x Passing (Took i) bytes y place = (y ≡ x) × Tells stands x place (taken_place order)
+Hears stands looks order gives_up x Passing (Saw i) bytes y place = Sees stands looks x y bytes × Tells stands y place (sight_place order)
+Hears stands looks order gives_up x Passing (SawEnd i) bytes y place = Finishes stands x y × (place ≡ Writing End)
 Hears stands looks order gives_up x (Ending code) (Ended code') bytes y place = (y ≡ x) × (place ≡ Ending code)
 Hears stands looks order gives_up x _ _ bytes y place = Unit {0}
+
+-- what follows the record at hand is known: it is to be put or taken, nothing is kept and nothing left to write, and when it was taken the next one is looked at
+abbrev pub CanPass : {L : Type 0} → (L → Bool → Stream → Records → List Act → Type 0) → L → Walk → Type 0
+CanPass stands x w = ((w.place ≡ Writing Take) ⊎ (w.place ≡ Taking)) × (w.kept ≡ None) × (w.hand ≡ None) × (w.order ≡ WritesFirst) × IsSpent stands x
+
+-- whether it passes the record on, and where it stands then
+abbrev pub IsPassing : {L : Type 0} → (L → Bool → Stream → Records → List Act → Type 0) → L → Walk → Walk → Bool → Type 0
+IsPassing stands x w v false = v ≡ w
+IsPassing stands x w v true = CanPass stands x w × (v ≡ record w { place = Passing })
 
 -- the group that comes next of those whose output is open, the record in hand first, or none where nothing is left
 abbrev pub Fetches : {L : Type 0} → (L → Bool → Stream → Records → List Act → Type 0) → (L → Option (List ℕ)) → List Bool → L → Option Repeat → L → Option Group → Type 0

@@ -15,6 +15,10 @@ impl<T: Stage> Stage for Box<T> {
         (**self).resume(alloc, seen, bytes)
     }
 
+    fn passes(&mut self) -> bool {
+        (**self).passes()
+    }
+
     fn looks(&self) -> bool {
         (**self).looks()
     }

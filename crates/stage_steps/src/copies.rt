@@ -54,6 +54,11 @@ impl EachRecord for Copies {
         Ok(Rec::from_vec(Vec::new(alloc)))
     }
 
+    #[inline(always)]
+    fn is_spent(&self) -> bool {
+        self.waiting.is_none()
+    }
+
     fn looks(&self) -> bool {
         self.is_looking
     }

@@ -1,4 +1,4 @@
-ghost use Rattle.std.specs.Prelude.{◌≡◌, ◌<◌, ℕ, List, Bool, IfOk, IfSome, Option, None};
+ghost use Rattle.std.specs.Prelude.{◌≡◌, ◌<◌, ℕ, List, [], Bool, true, IfOk, IfSome, Option, None};
 ghost use Rattle.pipe_model.specs.Row.{Act};
 ghost use Rattle.pipe_model.specs.Shape.{Records, Outs};
 ghost use Rattle.stage_steps.specs.Lists.{SeesEach, GivesNext, HandsOver, always};
@@ -39,6 +39,13 @@ pub trait EachRecord: Sized + Drop {
     fn hand_over(&mut self, alloc: Global) -> Result<Rec, NoMemory>
         ensures looks_same { is_looking self.new ≡ is_looking self.old }
         ensures hands { IfOk result (λ rec. HandsOver (always stands) made self.old rec self.new) };
+
+    /// Whether nothing is left of the list. The answer may always be `false`.
+    fn is_spent(&self) -> bool
+        ensures { result ≡ true → (outs : Outs) (recs : Records) (acts : List Act) → stands self.now outs recs acts → acts ≡ [] }
+    {
+        false
+    }
 
     /// Whether it needs the bytes of the records.
     fn looks(&self) -> bool
@@ -81,6 +88,11 @@ impl<E: EachRecord> Lists for Each<E> {
     #[inline(always)]
     fn hand_over(&mut self, alloc: Global) -> Result<Rec, NoMemory> {
         self.each.hand_over(alloc)
+    }
+
+    #[inline(always)]
+    fn is_spent(&self) -> bool {
+        self.each.is_spent()
     }
 
     #[inline(always)]

@@ -4,7 +4,7 @@ use crate::order::Order;
 use crate::outputs::Outputs;
 use crate::place::Place;
 use crate::stage::Stage;
-use crate::walk::{Walk, ask, hear};
+use crate::walk::{Walk, ask, hear, passes};
 use pipe_model::{NoMemory, Seen, Want};
 use std::alloc::Global;
 
@@ -64,6 +64,11 @@ impl<L: Lists> Stage for Listed<L> {
         self.walk.outputs.note(seen);
         let place = hear(&mut self.lists, &self.walk, alloc, seen, bytes)?;
         ask(&mut self.lists, &mut self.walk, place, alloc)
+    }
+
+    #[inline(always)]
+    fn passes(&mut self) -> bool {
+        passes(&self.lists, &mut self.walk)
     }
 
     fn looks(&self) -> bool {

@@ -1,7 +1,7 @@
-ghost use Rattle.std.specs.Prelude.{◌≡◌, ◌<◌, ℕ, List, [], Bool, IfOk, IfSome, Option};
+ghost use Rattle.std.specs.Prelude.{◌≡◌, ◌<◌, ℕ, List, [], Bool, true, IfOk, IfSome, Option};
 ghost use Rattle.pipe_model.specs.Row.{Act};
 ghost use Rattle.pipe_model.specs.Shape.{Records, Stream};
-ghost use Rattle.stage_steps.specs.Lists.{Begins, Sees, Finishes, GivesNext, HandsOver, Tells, TellsAtEnd};
+ghost use Rattle.stage_steps.specs.Lists.{Begins, Sees, Finishes, GivesNext, HandsOver, IsSpent, Tells, TellsAtEnd};
 
 use crate::group::Group;
 use pipe_model::{NoMemory, Rec};
@@ -48,6 +48,14 @@ pub trait Lists: Sized + Drop {
     fn hand_over(&mut self, alloc: Global) -> Result<Rec, NoMemory>
         ensures looks_same { is_looking self.new ≡ is_looking self.old }
         ensures hands { IfOk result (λ rec. HandsOver stands made self.old rec self.new) };
+
+    /// Whether nothing is left of the list that it gives now, and the stage goes on behind the record at hand. The answer may
+    /// always be `false`.
+    fn is_spent(&self) -> bool
+        ensures { result ≡ true → IsSpent stands self.now }
+    {
+        false
+    }
 
     /// Whether it ends at the sight of the record at hand.
     fn halts(&self) -> bool

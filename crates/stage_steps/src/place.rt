@@ -27,6 +27,9 @@ pub(crate) enum Place {
     Writing(Follow),
     /// It takes the record at hand.
     Taking,
+    /// It passes the record at hand on: it waits until its last pair is put, takes the record, or has taken it and looks at
+    /// the next one, and doesn't know which.
+    Passing,
     /// It ends with this code.
     Ending(i32),
 }
@@ -42,6 +45,6 @@ pub(crate) fn want_at(place: Place) -> Want
         Place::Looking => Want::Read(0),
         Place::Taking => Want::Take(0),
         Place::Ending(code) => Want::Done(code),
-        Place::Writing(_) => Want::Done(0),
+        Place::Writing(_) | Place::Passing => Want::Done(0),
     }
 }

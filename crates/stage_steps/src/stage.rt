@@ -1,9 +1,10 @@
-ghost use Rattle.std.specs.Prelude.{◌≡◌, List, [], IfOk, Some};
+ghost use Rattle.std.specs.Prelude.{◌≡◌, true, List, [], IfOk, Some};
 ghost use Rattle.pipe_model.specs.declared.net.Strand.{Strand};
 ghost use Rattle.pipe_model.specs.Event.{Event};
 ghost use Rattle.pipe_model.specs.Next.{next};
 ghost use Rattle.pipe_model.specs.Table.{form};
 ghost use Rattle.stage_steps.specs.Coroutine.{meaning, last_seen, kept_by, CanResume, Resumes};
+ghost use Rattle.stage_steps.specs.PassesOn.{PassesOn};
 
 use pipe_model::{NoMemory, Seen, Want};
 use std::alloc::Global;
@@ -23,6 +24,16 @@ pub trait Stage: Sized + Drop {
     fn resume(&mut self, alloc: Global, seen: Seen, bytes: &[u8]) -> Result<Want, NoMemory>
         requires { CanResume stands self.old seen bytes.now }
         ensures { IfOk result (λ asked. Resumes stands self.old self.new seen bytes.now asked) };
+
+    /// Whether it passes on the record that it saw last: once it has put one it takes the record of input 0, and once it took
+    /// that it looks at the next one there. It needn't be told of these two events then, and may be told of them all the
+    /// same. The answer may always be `false`.
+    fn passes(&mut self) -> bool
+        ensures same { (s : Strand) (h : List Event) → stands self.old s h → stands self.new s h }
+        ensures passes { result ≡ true → PassesOn stands self.new }
+    {
+        false
+    }
 
     /// Whether it is given the bytes of the records that it sees: where the stage table says that it looks.
     fn looks(&self) -> bool

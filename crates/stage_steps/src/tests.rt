@@ -1,5 +1,5 @@
 use crate::*;
-use pipe_model::{Range, Seen, Span, Times};
+use pipe_model::{NoMemory, Range, Seen, Span, Times};
 use std::alloc::Global;
 use std::process::Abort;
 use std::test::Fail;
@@ -179,6 +179,34 @@ fn a_bad_commit_ends_it(rt: HostRuntime) -> Result<(), Fail> {
         Order::TakesFirst,
         &steps,
     )
+}
+
+// A stage of copies with one output, at the sight of its first record.
+fn copies_at_sight(alloc: Global) -> Result<Listed<Each<Copies>>, NoMemory> {
+    let lists = Copies::lists(false);
+    let mut stage = Listed::new(alloc, lists, Order::WritesFirst, &[true], false)?;
+    stage.resume(alloc, Seen::Up(-1, 0), b"")?;
+    stage.resume(alloc, Seen::Up(0, 0), b"")?;
+    stage.resume(alloc, Seen::Saw(0), b"")?;
+    Ok(stage)
+}
+
+#[test]
+fn it_passes_a_record_on_told_and_untold(rt: HostRuntime) -> Result<(), Fail> {
+    let alloc = rt.alloc();
+    let mut untold = copies_at_sight(alloc)?;
+    assert!(rt; untold.passes());
+    let asked = format!(in alloc; "{:?}", untold.resume(alloc, Seen::Saw(0), b"")?)?;
+    assert_eq!(rt; asked.as_str(), "Write(0, Same(0))");
+    let mut told = copies_at_sight(alloc)?;
+    assert!(rt; told.passes());
+    let asked = format!(in alloc; "{:?}", told.resume(alloc, Seen::Put(0), b"")?)?;
+    assert_eq!(rt; asked.as_str(), "Take(0)");
+    assert!(rt; told.passes());
+    let asked = format!(in alloc; "{:?}", told.resume(alloc, Seen::Took(0), b"")?)?;
+    assert_eq!(rt; asked.as_str(), "Read(0)");
+    assert!(rt; !told.passes());
+    Ok(())
 }
 
 // Goes through these events with plans, with both outputs connected, and looks at what is asked for after each.

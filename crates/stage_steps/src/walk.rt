@@ -1,11 +1,11 @@
-ghost use Rattle.std.specs.Prelude.{◌≡◌, ◌&&◌, None, IfOk, is_none, pos};
+ghost use Rattle.std.specs.Prelude.{◌≡◌, ◌&&◌, true, None, IfOk, is_none, pos};
 ghost use Rattle.std.specs.Ordering.{int_eq};
 ghost use Rattle.stage_steps.specs.declared.place.Place.TheVariants.{Writing};
 ghost use Rattle.stage_steps.specs.Outputs.{none_left};
 ghost use Rattle.stage_steps.specs.Group.{less, less_one, IsHeld};
 ghost use Rattle.stage_steps.specs.Places.{look_place, sight_place, taken_place};
 ghost use Rattle.stage_steps.specs.Lists.{Tells};
-ghost use Rattle.stage_steps.specs.Walk.{IsBegun, Hears, Fetches, Puts, Asks, TellsBehind};
+ghost use Rattle.stage_steps.specs.Walk.{IsBegun, Hears, CanPass, IsPassing, Fetches, Puts, Asks, TellsBehind};
 
 use crate::group::{Group, Repeat};
 use crate::kept::Kept;
@@ -116,12 +116,13 @@ pub(crate) fn hear<L: Lists>(
 {
     match (walk.place, seen) {
         (Place::Writing(follow), Seen::Put(_)) => Ok(Place::Writing(follow)),
-        (Place::Taking, Seen::Took(_)) => Ok(taken_place(lists, walk.order)),
-        (Place::Looking, Seen::Saw(_)) => {
+        (Place::Passing, Seen::Put(_)) => Ok(Place::Writing(Follow::Take)),
+        (Place::Taking | Place::Passing, Seen::Took(_)) => Ok(taken_place(lists, walk.order)),
+        (Place::Looking | Place::Passing, Seen::Saw(_)) => {
             lists.see(alloc, bytes)?;
             Ok(sight_place(lists, walk.order))
         }
-        (Place::Looking, Seen::SawEnd(_)) => {
+        (Place::Looking | Place::Passing, Seen::SawEnd(_)) => {
             lists.end(alloc)?;
             Ok(Place::Writing(Follow::End))
         }
@@ -129,6 +130,11 @@ pub(crate) fn hear<L: Lists>(
             Ok(Place::Ending(0))
         } else {
             Ok(Place::Writing(follow))
+        },
+        (Place::Passing, Seen::Refused(_)) => if walk.gives_up() {
+            Ok(Place::Ending(0))
+        } else {
+            Ok(Place::Writing(Follow::Take))
         },
         (Place::Starting, Seen::Up(_, code)) => if code == 0 {
             Ok(Place::Committing)
@@ -139,6 +145,30 @@ pub(crate) fn hear<L: Lists>(
         (Place::Ending(code), Seen::Ended(_)) => Ok(Place::Ending(code)),
         _ => Ok(Place::Ending(0)),
     }
+}
+
+// Whether what follows the record at hand is known: nothing is left to write, and it goes on to the next one.
+#[inline(always)]
+fn can_pass<L: Lists>(lists: &L, walk: &Walk) -> bool
+    ensures { result ≡ true → CanPass L.stands lists.now walk.now }
+{
+    matches!(walk.place, Place::Writing(Follow::Take) | Place::Taking)
+        && walk.kept.is_none()
+        && walk.hand.is_none()
+        && matches!(walk.order, Order::WritesFirst)
+        && lists.is_spent()
+}
+
+// Whether it passes the record at hand on. It stands where it does then.
+#[inline(always)]
+pub(crate) fn passes<L: Lists>(lists: &L, walk: &mut Walk) -> bool
+    ensures { IsPassing L.stands lists.now walk.old walk.new result }
+{
+    if !can_pass(lists, walk) {
+        return false;
+    }
+    walk.place = Place::Passing;
+    true
 }
 
 // The next group whose output is open.

@@ -70,6 +70,18 @@ impl Stage for BuiltIn {
         }
     }
 
+    #[inline(always)]
+    fn passes(&mut self) -> bool {
+        match self {
+            BuiltIn::Device(stage) => (**stage).passes(),
+            BuiltIn::Select(stage) => (**stage).passes(),
+            BuiltIn::Edit(stage) => (**stage).passes(),
+            BuiltIn::Order(stage) => (**stage).passes(),
+            BuiltIn::Specs(stage) => (**stage).passes(),
+            _ => false,
+        }
+    }
+
     fn looks(&self) -> bool {
         match self {
             BuiltIn::Device(stage) => stage.looks(),

@@ -108,6 +108,15 @@ impl Lists for OrderLists {
         }
     }
 
+    // The others aren't asked, since they take each record before they write.
+    #[inline(always)]
+    fn is_spent(&self) -> bool {
+        match self {
+            OrderLists::First(lists) => lists.is_spent(),
+            _ => false,
+        }
+    }
+
     #[inline(always)]
     fn halts(&self) -> bool {
         false

@@ -67,6 +67,11 @@ impl EachRecord for Firsts {
         Ok(Rec::from_vec(Vec::new(alloc)))
     }
 
+    #[inline(always)]
+    fn is_spent(&self) -> bool {
+        self.waiting.is_none()
+    }
+
     fn looks(&self) -> bool {
         true
     }

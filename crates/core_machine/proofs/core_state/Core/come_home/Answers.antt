@@ -94,7 +94,7 @@ invariant_of-self g c =
     let a = c.index_mut-actor.result.now in
     let at = actor_at g.S.Stage.stands i.floor.net i.budget i.journal.items i.out.items i.actors.items i.floor.desk i.floor.pool c.self.invariant.0 c.args.strand a (place g.S.Stage.stands i.floor.net i.budget i.journal.items i.out.items i.actors.items i.floor.desk i.floor.pool c.self.invariant.0 c.args.strand c.args.place c.args.stage c.args.want among done) c.index_mut-actor.ensures.value in
     let b = c.stay_out.new.actor in
-    let b_is : b ≡ given_up (asking_for c.come_home.new.want (come_back c.args.stage c.args.want a)) = c.stay_out.ensures ∙ ap (λ (z : Actor g.row.S.Denot). given_up (asking_for c.come_home.new.want z)) c.take_back.ensures in
+    let b_is : b ≡ given_up (asking_for c.come_home.new.want (come_back c.args.stage c.args.want c.args.passes a)) = c.stay_out.ensures ∙ ap (λ (z : Actor g.row.S.Denot). given_up (asking_for c.come_home.new.want z)) c.take_back.ensures in
     let sound = sound_out g.S.Stage.stands i.floor.net i.budget i.journal.items i.out.items i.actors.items i.floor.desk i.floor.pool c.self.invariant.0 c.args.strand c.args.place c.args.stage c.args.want among done a b at (ap (λ (z : Actor g.row.S.Denot). z.stage) b_is) (ap (λ (z : Actor g.row.S.Denot). z.looks) b_is) (ap (λ (z : Actor g.row.S.Denot). z.saw_end) b_is) in (
       on_floor (λ n d p. IsSound g.S.Stage.stands n i.budget i.journal.items i.out.items (slice_set i.actors.items c.args.strand b) d p) old c.come_home.new.self net (same.err ∙ woken.desk) (same.err_pool ∙ woken.pool) sound,
       c.self.invariant.1,
@@ -124,7 +124,7 @@ invariant_of-self-2 g c =
     let at = actor_at g.S.Stage.stands i.floor.net i.budget i.journal.items i.out.items i.actors.items i.floor.desk i.floor.pool c.self.invariant.0 c.args.strand a (place g.S.Stage.stands i.floor.net i.budget i.journal.items i.out.items i.actors.items i.floor.desk i.floor.pool c.self.invariant.0 c.args.strand c.args.place c.args.stage c.args.want among done) c.index_mut-actor.ensures.value in
     let asked_is : c.args.want ≡ c.take_back.new.actor.asked = sym (ap (λ (z : Actor g.row.S.Denot). z.asked) c.take_back.ensures) in
     let home = on_floor (λ n d p. HasReturned d p c.args.strand c.args.want back.desk back.pool) new old (sym is.net) (sym is.desk) (sym is.pool) (subst (λ w. HasReturned new.desk new.pool c.args.strand w back.desk back.pool) (sym asked_is) c.in-Ok.ensures.home) in
-    let sound = sound_home g.S.Stage.stands i.floor.net i.budget i.journal.items i.out.items i.actors.items i.floor.desk i.floor.pool c.self.invariant.0 c.args.strand c.args.place c.args.stage c.args.want among done back.desk back.pool a at home c.come_home.new.want (λ no. c.come_home.ensures.bare (c.has_ended-has_ended.ensures ∙ no) ∙ ap bare (sym asked_is)) in
+    let sound = sound_home g.S.Stage.stands i.floor.net i.budget i.journal.items i.out.items i.actors.items i.floor.desk i.floor.pool c.self.invariant.0 c.args.strand c.args.place c.args.stage c.args.want among done back.desk back.pool a at home c.come_home.new.want (λ no. c.come_home.ensures.bare (c.has_ended-has_ended.ensures ∙ no) ∙ ap bare (sym asked_is)) c.args.passes c.requires.passes in
     let kept : IsSound g.S.Stage.stands i.floor.net i.budget i.journal.items (without c.args.place i.out.items) (slice_set i.actors.items c.args.strand (asking_for c.come_home.new.want c.take_back.new.actor)) back.desk back.pool =
     subst (λ (z : Actor g.row.S.Denot). IsSound g.S.Stage.stands i.floor.net i.budget i.journal.items (without c.args.place i.out.items) (slice_set i.actors.items c.args.strand (asking_for c.come_home.new.want z)) back.desk back.pool) (sym c.take_back.ensures) sound in (
       subst (λ n. IsSound g.S.Stage.stands n i.budget i.journal.items c.remove.new.out.items (slice_set i.actors.items c.args.strand (asking_for c.come_home.new.want c.take_back.new.actor)) back.desk back.pool) (sym net)

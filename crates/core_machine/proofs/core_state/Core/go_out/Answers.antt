@@ -1,4 +1,4 @@
-use Rattle.std.proofs.Common.{rules, ◌≡◌, ◌<◌, ℕ, suc, Some, length, List, ◌∷◌, ◌++◌, [], refl, sym, ◌∙◌, ap, subst}
+use Rattle.std.proofs.Common.{rules, ◌≡◌, ◌<◌, ℕ, suc, Some, length, List, ◌∷◌, ◌++◌, [], slice_set, refl, sym, ◌∙◌, ap, subst}
 use Rattle.pipe_model.specs.declared.net.Net.{Net}
 use Rattle.pipe_model.specs.declared.step.Entry.{Entry}
 use Rattle.core_machine.specs.Actors.{gone_out}
@@ -39,9 +39,14 @@ invariant_of-self g c =
     let space : length i.journal.items < i.budget = subst (λ (z : Machine). length z.journal < z.budget) (sym v) c.requires.space in
     let out = c.send_out-stage.ensures in
     let sound = sound_turned g.S.Stage.stands i.floor.net i.budget i.journal.items i.out.items i.actors.items i.floor.desk i.floor.pool c.self.invariant.0 c.args.strand c.args.stream c.requires.may.0 may out.0 c.send_out-stage.result out.1 out.2 c.args.seen c.requires.may.2 (gone_out c.args.seen out.0) refl refl refl space c.make.new.self.desk c.make.new.self.pool c.make.ensures.desk c.make.ensures.pool in
-    let new = c.make.new.self in (
+    let new = c.make.new.self in
+    let place : c.len-place.result ≡ suc (length i.journal.items) = search rules in
+    let out_is = c.push_reserved-2.ensures.items ∙ ap (λ p. i.out.items ++ p ∷ []) place in
+    let actors = slice_set i.actors.items c.args.strand (gone_out c.args.seen out.0) in (
       subst (λ n. IsSound g.S.Stage.stands n i.budget c.push_reserved.new.self.items c.push_reserved-2.new.self.items c.send_out-stage.new.actors.items new.desk new.pool) (sym c.make.ensures.net)
-          (subst (λ z. IsSound g.S.Stage.stands i.floor.net i.budget c.push_reserved.new.self.items c.push_reserved-2.new.self.items z new.desk new.pool) (sym out.3) (search (rules, sound))),
+          (subst (λ z. IsSound g.S.Stage.stands i.floor.net i.budget c.push_reserved.new.self.items c.push_reserved-2.new.self.items z new.desk new.pool) (sym out.3)
+          (subst (λ j. IsSound g.S.Stage.stands i.floor.net i.budget j c.push_reserved-2.new.self.items actors new.desk new.pool) (sym c.push_reserved.ensures.items)
+          (subst (λ o. IsSound g.S.Stage.stands i.floor.net i.budget (i.journal.items ++ (record { strand = c.args.strand; stream = c.args.stream }) ∷ []) o actors new.desk new.pool) (sym out_is) sound))),
       search rules,
       search rules,
     )

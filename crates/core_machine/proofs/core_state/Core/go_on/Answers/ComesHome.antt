@@ -18,7 +18,7 @@ use Rattle.core_machine.proofs.core_state.Core.go_on.Goals.{In-Ok-come_home}
 -- the core, and where nothing was settled for many, how the strand went
 pub came : (g : Over) (c : In-Ok-come_home g) →
     IsSound g.S.Stage.stands c.come_home.new.self.net c.self.inside.budget c.push_reserved.new.self.items c.self.inside.out.items
-    (slice_set c.self.inside.actors.items c.args.strand (asking_for c.come_home.new.want c.resume.new.actor)) c.come_home.new.self.desk c.come_home.new.self.pool
+    (slice_set c.self.inside.actors.items c.args.strand (asking_for c.come_home.new.want c.advance.new.actor)) c.come_home.new.self.desk c.come_home.new.self.pool
     × (may_settle c.self.inside.floor.desk c.args.strand c.args.seen ≡ false →
     HasGoneQuietly c.come_home.new.self.net c.self.inside.floor.desk c.self.inside.floor.pool c.args.strand c.args.stream c.args.seen c.in-Ok.ensures.2 c.come_home.new.self.desk c.come_home.new.self.pool
     × (c.come_home.new.want ≡ bare c.in-Ok.ensures.2))
@@ -32,23 +32,23 @@ came g c =
     let moved = c.make.new.self in
     let bytes_is = c.bytes_told-bytes.ensures ∙ ap (λ b. bytes_told b moved.desk moved.pool c.args.strand c.args.seen) (its_looks g.S.Stage.stands i.floor.net i.budget i.journal.items i.out.items i.actors.items i.floor.desk i.floor.pool c.self.invariant.0 c.args.strand a at) in
     let on = c.in-Ok.ensures in
-    let asked_is : on.2 ≡ c.resume.new.actor.asked = sym (ap (λ (z : Actor g.row.S.Denot). z.asked) on.4) in
-    let ended_is : c.ends.result ≡ Telling.ended_at moved.desk c.args.strand = c.ends.ensures ∙ home_ended g.S.Stage.stands i.floor.net i.budget i.journal.items i.out.items i.actors.items i.floor.desk i.floor.pool c.self.invariant.0 c.args.strand c.args.stream c.requires.least.1.0 may a on.0 at on.3 c.args.seen c.requires.least.1.2 space moved.desk moved.pool c.make.ensures.desk c.make.ensures.pool on.1 on.2 c.bytes_told-bytes.result.now bytes_is on.5 in
+    let asked_is : on.2 ≡ c.advance.new.actor.asked = sym (ap (λ (z : Actor g.row.S.Denot). z.asked) on.5) in
+    let ended_is : c.ends.result ≡ Telling.ended_at moved.desk c.args.strand = c.ends.ensures ∙ home_ended g.S.Stage.stands i.floor.net i.budget i.journal.items i.out.items i.actors.items i.floor.desk i.floor.pool c.self.invariant.0 c.args.strand c.args.stream c.requires.least.1.0 may a on.0 at on.4 c.args.seen c.requires.least.1.2 space moved.desk moved.pool c.make.ensures.desk c.make.ensures.pool on.1 on.2 on.3 c.bytes_told-bytes.result.now bytes_is on.6.0 in
     let net = c.come_home.ensures.net ∙ c.make.ensures.net in
-    let now : slice_set i.actors.items c.args.strand (asking_for c.come_home.new.want c.resume.new.actor) ≡ slice_set i.actors.items c.args.strand (gone_on c.args.seen on.1 c.come_home.new.want a) =
-    ap (λ (z : Actor g.row.S.Denot). slice_set i.actors.items c.args.strand (asking_for c.come_home.new.want z)) on.4 in
+    let now : slice_set i.actors.items c.args.strand (asking_for c.come_home.new.want c.advance.new.actor) ≡ slice_set i.actors.items c.args.strand (gone_on c.args.seen on.1 c.come_home.new.want on.3 a) =
+    ap (λ (z : Actor g.row.S.Denot). slice_set i.actors.items c.args.strand (asking_for c.come_home.new.want z)) on.5 in
     let back = c.come_home.new.self in
     let home = subst (λ w. HasReturned moved.desk moved.pool c.args.strand w back.desk back.pool) (sym asked_is) c.in-Ok-come_home.ensures.home in
     let bared : Telling.ended_at moved.desk c.args.strand ≡ false → c.come_home.new.want ≡ bare on.2 = λ going. c.come_home.ensures.bare (ended_is ∙ going) ∙ ap bare (sym asked_is) in
-    let sound = went_home g.S.Stage.stands i.floor.net i.budget i.journal.items i.out.items i.actors.items i.floor.desk i.floor.pool c.self.invariant.0 c.args.strand c.args.stream c.requires.least.1.0 may a on.0 at on.3 c.args.seen c.requires.least.1.2 space moved.desk moved.pool c.make.ensures.desk c.make.ensures.pool on.1 on.2 c.bytes_told-bytes.result.now bytes_is on.5 c.come_home.new.want bared back.desk back.pool home in
+    let sound = went_home g.S.Stage.stands i.floor.net i.budget i.journal.items i.out.items i.actors.items i.floor.desk i.floor.pool c.self.invariant.0 c.args.strand c.args.stream c.requires.least.1.0 may a on.0 at on.4 c.args.seen c.requires.least.1.2 space moved.desk moved.pool c.make.ensures.desk c.make.ensures.pool on.1 on.2 on.3 c.bytes_told-bytes.result.now bytes_is on.6.0 c.come_home.new.want on.6.1 bared back.desk back.pool home in
     let least = subst (λ (z : Machine). LeastEvent z (Some (c.args.strand, c.args.stream, c.args.seen))) (sym v) c.requires.least in
     let awake = event_back g.S.Stage.stands i.floor.net i.budget i.journal.items i.out.items i.actors.items i.floor.desk i.floor.pool c.self.invariant.0 i.is_broken (c.args.strand, c.args.stream, c.args.seen) least in (
-      subst (λ n. IsSound g.S.Stage.stands n i.budget c.push_reserved.new.self.items i.out.items (slice_set i.actors.items c.args.strand (asking_for c.come_home.new.want c.resume.new.actor)) back.desk back.pool) (sym net)
-          (subst (λ j. IsSound g.S.Stage.stands i.floor.net i.budget j i.out.items (slice_set i.actors.items c.args.strand (asking_for c.come_home.new.want c.resume.new.actor)) back.desk back.pool) (sym c.push_reserved.ensures.items)
+      subst (λ n. IsSound g.S.Stage.stands n i.budget c.push_reserved.new.self.items i.out.items (slice_set i.actors.items c.args.strand (asking_for c.come_home.new.want c.advance.new.actor)) back.desk back.pool) (sym net)
+          (subst (λ j. IsSound g.S.Stage.stands i.floor.net i.budget j i.out.items (slice_set i.actors.items c.args.strand (asking_for c.come_home.new.want c.advance.new.actor)) back.desk back.pool) (sym c.push_reserved.ensures.items)
           (subst (λ z. IsSound g.S.Stage.stands i.floor.net i.budget (i.journal.items ++ (record { strand = c.args.strand; stream = c.args.stream }) ∷ []) i.out.items z back.desk back.pool) (sym now) sound)),
       λ quiet.
           let no_end : ends c.args.seen ≡ false = (neither (ends c.args.seen) (sees c.args.seen && not (is_some (Telling.primed_of (slice_get i.floor.desk.seats c.args.strand)))) quiet).0 in (
-            subst (λ n. HasGoneQuietly n i.floor.desk i.floor.pool c.args.strand c.args.stream c.args.seen on.2 back.desk back.pool) (sym net) (gone_quietly g.S.Stage.stands i.floor.net i.budget i.journal.items i.out.items i.actors.items i.floor.desk i.floor.pool c.self.invariant.0 c.args.strand c.args.stream c.requires.least.1.0 may a on.0 at on.3 c.args.seen c.requires.least.1.2 space moved.desk moved.pool c.make.ensures.desk c.make.ensures.pool on.1 on.2 c.bytes_told-bytes.result.now bytes_is on.5 awake quiet back.desk back.pool home),
+            subst (λ n. HasGoneQuietly n i.floor.desk i.floor.pool c.args.strand c.args.stream c.args.seen on.2 back.desk back.pool) (sym net) (gone_quietly g.S.Stage.stands i.floor.net i.budget i.journal.items i.out.items i.actors.items i.floor.desk i.floor.pool c.self.invariant.0 c.args.strand c.args.stream c.requires.least.1.0 may a on.0 at on.4 c.args.seen c.requires.least.1.2 space moved.desk moved.pool c.make.ensures.desk c.make.ensures.pool on.1 on.2 on.3 c.bytes_told-bytes.result.now bytes_is on.6.0 awake quiet back.desk back.pool home),
             bared (sym ended_is ∙ c.ends.ensures ∙ no_end),
           ),
     )

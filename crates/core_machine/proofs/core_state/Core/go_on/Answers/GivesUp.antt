@@ -38,18 +38,18 @@ sound_broken g c =
     let a = c.index_mut-actor.result.now in
     let at = actor_at g.S.Stage.stands i.floor.net i.budget i.journal.items i.out.items i.actors.items i.floor.desk i.floor.pool c.self.invariant.0 c.args.strand a (in_range g.S.Stage.stands i.floor.net i.budget i.journal.items i.out.items i.actors.items i.floor.desk i.floor.pool c.self.invariant.0 c.args.strand c.args.stream c.requires.least.1.0 may) c.index_mut-actor.ensures.value in
     let moved = c.make.new.self in
-    let on = c.resume.ensures in
+    let on = c.advance.ensures in
     let place : c.len.result ≡ suc (length i.journal.items) = search rules in
-    let actor_is = c.give_up.ensures.actor ∙ ap (λ (z : Actor g.row.S.Denot). given_up z) on.4 in
+    let actor_is = c.give_up.ensures.actor ∙ ap (λ (z : Actor g.row.S.Denot). given_up z) on.5 in
     let out_is : c.give_up.new.out.items ≡ i.out.items ++ suc (length i.journal.items) ∷ [] = c.give_up.ensures.out ∙ ap (λ p. i.out.items ++ p ∷ []) place in
-    let gone = lost g.S.Stage.stands i.floor.net i.budget i.journal.items i.out.items i.actors.items i.floor.desk i.floor.pool c.self.invariant.0 c.args.strand c.args.stream c.requires.least.1.0 may a on.0 at on.3 c.args.seen c.requires.least.1.2 space moved.desk moved.pool c.make.ensures.desk c.make.ensures.pool on.1 on.2 in
+    let gone = lost g.S.Stage.stands i.floor.net i.budget i.journal.items i.out.items i.actors.items i.floor.desk i.floor.pool c.self.invariant.0 c.args.strand c.args.stream c.requires.least.1.0 may a on.0 at on.4 c.args.seen c.requires.least.1.2 space moved.desk moved.pool c.make.ensures.desk c.make.ensures.pool on.1 on.2 on.3 in
     let here = subst (λ j. IsSound g.S.Stage.stands i.floor.net i.budget j c.give_up.new.out.items (slice_set i.actors.items c.args.strand c.give_up.new.actor) moved.desk moved.pool) (sym c.push_reserved.ensures.items)
     (subst (λ o. IsSound g.S.Stage.stands i.floor.net i.budget (i.journal.items ++ (record { strand = c.args.strand; stream = c.args.stream }) ∷ []) o (slice_set i.actors.items c.args.strand c.give_up.new.actor) moved.desk moved.pool) (sym out_is)
     (subst (λ (z : Actor g.row.S.Denot). IsSound g.S.Stage.stands i.floor.net i.budget (i.journal.items ++ (record { strand = c.args.strand; stream = c.args.stream }) ∷ []) (i.out.items ++ suc (length i.journal.items) ∷ []) (slice_set i.actors.items c.args.strand z) moved.desk moved.pool) (sym actor_is) gone)) in
     let moved_here = subst (λ n. IsSound g.S.Stage.stands n i.budget c.push_reserved.new.self.items c.give_up.new.out.items (slice_set i.actors.items c.args.strand c.give_up.new.actor) moved.desk moved.pool) (sym c.make.ensures.net) here in
     (moved_here, search rules, search rules)
 
-pub lawful_broken : goal.returns-in_default-resume-clause-lawful
+pub lawful_broken : goal.returns-in_default-advance-clause-lawful
 lawful_broken g c =
     let i = c.self.inside in
     let v : ◌≡◌ {A = Machine} (record { net = i.floor.net; budget = i.budget; journal = i.journal.items; out = i.out.items; is_broken = i.is_broken }) c.args.self.now = c.self.view_is in
@@ -69,11 +69,11 @@ sound_broken_home g c =
     let a = c.index_mut-actor.result.now in
     let at = actor_at g.S.Stage.stands i.floor.net i.budget i.journal.items i.out.items i.actors.items i.floor.desk i.floor.pool c.self.invariant.0 c.args.strand a (in_range g.S.Stage.stands i.floor.net i.budget i.journal.items i.out.items i.actors.items i.floor.desk i.floor.pool c.self.invariant.0 c.args.strand c.args.stream c.requires.least.1.0 may) c.index_mut-actor.ensures.value in
     let moved = c.make.new.self in
-    let on = c.resume.ensures in
+    let on = c.advance.ensures in
     let place : c.len-in_default-come_home.result ≡ suc (length i.journal.items) = search rules in
-    let actor_is = c.give_up-in_default-come_home.ensures.actor ∙ ap (λ (z : Actor g.row.S.Denot). given_up (asking_for c.come_home.new.want z)) on.4 in
+    let actor_is = c.give_up-in_default-come_home.ensures.actor ∙ ap (λ (z : Actor g.row.S.Denot). given_up (asking_for c.come_home.new.want z)) on.5 in
     let out_is : c.give_up-in_default-come_home.new.out.items ≡ i.out.items ++ suc (length i.journal.items) ∷ [] = c.give_up-in_default-come_home.ensures.out ∙ ap (λ p. i.out.items ++ p ∷ []) place in
-    let gone = lost g.S.Stage.stands i.floor.net i.budget i.journal.items i.out.items i.actors.items i.floor.desk i.floor.pool c.self.invariant.0 c.args.strand c.args.stream c.requires.least.1.0 may a on.0 at on.3 c.args.seen c.requires.least.1.2 space moved.desk moved.pool c.make.ensures.desk c.make.ensures.pool on.1 c.come_home.new.want in
+    let gone = lost g.S.Stage.stands i.floor.net i.budget i.journal.items i.out.items i.actors.items i.floor.desk i.floor.pool c.self.invariant.0 c.args.strand c.args.stream c.requires.least.1.0 may a on.0 at on.4 c.args.seen c.requires.least.1.2 space moved.desk moved.pool c.make.ensures.desk c.make.ensures.pool on.1 c.come_home.new.want on.3 in
     let here = subst (λ j. IsSound g.S.Stage.stands i.floor.net i.budget j c.give_up-in_default-come_home.new.out.items (slice_set i.actors.items c.args.strand c.give_up-in_default-come_home.new.actor) moved.desk moved.pool) (sym c.push_reserved.ensures.items)
     (subst (λ o. IsSound g.S.Stage.stands i.floor.net i.budget (i.journal.items ++ (record { strand = c.args.strand; stream = c.args.stream }) ∷ []) o (slice_set i.actors.items c.args.strand c.give_up-in_default-come_home.new.actor) moved.desk moved.pool) (sym out_is)
     (subst (λ (z : Actor g.row.S.Denot). IsSound g.S.Stage.stands i.floor.net i.budget (i.journal.items ++ (record { strand = c.args.strand; stream = c.args.stream }) ∷ []) (i.out.items ++ suc (length i.journal.items) ∷ []) (slice_set i.actors.items c.args.strand z) moved.desk moved.pool) (sym actor_is) gone)) in
@@ -92,7 +92,7 @@ lawful_broken_home g c =
     (subst (λ j. IsLawful (record { net = i.floor.net; budget = i.budget; journal = j; out = c.give_up-in_default-come_home.new.out.items; is_broken = true })) (sym c.push_reserved.ensures.items)
     (record { legal = law.legal; within = law.within; bounded = law.bounded }))
 
-pub lacks_broken : goal.returns-in_default-resume-clause-lacks
+pub lacks_broken : goal.returns-in_default-advance-clause-lacks
 lacks_broken g c =
     let i = c.self.inside in
     let v : ◌≡◌ {A = Machine} (record { net = i.floor.net; budget = i.budget; journal = i.journal.items; out = i.out.items; is_broken = i.is_broken }) c.args.self.now = c.self.view_is in
