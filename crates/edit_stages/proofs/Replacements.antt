@@ -1,7 +1,14 @@
 -- How occurrences of a string are replaced from the left.
 use Rattle.std.proofs.Common.{◌≡◌, ℕ, zero, suc, ◌+◌, ◌-◌, ◌<◌, ◌≤◌, true, cond, List, [], ◌∷◌, ◌++◌, length, take, drop, refl, sym, ◌∙◌, ap, arith, Option, Some, None}
 use Rattle.std.proofs.lemmas.Bool.{false_from_ne_true}
-use Rattle.pipe_model.specs.EditingRows.{replaced}
+use Rattle.std.proofs.lemmas.List.{take-append-drop, drop-drop, append-nil, append_assoc}
+use Rattle.std.proofs.Math.Seq.{drop-length}
+use Rattle.pipe_model.specs.declared.kind.Times.{Times}
+use Rattle.pipe_model.specs.declared.range.Range.{Range}
+use Rattle.pipe_model.specs.declared.range.Span.TheVariants.{Columns}
+use Rattle.pipe_model.specs.Counts.{of_all}
+use Rattle.pipe_model.specs.EditingRows.{replaced, changed}
+use Rattle.pipe_model.specs.Ranges.{between, cut_by, part_of}
 use Rattle.pipe_model.specs.Search.{begins}
 use Rattle.stage_steps.specs.Strings.{StandsAt, IsFirstPlace}
 use Rattle.edit_stages.specs.Replacing.{IsNext}
@@ -67,3 +74,33 @@ next_first (x ∷ tail) (suc left) text (Some k) filled some is within = (
       let less : suc left - 1 ≡ left = omega arith in
       first x tail put left k text is.0 is.1 ∙ ap (λ n. take k text ++ (put ++ replaced (x ∷ tail) put n 0 (drop (k + length (x ∷ tail)) text))) (sym less),
 )
+
+-- A record in whose part nothing is replaced
+
+-- the first members, and those behind as many, are all
+behind_first : (m : ℕ) (l : List ℕ) → take m l ++ drop (length (take m l)) l ≡ l
+behind_first zero l = refl
+behind_first (suc m) [] = refl
+behind_first (suc m) (x ∷ l) = ap (λ l. x ∷ l) (behind_first m l)
+
+-- columns, and what stands behind as many bytes, are all from the first of them on
+behind_columns : (from : ℕ) (to : Option ℕ) (rec : List ℕ) → between from to rec ++ drop (length (between from to rec)) (drop (from - 1) rec) ≡ drop (from - 1) rec
+behind_columns from None rec = let l = drop (from - 1) rec in ap (λ rest. l ++ rest) (drop-length l) ∙ append-nil l
+behind_columns from (Some to) rec = behind_first (to + 1 - from) (drop (from - 1) rec)
+
+-- so with what stands before them they are the record
+whole_again : (n : ℕ) (part rec : List ℕ) → part ++ drop (length part) (drop n rec) ≡ drop n rec → take n rec ++ part ++ drop (n + length part) rec ≡ rec
+whole_again n part rec is =
+    append_assoc (take n rec) part (drop (n + length part) rec) ∙ ap (λ rest. take n rec ++ (part ++ rest)) (sym (drop-drop (length part) n rec)) ∙ ap (λ rest. take n rec ++ rest) is ∙ take-append-drop n rec
+
+-- where none is replaced in its columns, the record stays as it is
+pub stays : (range : Range) (string put : List ℕ) (times : Times) (count : ℕ) (part rec : List ℕ) →
+    0 < length string → range.span ≡ Columns → count ≡ of_all times (length rec) → part ≡ part_of range rec → IsNext string count part None → changed range string put times rec ≡ rec
+stays range [] put times count part rec filled columns count_is part_is never = absurd (omega (arith, filled))
+stays range (x ∷ tail) put times count part rec filled columns count_is part_is never =
+    let n = range.first - 1 in
+    ap (λ count. take n rec ++ replaced (x ∷ tail) put count 0 (part_of range rec) ++ drop (n + length (part_of range rec)) rec) (sym count_is)
+    ∙ ap (λ part. take n rec ++ replaced (x ∷ tail) put count 0 part ++ drop (n + length part) rec) (sym part_is)
+    ∙ ap (λ made. take n rec ++ made ++ drop (n + length part) rec) (never put)
+    ∙ ap (λ part. take n rec ++ part ++ drop (n + length part) rec) (part_is ∙ ap (λ span. cut_by span range.first range.last rec) columns)
+    ∙ whole_again n (between range.first range.last rec) rec (behind_columns range.first range.last rec)

@@ -14,7 +14,7 @@ use Rattle.stage_steps.specs.Places.{order_of}
 use Rattle.edit_stages.specs.declared.any_lists.AnyLists.{AnyLists}
 use Rattle.edit_stages.specs.declared.any_lists.AnyLists.TheVariants.{Duplicate, Edit, Chop, Split, Join}
 use Rattle.edit_stages.specs.AnyEdit.{any_made}
-use Rattle.edit_stages.specs.EditLists.{DuplicatesStand, duplicates_look, due_count, EditedStand, edited_look, new_given, new_count, ChopsStand, chops_look, part_given, owed_count, SplitsStand, splits_look, run_given, JoinsStand, joins_look}
+use Rattle.edit_stages.specs.EditLists.{DuplicatesStand, duplicates_look, due_count, EditedStand, edited_look, edited_given, new_given, new_count, ChopsStand, chops_look, part_given, owed_count, SplitsStand, splits_look, run_given, JoinsStand, joins_look}
 
 abbrev pub AnyListsStand : AnyLists → Bool → Stream → Records → List Act → Type 0
 AnyListsStand (Duplicate x) = EachStand DuplicatesStand x
@@ -33,7 +33,7 @@ any_look (Join x) = joins_look x
 -- the new record that is held
 abbrev pub any_given : AnyLists → Option (List ℕ)
 any_given (Duplicate x) = None
-any_given (Edit x) = new_given x.each.due x.each.new
+any_given (Edit x) = edited_given x.each
 any_given (Chop x) = part_given x.each
 any_given (Split x) = Some (run_given x.each)
 any_given (Join x) = new_given x.due x.new

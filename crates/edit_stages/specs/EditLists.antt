@@ -1,5 +1,5 @@
 -- What the lists of Editing stand for.
-use Rattle.std.specs.Prelude.{◌≡◌, ◌<◌, length, ℕ, Bool, true, false, List, [], ◌∷◌, take, drop}
+use Rattle.std.specs.Prelude.{◌≡◌, ◌<◌, length, ℕ, Bool, true, false, List, [], ◌∷◌, take, drop, unwrap_or, if◌then◌else◌}
 use Rattle.std.specs.declared.option.Option.{Option}
 use Rattle.std.specs.declared.option.Option.TheVariants.{Some, None}
 use Rattle.pipe_model.specs.declared.kind.Times.{Times}
@@ -37,9 +37,13 @@ abbrev pub new_given : Bool → List ℕ → Option (List ℕ)
 new_given true new = None
 new_given false new = Some new
 
--- what is made of each record on output 0, where it may wait for it
+-- what is made of each record on output 0, where it may wait for it: the new record that is held, or else the record at hand, which stays as it is
 abbrev pub EditedStand : {E : Type 0} → (E → List ℕ → List ℕ) → Edited E → Outs → Records → List Act → Type 0
-EditedStand made x outs recs acts = (outs ≡ Pairs (edits (made x.edits))) × (acts ≡ new_act x.due x.new)
+EditedStand made x outs recs acts = (outs ≡ Pairs (edits (made x.edits))) × (acts ≡ new_act x.due (unwrap_or x.new (at_hand_of recs))) × (x.due ≡ true → 0 < length recs)
+
+-- the new record that is held, where it was given
+abbrev pub edited_given : {E : Type 0} → Edited E → Option (List ℕ)
+edited_given x = if x.due then None else x.new
 
 -- all of them look at records
 abbrev pub edited_look : {E : Type 0} → Edited E → Bool
@@ -73,17 +77,24 @@ duplicates_look x = false
 
 -- CHOP
 
--- the acts that are left of the two parts of a record
-abbrev pub parts_acts : Owed → List ℕ → List ℕ → List Act
-parts_acts Owing.Nothing front rest = []
-parts_acts Owing.Rest front rest = Writes 1 rest ∷ []
-parts_acts Owing.Both front rest = Writes 0 front ∷ Writes 1 rest ∷ []
+-- the acts that are left of the two parts of a record, of which the front may be the record itself
+abbrev pub parts_acts : Owed → List ℕ → List ℕ → List ℕ → List Act
+parts_acts Owing.Nothing rec front rest = []
+parts_acts Owing.Rest rec front rest = Writes 1 rest ∷ []
+parts_acts Owing.Both rec front rest = Writes 0 front ∷ Writes 1 rest ∷ []
+parts_acts Owing.Whole rec front rest = Writes 0 rec ∷ Writes 1 rest ∷ []
+
+-- where the record itself is left, there was one
+abbrev pub IsOwed : Owed → Records → Type 0
+IsOwed Owing.Whole recs = 0 < length recs
+IsOwed _ recs = Unit {0}
 
 -- the part that was given last
 abbrev pub part_by : Owed → List ℕ → List ℕ → Option (List ℕ)
 part_by Owing.Nothing front rest = Some rest
 part_by Owing.Rest front rest = Some front
 part_by Owing.Both front rest = None
+part_by Owing.Whole front rest = None
 
 abbrev pub part_given : Chops → Option (List ℕ)
 part_given x = part_by x.owed (take x.width x.rec.items) (drop x.width x.rec.items)
@@ -92,10 +103,11 @@ abbrev pub owed_count : Owed → ℕ
 owed_count Owing.Nothing = 0
 owed_count Owing.Rest = 1
 owed_count Owing.Both = 2
+owed_count Owing.Whole = 2
 
 -- the two parts of each record, of which some may be left
 abbrev pub ChopsStand : Chops → Outs → Records → List Act → Type 0
-ChopsStand x outs recs acts = (outs ≡ Pairs (chopped x.width)) × (acts ≡ parts_acts x.owed (take x.width x.rec.items) (drop x.width x.rec.items))
+ChopsStand x outs recs acts = (outs ≡ Pairs (chopped x.width)) × (acts ≡ parts_acts x.owed (at_hand_of recs) (take x.width x.rec.items) (drop x.width x.rec.items)) × IsOwed x.owed recs
 
 -- CHOP looks at records
 abbrev pub chops_look : Chops → Bool

@@ -22,7 +22,7 @@ impl Edits for AnyEdit {
 
     ghost made = { any_made };
 
-    fn edit(&self, alloc: Global, rec: &[u8]) -> Result<Rec, NoMemory> {
+    fn edit(&self, alloc: Global, rec: &[u8]) -> Result<Option<Rec>, NoMemory> {
         match self {
             AnyEdit::Reverse(edits) => edits.edit(alloc, rec),
             AnyEdit::Strip(edits) => edits.edit(alloc, rec),

@@ -43,7 +43,7 @@ impl AnyLists {
             Kind::Join { more, between } => Ok(AnyLists::Join(Joins::new(alloc, *more, between)?)),
             Kind::Reverse => {
                 let edits = AnyEdit::Reverse(Reverses);
-                Ok(AnyLists::Edit(Edited::lists(alloc, edits)))
+                Ok(AnyLists::Edit(Edited::lists(edits)))
             }
             Kind::Strip {
                 leading,
@@ -51,11 +51,11 @@ impl AnyLists {
                 set,
             } => {
                 let strips = Strips::new(alloc, *leading, *trailing, set)?;
-                Ok(AnyLists::Edit(Edited::lists(alloc, AnyEdit::Strip(strips))))
+                Ok(AnyLists::Edit(Edited::lists(AnyEdit::Strip(strips))))
             }
             Kind::Xlate(mapping) => {
                 let xlates = Xlates::new(alloc, mapping)?;
-                Ok(AnyLists::Edit(Edited::lists(alloc, AnyEdit::Xlate(xlates))))
+                Ok(AnyLists::Edit(Edited::lists(AnyEdit::Xlate(xlates))))
             }
             Kind::Pad { left, width, fill } => {
                 let pads = Pads {
@@ -63,7 +63,7 @@ impl AnyLists {
                     width: *width,
                     fill: *fill,
                 };
-                Ok(AnyLists::Edit(Edited::lists(alloc, AnyEdit::Pad(pads))))
+                Ok(AnyLists::Edit(Edited::lists(AnyEdit::Pad(pads))))
             }
             Kind::Change {
                 range,
@@ -72,7 +72,7 @@ impl AnyLists {
                 times,
             } => {
                 let changes = Changes::new(alloc, *range, sought, put, *times)?;
-                Ok(AnyLists::Edit(Edited::lists(alloc, AnyEdit::Change(changes))))
+                Ok(AnyLists::Edit(Edited::lists(AnyEdit::Change(changes))))
             }
             _ => unreachable!(),
         }
@@ -151,6 +151,18 @@ impl Lists for AnyLists {
             AnyLists::Chop(lists) => lists.hand_over(alloc),
             AnyLists::Split(lists) => lists.hand_over(alloc),
             AnyLists::Join(lists) => lists.hand_over(alloc),
+        }
+    }
+
+    // JOIN isn't asked, since it takes each record before it writes.
+    #[inline(always)]
+    fn is_spent(&self) -> bool {
+        match self {
+            AnyLists::Duplicate(lists) => lists.is_spent(),
+            AnyLists::Edit(lists) => lists.is_spent(),
+            AnyLists::Chop(lists) => lists.is_spent(),
+            AnyLists::Split(lists) => lists.is_spent(),
+            AnyLists::Join(_) => false,
         }
     }
 

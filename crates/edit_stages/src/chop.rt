@@ -9,13 +9,15 @@ enum Owed {
     Rest,
     /// The front, and then the rest.
     Both,
+    /// The record as it is, which is no longer than the front, and then an empty rest.
+    Whole,
 }
 
 /// CHOP: the first bytes of each record on output 0, and the rest on output 1.
 #[derive(Drop)]
 pub struct Chops {
     width: u32,
-    /// The record at hand, in a buffer that is kept for the next. A part is made when it is asked for.
+    /// The record at hand, where it has a rest, in a buffer that is kept for the next. A part is made when it is asked for.
     rec: Vec<u8>,
     owed: Owed,
 }
@@ -53,8 +55,12 @@ impl EachRecord for Chops {
 
     fn see(&mut self, _alloc: Global, bytes: &[u8]) -> Result<(), NoMemory> {
         self.rec.clear();
-        self.rec.extend_from_slice(bytes)?;
-        self.owed = Owed::Both;
+        if bytes.len() <= self.width as usize {
+            self.owed = Owed::Whole;
+        } else {
+            self.rec.extend_from_slice(bytes)?;
+            self.owed = Owed::Both;
+        }
         Ok(())
     }
 
@@ -69,6 +75,10 @@ impl EachRecord for Chops {
                 self.owed = Owed::Rest;
                 Some(Group::New(0))
             }
+            Owed::Whole => {
+                self.owed = Owed::Rest;
+                Some(Group::at_hand(0))
+            }
         }
     }
 
@@ -78,6 +88,10 @@ impl EachRecord for Chops {
             Owed::Rest => Rec::from_slice(alloc, front(&self.rec, width)),
             _ => Rec::from_slice(alloc, behind(&self.rec, width)),
         }
+    }
+
+    fn is_spent(&self) -> bool {
+        matches!(self.owed, Owed::Nothing)
     }
 
     fn looks(&self) -> bool {

@@ -77,6 +77,11 @@ impl EachRecord for Duplicates {
         Ok(Rec::from_vec(Vec::new(alloc)))
     }
 
+    #[inline(always)]
+    fn is_spent(&self) -> bool {
+        matches!(self.due, Due::Nothing)
+    }
+
     fn looks(&self) -> bool {
         false
     }

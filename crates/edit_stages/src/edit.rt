@@ -74,6 +74,11 @@ impl Stage for EditStage {
         self.stage.resume(alloc, seen, bytes)
     }
 
+    #[inline(always)]
+    fn passes(&mut self) -> bool {
+        self.stage.passes()
+    }
+
     fn looks(&self) -> bool {
         self.stage.looks()
     }

@@ -15,16 +15,19 @@ impl Edits for Pads {
 
     ghost made = { λ x. padded x.left x.width x.fill };
 
-    fn edit(&self, alloc: Global, rec: &[u8]) -> Result<Rec, NoMemory> {
-        let lacking = (self.width as usize).saturating_sub(rec.len());
-        let mut bytes = Vec::with_capacity(alloc, rec.len() + lacking)?;
+    fn edit(&self, alloc: Global, rec: &[u8]) -> Result<Option<Rec>, NoMemory> {
+        let width = self.width as usize;
+        if rec.len() >= width {
+            return Ok(None);
+        }
+        let mut bytes = Vec::with_capacity(alloc, width)?;
         if self.left {
-            bytes.resize(lacking, self.fill)?;
+            bytes.resize(width - rec.len(), self.fill)?;
             bytes.extend_from_slice(rec)?;
         } else {
             bytes.extend_from_slice(rec)?;
-            bytes.resize(rec.len() + lacking, self.fill)?;
+            bytes.resize(width, self.fill)?;
         }
-        Ok(Rec::from_vec(bytes))
+        Ok(Some(Rec::from_vec(bytes)))
     }
 }

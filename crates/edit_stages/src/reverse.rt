@@ -12,9 +12,9 @@ impl Edits for Reverses {
     ghost made = { λ _. reverse };
 
     #[inline(always)]
-    fn edit(&self, alloc: Global, rec: &[u8]) -> Result<Rec, NoMemory> {
+    fn edit(&self, alloc: Global, rec: &[u8]) -> Result<Option<Rec>, NoMemory> {
         let mut bytes = Vec::from_slice(alloc, rec)?;
         bytes.reverse();
-        Ok(Rec::from_vec(bytes))
+        Ok(Some(Rec::from_vec(bytes)))
     }
 }

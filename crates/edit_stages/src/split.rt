@@ -101,6 +101,11 @@ impl EachRecord for Splits {
         Rec::from_slice(alloc, front(behind(&self.rec, self.from), self.size))
     }
 
+    // Only bytes of the set may be left too; that is found when the next run is asked for.
+    fn is_spent(&self) -> bool {
+        self.at >= self.rec.len()
+    }
+
     fn looks(&self) -> bool {
         true
     }

@@ -78,7 +78,12 @@ impl Edits for Strips {
 
     ghost made = { λ x. stripped x.leading x.trailing x.set };
 
-    fn edit(&self, alloc: Global, rec: &[u8]) -> Result<Rec, NoMemory> {
-        Rec::from_slice(alloc, self.stripped(rec))
+    fn edit(&self, alloc: Global, rec: &[u8]) -> Result<Option<Rec>, NoMemory> {
+        let stripped = self.stripped(rec);
+        if stripped.len() == rec.len() {
+            Ok(None)
+        } else {
+            Ok(Some(Rec::from_slice(alloc, stripped)?))
+        }
     }
 }

@@ -2,7 +2,7 @@ use crate::EditStage;
 use crate::change::Changes;
 use crate::chop::Chops;
 use crate::duplicate::Duplicates;
-use crate::edits::Edits;
+use crate::edits::{Edited, Edits};
 use crate::join::Joins;
 use crate::pad::Pads;
 use crate::reverse::Reverses;
@@ -10,7 +10,7 @@ use crate::split::Splits;
 use crate::strip::Strips;
 use crate::xlate::Xlates;
 use pipe_model::{Mapping, Range, Rec, Span, Times};
-use stage_steps::{Group, Lists};
+use stage_steps::{Group, Lists, Repeat};
 use std::alloc::Global;
 use std::process::Abort;
 use std::test::Fail;
@@ -46,6 +46,23 @@ fn a_record_is_written_once_and_its_copies(rt: HostRuntime) -> Result<(), Fail> 
     repeats(&rt, alloc, Times::All, &[None])
 }
 
+// Compares what is made of a record with this, where None stands for the record as it is.
+fn makes<E: Edits>(
+    rt: &impl Abort,
+    alloc: Global,
+    edits: &E,
+    rec: &[u8],
+    wanted: Option<&[u8]>,
+) -> Result<(), Fail> {
+    let made = edits.edit(alloc, rec)?;
+    let bytes = match &made {
+        Some(new) => Some(new.bytes()),
+        None => None,
+    };
+    assert_eq!(rt; bytes, wanted, "of {rec:?}");
+    Ok(())
+}
+
 #[test]
 fn bytes_are_reversed(rt: HostRuntime) -> Result<(), Fail> {
     let rows: [(&[u8], &[u8]); 4] = [
@@ -55,8 +72,7 @@ fn bytes_are_reversed(rt: HostRuntime) -> Result<(), Fail> {
         (b"a\xff\0 ", b" \0\xffa"),
     ];
     for (rec, reversed) in rows {
-        let made = Reverses.edit(rt.alloc(), rec)?;
-        assert_eq!(rt; made.bytes(), reversed, "of {rec:?}");
+        makes(&rt, rt.alloc(), &Reverses, rec, Some(reversed))?;
     }
     Ok(())
 }
@@ -64,20 +80,20 @@ fn bytes_are_reversed(rt: HostRuntime) -> Result<(), Fail> {
 #[test]
 fn ends_are_stripped(rt: HostRuntime) -> Result<(), Fail> {
     let alloc = rt.alloc();
-    let rows: [(bool, bool, &[u8], &[u8], &[u8]); 7] = [
-        (true, true, b" ", b"  a b ", b"a b"),
-        (true, false, b" ", b"  a b ", b"a b "),
-        (false, true, b" ", b"  a b ", b"  a b"),
-        (true, true, b"xy", b"yxaxbyx", b"axb"),
-        (true, true, b"xy", b"xyx", b""),
-        (true, true, b"x", b"", b""),
-        (false, false, b"x", b"xax", b"xax"),
+    let rows: [(bool, bool, &[u8], &[u8], Option<&[u8]>); 8] = [
+        (true, true, b" ", b"  a b ", Some(b"a b")),
+        (true, false, b" ", b"  a b ", Some(b"a b ")),
+        (false, true, b" ", b"  a b ", Some(b"  a b")),
+        (true, true, b"xy", b"yxaxbyx", Some(b"axb")),
+        (true, true, b"xy", b"xyx", Some(b"")),
+        (true, true, b"x", b"", None),
+        (true, true, b"x", b"axb", None),
+        (false, false, b"x", b"xax", None),
     ];
     for (leading, trailing, set, rec, stripped) in rows {
         let set = Rec::from_slice(alloc, set)?;
         let strips = Strips::new(alloc, leading, trailing, &set)?;
-        let made = strips.edit(alloc, rec)?;
-        assert_eq!(rt; made.bytes(), stripped, "of {rec:?}");
+        makes(&rt, alloc, &strips, rec, stripped)?;
     }
     Ok(())
 }
@@ -87,45 +103,58 @@ fn strings_are_changed(rt: HostRuntime) -> Result<(), Fail> {
     let alloc = rt.alloc();
     let all = (1, None);
     // The columns, what is sought, what is put, how often, the record, and what is made of it.
-    let rows: [((u32, Option<u32>), &[u8], &[u8], Times, &[u8], &[u8]); 13] = [
-        (all, b"a", b"bb", Times::All, b"banana", b"bbbnbbnbb"),
-        (all, b"aa", b"x", Times::All, b"aaaaa", b"xxa"),
-        (all, b"a", b"", Times::Only(2), b"banana", b"bnna"),
-        (all, b"a", b"b", Times::Only(0), b"aa", b"aa"),
-        (all, b"a", b"b", Times::All, b"", b""),
-        ((1, Some(3)), b"an", b"x", Times::All, b"banan", b"bxan"),
-        ((1, Some(2)), b"an", b"x", Times::All, b"banan", b"banan"),
-        ((4, None), b"a", b"x", Times::All, b"aaab", b"aaab"),
-        (all, b"", b"x", Times::All, b"abc", b"xabc"),
-        (all, b"", b"x", Times::All, b"", b"x"),
-        ((4, None), b"", b"x", Times::All, b"abc", b"abcx"),
-        ((5, None), b"", b"x", Times::All, b"abc", b"abc"),
-        (all, b"", b"x", Times::Only(0), b"abc", b"abc"),
+    let rows: [(
+        (u32, Option<u32>),
+        &[u8],
+        &[u8],
+        Times,
+        &[u8],
+        Option<&[u8]>,
+    ); 13] = [
+        (all, b"a", b"bb", Times::All, b"banana", Some(b"bbbnbbnbb")),
+        (all, b"aa", b"x", Times::All, b"aaaaa", Some(b"xxa")),
+        (all, b"a", b"", Times::Only(2), b"banana", Some(b"bnna")),
+        (all, b"a", b"b", Times::Only(0), b"aa", None),
+        (all, b"a", b"b", Times::All, b"", None),
+        (
+            (1, Some(3)),
+            b"an",
+            b"x",
+            Times::All,
+            b"banan",
+            Some(b"bxan"),
+        ),
+        ((1, Some(2)), b"an", b"x", Times::All, b"banan", None),
+        ((4, None), b"a", b"x", Times::All, b"aaab", None),
+        (all, b"", b"x", Times::All, b"abc", Some(b"xabc")),
+        (all, b"", b"x", Times::All, b"", Some(b"x")),
+        ((4, None), b"", b"x", Times::All, b"abc", Some(b"abcx")),
+        ((5, None), b"", b"x", Times::All, b"abc", None),
+        (all, b"", b"x", Times::Only(0), b"abc", None),
     ];
     for ((first, last), sought, put, times, rec, changed) in rows {
         let span = Span::Columns;
         let sought = Rec::from_slice(alloc, sought)?;
         let put = Rec::from_slice(alloc, put)?;
         let changes = Changes::new(alloc, Range { span, first, last }, &sought, &put, times)?;
-        let made = changes.edit(alloc, rec)?;
-        assert_eq!(rt; made.bytes(), changed, "of {rec:?}");
+        makes(&rt, alloc, &changes, rec, changed)?;
     }
     Ok(())
 }
 
 #[test]
 fn records_are_padded(rt: HostRuntime) -> Result<(), Fail> {
-    let rows: [(bool, u32, u8, &[u8], &[u8]); 5] = [
-        (false, 4, b' ', b"ab", b"ab  "),
-        (true, 4, b'.', b"ab", b"..ab"),
-        (true, 2, b'.', b"abc", b"abc"),
-        (true, 3, b'x', b"", b"xxx"),
-        (false, 0, b'x', b"", b""),
+    let rows: [(bool, u32, u8, &[u8], Option<&[u8]>); 6] = [
+        (false, 4, b' ', b"ab", Some(b"ab  ")),
+        (true, 4, b'.', b"ab", Some(b"..ab")),
+        (true, 2, b'.', b"abc", None),
+        (true, 3, b'.', b"abc", None),
+        (true, 3, b'x', b"", Some(b"xxx")),
+        (false, 0, b'x', b"", None),
     ];
     for (left, width, fill, rec, padded) in rows {
         let pads = Pads { left, width, fill };
-        let made = pads.edit(rt.alloc(), rec)?;
-        assert_eq!(rt; made.bytes(), padded, "of {rec:?}");
+        makes(&rt, rt.alloc(), &pads, rec, padded)?;
     }
     Ok(())
 }
@@ -138,9 +167,8 @@ fn translates(
     rec: &[u8],
     translated: &[u8],
 ) -> Result<(), Fail> {
-    let made = Xlates::new(alloc, mapping)?.edit(alloc, rec)?;
-    assert_eq!(rt; made.bytes(), translated, "of {rec:?}");
-    Ok(())
+    let xlates = Xlates::new(alloc, mapping)?;
+    makes(rt, alloc, &xlates, rec, Some(translated))
 }
 
 #[test]
@@ -179,19 +207,51 @@ fn gives<L: Lists>(
     Ok(())
 }
 
+// Whether lists give next the record at hand, once, on output 0.
+fn passes_on<L: Lists>(alloc: Global, lists: &mut L) -> Result<bool, Fail> {
+    let next = lists.next(alloc)?;
+    Ok(matches!(
+        next,
+        Some(Group::AtHand(Repeat {
+            output: 0,
+            times: Times::Only(1)
+        }))
+    ))
+}
+
+#[test]
+fn what_stays_as_it_is_is_passed_on(rt: HostRuntime) -> Result<(), Fail> {
+    let alloc = rt.alloc();
+    let mut lists = Edited::lists(Pads {
+        left: true,
+        width: 2,
+        fill: b'.',
+    });
+    lists.see(alloc, b"ab")?;
+    assert!(rt; passes_on(alloc, &mut lists)?);
+    gives(&rt, alloc, &mut lists, &[])?;
+    lists.see(alloc, b"a")?;
+    gives(&rt, alloc, &mut lists, &[(0, b".a")])
+}
+
 #[test]
 fn records_are_chopped(rt: HostRuntime) -> Result<(), Fail> {
     let alloc = rt.alloc();
-    let rows: [(u32, &[u8], &[u8], &[u8]); 4] = [
+    let longer: [(u32, &[u8], &[u8], &[u8]); 2] = [
         (2, b"abc", b"ab", b"c"),
-        (2, b"a", b"a", b""),
         (0, b"abc", b"", b"abc"),
-        (2, b"", b"", b""),
     ];
-    for (width, rec, front, rest) in rows {
+    for (width, rec, front, rest) in longer {
         let mut lists = Chops::lists(alloc, width);
         lists.see(alloc, rec)?;
         gives(&rt, alloc, &mut lists, &[(0, front), (1, rest)])?;
+    }
+    let others: [&[u8]; 3] = [b"ab", b"a", b""];
+    for rec in others {
+        let mut lists = Chops::lists(alloc, 2);
+        lists.see(alloc, rec)?;
+        assert!(rt; passes_on(alloc, &mut lists)?, "of {rec:?}");
+        gives(&rt, alloc, &mut lists, &[(1, b"")])?;
     }
     Ok(())
 }

@@ -109,11 +109,11 @@ impl Edits for Xlates {
 
     ghost made = { λ x. map (translated x) };
 
-    fn edit(&self, alloc: Global, rec: &[u8]) -> Result<Rec, NoMemory> {
+    fn edit(&self, alloc: Global, rec: &[u8]) -> Result<Option<Rec>, NoMemory> {
         let mut bytes = Vec::from_slice(alloc, rec)?;
         for byte in bytes.iter_mut() {
             *byte = self.of_byte(*byte);
         }
-        Ok(Rec::from_vec(bytes))
+        Ok(Some(Rec::from_vec(bytes)))
     }
 }

@@ -1,4 +1,4 @@
-use Rattle.std.proofs.Common.{◌≡◌, ℕ, true, false, List, [], map, refl, sym, ap, subst}
+use Rattle.std.proofs.Common.{◌≡◌, ℕ, true, false, List, [], map, refl, sym, ap, subst, None}
 use Rattle.pipe_model.specs.declared.kind.Kind.{Kind}
 use Rattle.pipe_model.specs.declared.kind.Kind.TheVariants as Kinds
 use Rattle.pipe_model.specs.declared.kind.Mapping.{Mapping}
@@ -17,7 +17,7 @@ use Rattle.edit_stages.specs.declared.edits.Edited.{Edited}
 use Rattle.edit_stages.specs.declared.strip.Strips.{Strips}
 use Rattle.edit_stages.specs.AnyEdit.{any_made}
 use Rattle.edit_stages.specs.AnyLists.{AreListsOf}
-use Rattle.edit_stages.specs.EditLists.{new_act}
+use Rattle.edit_stages.specs.EditLists.{EditedStand}
 use Rattle.edit_stages.proofs.any_lists.AnyLists.new.Goals as goal
 
 by_times : (copies : Times) → duplicate copies ≡ of_each (duplicate copies).outs
@@ -25,7 +25,7 @@ by_times (Only n) = refl
 by_times All = refl
 
 -- the lists of edits that the stage table says of the kind
-edited : (kind : Kind) (made : AnyEdit) (x : Each (Edited AnyEdit)) → x.each ≡ record { edits = made; new = []; due = false } →
+edited : (kind : Kind) (made : AnyEdit) (x : Each (Edited AnyEdit)) → x.each ≡ record { edits = made; new = None; due = false } →
     (line_of kind).shape ≡ through (each_record (edits (any_made made))) → (line_of kind).looks ≡ true → AreListsOf kind (Edit x)
 edited kind made x x_is shape_is looks_are = (
   each_record (edits (any_made made)),
@@ -34,7 +34,7 @@ edited kind made x x_is shape_is looks_are = (
   (
     Pairs (edits (any_made made)),
     refl,
-    (ap (λ (e : Edited AnyEdit). Pairs (edits (any_made e.edits))) (sym x_is), ap (λ (e : Edited AnyEdit). new_act e.due e.new) (sym x_is)),
+    subst (λ (e : Edited AnyEdit). EditedStand any_made e (Pairs (edits (any_made made))) [] []) (sym x_is) (refl, refl, λ due. cc),
   ),
 )
 
