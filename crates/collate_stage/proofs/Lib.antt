@@ -2,7 +2,8 @@ pub mod Numbered
 pub mod Sights
 pub mod KeyOrder
 pub mod LaneSteps
-pub mod LeastLanes
+pub mod Leading
+pub mod Queues
 pub mod MergeRounds
 pub mod MergeSteps
 pub mod CollateRounds

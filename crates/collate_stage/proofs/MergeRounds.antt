@@ -19,9 +19,10 @@ use Rattle.pipe_model.proofs.Numbers.{equal_or_not, test_same}
 use Rattle.stage_steps.specs.Plans.{last_from, known_done}
 use Rattle.collate_stage.specs.declared.lane.Lane.{Lane}
 use Rattle.collate_stage.specs.Lanes.{is_lacking, in_sight, IsShown, LaneIs}
-use Rattle.collate_stage.specs.Merging.{AreLanes, leads, IsFirst, IsLeast, IsReading, IsTurning}
+use Rattle.collate_stage.specs.Merging.{AreLanes, IsFirst, IsLeast, IsReading, IsTurning}
+use Rattle.collate_stage.specs.Queues.{leads}
 use Rattle.collate_stage.proofs.LaneSteps.{shown_of, none_of, goes_on, took_sight, took_other, lacks_is}
-use Rattle.collate_stage.proofs.LeastLanes.{leads_other}
+use Rattle.collate_stage.proofs.Leading.{leads_other}
 use Rattle.collate_stage.proofs.Numbered.{find_none, find_first, keep_one}
 use Rattle.collate_stage.proofs.Sights.{sees_none, sees_one, stands_at, not_among_none, is_the_one, any_at, any_none, not_all, keep_same, some_within}
 

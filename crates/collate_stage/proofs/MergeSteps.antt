@@ -1,5 +1,5 @@
 -- MERGE's value, one call further.
-use Rattle.std.proofs.Common.{◌≡◌, ◌≢◌, ◌⊎◌, inl, inr, ℕ, ◌+◌, ◌<◌, ◌≤◌, Bool, true, false, cond, ◌==◌, ◌&&◌, ◌||◌, not, List, [], ◌∷◌, length, refl, sym, ◌∙◌, ap, subst, arith, Some, None, slice_get, pos}
+use Rattle.std.proofs.Common.{◌≡◌, ◌≢◌, ◌⊎◌, inl, inr, ℕ, ◌+◌, ◌<◌, ◌≤◌, Bool, true, false, cond, ◌==◌, ◌&&◌, ◌||◌, not, List, [], ◌∷◌, ◌++◌, length, refl, sym, ◌∙◌, ap, subst, arith, Option, Some, None, slice_get, pos}
 use Rattle.std.specs.Prelude.{nat_le}
 use Rattle.std.proofs.lemmas.Bool.{eqb-true, ne_eqb}
 use Rattle.std.proofs.lemmas.Bool.Decides.{nat_tests}
@@ -18,15 +18,18 @@ use Rattle.pipe_model.specs.Shape.{asks, round_plan}
 use Rattle.pipe_model.proofs.Lists.{at_some}
 use Rattle.pipe_model.proofs.Numbers.{equal_or_not, test_same}
 use Rattle.stage_steps.specs.Plans.{last_from, known_done, with_acts, Plans, PlansBySight}
+use Rattle.collate_stage.specs.declared.lane.At.{At}
 use Rattle.collate_stage.specs.declared.lane.At.TheVariants.{Lacking, InSight, Ended}
 use Rattle.collate_stage.specs.declared.lane.Lane.{Lane}
 use Rattle.collate_stage.specs.declared.merge.Due.{Due}
 use Rattle.collate_stage.specs.declared.merge.Due.TheVariants as Dues
 use Rattle.collate_stage.specs.declared.merge.Merge.{Merge}
-use Rattle.collate_stage.specs.Lanes.{is_lacking, is_over, SightIs, LaneIs}
-use Rattle.collate_stage.specs.Merging.{AreLanes, AreNew, IsChanged, IsFirst, IsLeast, IsReading, IsTurning, LeftIs, MergeIs, IsHeard}
+use Rattle.collate_stage.specs.Lanes.{is_lacking, in_sight, is_over, SightIs, LaneIs}
+use Rattle.collate_stage.specs.Queues.{lane_sees, sees_at, waits, IsQueue}
+use Rattle.collate_stage.specs.Merging.{AreLanes, AreNew, IsChanged, IsReading, IsTurning, LeftIs, MergeIs, IsHeard}
 use Rattle.collate_stage.proofs.LaneSteps.{saw_here, saw_other, sight_none, end_here, end_other, took_here, took_other, shown_of}
 use Rattle.collate_stage.proofs.MergeRounds.{reads, turns, stops}
+use Rattle.collate_stage.proofs.Queues.{all_are_others, first_leaves, rest_waits, none_leaves, none_waits, still_waits}
 use Rattle.collate_stage.proofs.Sights.{without_other, some_within}
 
 -- Once its input was heard
@@ -50,14 +53,33 @@ module _ (range : Range) (lanes : List Lane) (i opened count opened' : ℕ) (all
       by true is it = let low = heard.within in let same = eqb-true i opened is in omega (arith, low, same, it)
       by false is it = let low = heard.high in omega (arith, low, it)
 
-  pub goes_reading : opened' < count → LeftIs Dues.Read opened' opened' lanes k (round_plan (length lanes) (merging range) k)
-  goes_reading low = reads range lanes k heard.lanes_are opened' lacks_on (omega (arith, low, all))
+  -- the inputs that wait then
+  abbrev Waiting : ℕ → List ℕ → Type 0
+  Waiting j queue = IsQueue lanes (waits lanes j) queue
 
-  pub goes_writing : (m : ℕ) → count ≤ opened' → IsFirst lanes count m → LeftIs Dues.Write m opened' lanes k (round_plan (length lanes) (merging range) k)
-  goes_writing m past first = turns range lanes k heard.lanes_are opened' lacks_on m (let high = high_on in omega (arith, past, high, all)) (subst (λ n. IsFirst lanes n m) (sym all) first)
+  hidden : sees_at lanes opened' ≡ false
+  hidden = by (slice_get lanes opened') refl
+    where
+      not_seen : (lane : Lane) → is_lacking lane.at ≡ true → in_sight lane.at ≡ false
+      not_seen lane lacks = of_at lane.at lacks
+        where
+          of_at : (at : At) → is_lacking at ≡ true → in_sight at ≡ false
+          of_at Lacking lacks = refl
+          of_at InSight lacks = cc
+          of_at Ended lacks = cc
 
-  pub goes_ending : (m : ℕ) → count ≤ opened' → IsLeast lanes count None → LeftIs Dues.End m opened' lanes k (round_plan (length lanes) (merging range) k)
-  goes_ending m past none = stops range lanes k heard.lanes_are opened' lacks_on (omega (arith, past, all)) (subst (λ n. IsLeast lanes n None) (sym all) none)
+      by : (o : Option Lane) → slice_get lanes opened' ≡ o → lane_sees o ≡ false
+      by None is = refl
+      by (Some lane) is = not_seen lane (lacks_on opened' lane is ∙ grind (arith, nat_tests))
+
+  pub goes_reading : (queue : List ℕ) → opened' < count → IsQueue lanes (sees_at lanes) queue → LeftIs Dues.Read opened' opened' lanes k (round_plan (length lanes) (merging range) k) × Waiting opened' queue
+  goes_reading queue low is = (reads range lanes k heard.lanes_are opened' lacks_on (omega (arith, low, all)), all_are_others lanes opened' queue hidden is)
+
+  pub goes_writing : (m : ℕ) (rest : List ℕ) → count ≤ opened' → IsQueue lanes (sees_at lanes) (rest ++ m ∷ []) → LeftIs Dues.Write m opened' lanes k (round_plan (length lanes) (merging range) k) × Waiting m rest
+  goes_writing m rest past is = (turns range lanes k heard.lanes_are opened' lacks_on m (let high = high_on in omega (arith, past, high, all)) (first_leaves lanes m rest is), rest_waits lanes m rest is)
+
+  pub goes_ending : (m : ℕ) → count ≤ opened' → IsQueue lanes (sees_at lanes) [] → LeftIs Dues.End m opened' lanes k (round_plan (length lanes) (merging range) k) × Waiting m []
+  goes_ending m past is = (stops range lanes k heard.lanes_are opened' lacks_on (omega (arith, past, all)) (none_leaves lanes (length lanes) is), none_waits lanes m is)
 
 -- Its input is heard
 
@@ -121,18 +143,23 @@ module _ (range : Range) (old new : List Lane) (i opened : ℕ) (left : Plan) (k
 
 -- what a value with these inputs does once one of them was heard is what the row says
 abbrev Goes : Merge → Merge → List Lane → Type 0
-Goes x y lanes = length lanes ≡ x.count → (k : Known) → IsHeard x.range lanes x.input x.opened k → LeftIs y.due y.input y.opened lanes k (round_plan (length lanes) (merging x.range) k)
+Goes x y lanes = length lanes ≡ x.count → IsQueue lanes (waits lanes x.input) x.queue.items → (k : Known) → IsHeard x.range lanes x.input x.opened k →
+    LeftIs y.due y.input y.opened lanes k (round_plan (length lanes) (merging x.range) k) × IsQueue lanes (waits lanes y.input) y.queue.items
 
 module _ (x y : Merge) (lanes : List Lane) (range_is : y.range ≡ x.range) (lanes_are : y.lanes.items ≡ lanes) (count_is : y.count ≡ x.count) (goes : Goes x y lanes) where
-  stands_on : (plan : Known → Plan) (k k' : Known) (left : Plan) → MergeIs x plan k left → length lanes ≡ length x.lanes.items → IsHeard x.range lanes x.input x.opened k' → MergeIs y plan k' (plan k')
-  stands_on plan k k' left is same it = record {
+  stands_on : (plan : Known → Plan) (k k' : Known) (left : Plan) → MergeIs x plan k left → length lanes ≡ length x.lanes.items → IsQueue lanes (waits lanes x.input) x.queue.items → IsHeard x.range lanes x.input x.opened k' → MergeIs y plan k' (plan k')
+  stands_on plan k k' left is same queue it = record {
     plan_is = plan_is ∙ ap (λ n. round_plan n (merging y.range)) (sym (ap length lanes_are));
     count_is = ap length lanes_are ∙ same ∙ is.count_is ∙ sym count_is;
     lanes_are = subst (λ (ls : List Lane). AreLanes y.range ls k') (sym lanes_are) (subst (λ r. AreLanes r lanes k') (sym range_is) it.lanes_are);
+    queue_is = subst (λ (ls : List Lane). IsQueue ls (waits ls y.input) y.queue.items) (sym lanes_are) then.1;
     left_is = subst (λ (ls : List Lane). LeftIs y.due y.input y.opened ls k' (plan k')) (sym lanes_are)
-        (subst (λ (f : Known → Plan). LeftIs y.due y.input y.opened lanes k' (f k')) (sym by_row) (goes (same ∙ is.count_is) k' it));
+        (subst (λ (f : Known → Plan). LeftIs y.due y.input y.opened lanes k' (f k')) (sym by_row) then.0);
   }
     where
+      then : LeftIs y.due y.input y.opened lanes k' (round_plan (length lanes) (merging x.range) k') × IsQueue lanes (waits lanes y.input) y.queue.items
+      then = goes (same ∙ is.count_is) queue k' it
+
       by_row : plan ≡ round_plan (length lanes) (merging x.range)
       by_row = is.plan_is ∙ ap (λ n. round_plan n (merging x.range)) (sym same)
 
@@ -148,6 +175,7 @@ module _ (x y : Merge) (lanes : List Lane) (range_is : y.range ≡ x.range) (lan
       let here = subst (λ j. IsChanged x.lanes.items lanes j (λ lane. (lane.key.items ≡ key) × (lane.at ≡ InSight))) same changed in
       subst (λ j. MergeIs y plan (hears k (Saw j rec)) (plan (hears k (Saw j rec)))) (sym same)
       (stands_on plan k (hears k (Saw x.input rec)) (asks want) is changed.length_is
+      (still_waits x.lanes.items lanes x.input (λ lane. (lane.key.items ≡ key) × (lane.at ≡ InSight)) here x.queue.items is.queue_is)
       (heard x.range x.lanes.items lanes x.input x.opened (asks want) k (λ lane. (lane.key.items ≡ key) × (lane.at ≡ InSight)) here is.lanes_are reading
       (λ lane so. ap is_lacking so.1)
       (hears k (Saw x.input rec))
@@ -163,6 +191,7 @@ module _ (x y : Merge) (lanes : List Lane) (range_is : y.range ≡ x.range) (lan
       let here = subst (λ j. IsChanged x.lanes.items lanes j (λ lane. lane.at ≡ Ended)) same changed in
       subst (λ j. MergeIs y plan (hears k (SawEnd j)) (plan (hears k (SawEnd j)))) (sym same)
       (stands_on plan k (hears k (SawEnd x.input)) (asks want) is changed.length_is
+      (still_waits x.lanes.items lanes x.input (λ lane. lane.at ≡ Ended) here x.queue.items is.queue_is)
       (heard x.range x.lanes.items lanes x.input x.opened (asks want) k (λ lane. lane.at ≡ Ended) here is.lanes_are reading
       (λ lane so. ap is_lacking so)
       (hears k (SawEnd x.input))
@@ -180,10 +209,10 @@ never_all x y = λ plan k want is fits few.
 -- Its acts
 
 -- it writes
-pub writes_it : (x y : Merge) → x.due ≡ Dues.Write → y.due ≡ Dues.Take → y.range ≡ x.range → y.lanes.items ≡ x.lanes.items → y.count ≡ x.count → y.input ≡ x.input → y.opened ≡ x.opened →
+pub writes_it : (x y : Merge) → x.due ≡ Dues.Write → y.due ≡ Dues.Take → y.range ≡ x.range → y.lanes.items ≡ x.lanes.items → y.queue.items ≡ x.queue.items → y.count ≡ x.count → y.input ≡ x.input → y.opened ≡ x.opened →
     (plan : Known → Plan) (k : Known) (left : Plan) → MergeIs x plan k left →
     (rest : List Act) × (left.acts ≡ Writes 0 (last_from k.seen x.input) ∷ rest) × MergeIs y plan k (with_acts rest left) × (0 < length (records_from x.input k.seen))
-writes_it x y due due' range lanes count input opened plan k left is =
+writes_it x y due due' range lanes queue count input opened plan k left is =
     let turning : IsTurning (Writes 0 (last_from k.seen x.input) ∷ Takes x.input ∷ []) x.input x.opened x.lanes.items left = subst (λ d. LeftIs d x.input x.opened x.lanes.items k left) due is.left_is in
     let shown = shown_of x.range k x.input turning.lane turning.sees (is.lanes_are.each x.input turning.lane turning.here) in (
       Takes x.input ∷ [],
@@ -192,6 +221,8 @@ writes_it x y due due' range lanes count input opened plan k left is =
         plan_is = is.plan_is ∙ ap (λ n. round_plan n (merging x.range)) (ap length (sym lanes)) ∙ ap (λ r. round_plan (length y.lanes.items) (merging r)) (sym range);
         count_is = ap length lanes ∙ is.count_is ∙ sym count;
         lanes_are = subst (λ (ls : List Lane). AreLanes y.range ls k) (sym lanes) (subst (λ r. AreLanes r x.lanes.items k) (sym range) is.lanes_are);
+        queue_is = subst (λ (ls : List Lane). IsQueue ls (waits ls y.input) y.queue.items) (sym lanes)
+            (subst (λ i. IsQueue x.lanes.items (waits x.lanes.items i) y.queue.items) (sym input) (subst (IsQueue x.lanes.items (waits x.lanes.items x.input)) (sym queue) is.queue_is));
         left_is = subst (λ d. LeftIs d y.input y.opened y.lanes.items k (with_acts (Takes x.input ∷ []) left)) (sym due')
             (subst (λ (ls : List Lane). LeftIs Dues.Take y.input y.opened ls k (with_acts (Takes x.input ∷ []) left)) (sym lanes)
             (subst (λ i. LeftIs Dues.Take i y.opened x.lanes.items k (with_acts (Takes x.input ∷ []) left)) (sym input)
@@ -246,10 +277,10 @@ module _ (range : Range) (old new : List Lane) (i opened : ℕ) (left : Plan) (k
   }
 
 -- it takes
-pub takes_it : (x y : Merge) → x.due ≡ Dues.Take → y.due ≡ Dues.Read → y.range ≡ x.range → IsChanged x.lanes.items y.lanes.items x.input (λ lane. lane.at ≡ Lacking) → y.count ≡ x.count → y.input ≡ x.input → y.opened ≡ x.opened →
+pub takes_it : (x y : Merge) → x.due ≡ Dues.Take → y.due ≡ Dues.Read → y.range ≡ x.range → IsChanged x.lanes.items y.lanes.items x.input (λ lane. lane.at ≡ Lacking) → y.queue.items ≡ x.queue.items → y.count ≡ x.count → y.input ≡ x.input → y.opened ≡ x.opened →
     (plan : Known → Plan) (k : Known) (left : Plan) → MergeIs x plan k left →
     (rest : List Act) × (left.acts ≡ Takes x.input ∷ rest) × MergeIs y plan (known_done (Takes x.input) k) (with_acts rest left) × Unit {0}
-takes_it x y due due' range changed count input opened plan k left is =
+takes_it x y due due' range changed queue count input opened plan k left is =
     let turning : IsTurning (Takes x.input ∷ []) x.input x.opened x.lanes.items left = subst (λ d. LeftIs d x.input x.opened x.lanes.items k left) due is.left_is in (
       [],
       ap (λ (p : Plan). p.acts) turning.left_is,
@@ -257,6 +288,9 @@ takes_it x y due due' range changed count input opened plan k left is =
         plan_is = is.plan_is ∙ ap (λ n. round_plan n (merging x.range)) (sym changed.length_is) ∙ ap (λ r. round_plan (length y.lanes.items) (merging r)) (sym range);
         count_is = changed.length_is ∙ is.count_is ∙ sym count;
         lanes_are = subst (λ r. AreLanes r y.lanes.items (known_done (Takes x.input) k)) (sym range) (are_took x.range x.lanes.items y.lanes.items x.input x.opened left k changed is.lanes_are turning);
+        queue_is = subst (λ i. IsQueue y.lanes.items (waits y.lanes.items i) y.queue.items) (sym input)
+            (subst (IsQueue y.lanes.items (waits y.lanes.items x.input)) (sym queue)
+            (still_waits x.lanes.items y.lanes.items x.input (λ lane. lane.at ≡ Lacking) changed x.queue.items is.queue_is));
         left_is = subst (λ d. LeftIs d y.input y.opened y.lanes.items (known_done (Takes x.input) k) (with_acts [] left)) (sym due')
             (subst (λ i. IsReading i y.opened y.lanes.items (with_acts [] left)) (sym input)
             (subst (λ o. IsReading x.input o y.lanes.items (with_acts [] left)) (sym opened)
@@ -280,6 +314,13 @@ module _ (range : Range) (lanes : List Lane) (count : ℕ) (new : AreNew lanes c
   lacks_fresh : (j : ℕ) (lane : Lane) → slice_get lanes j ≡ Some lane → is_lacking lane.at ≡ nat_le 0 j
   lacks_fresh j lane at = ap is_lacking (new.each j lane at) ∙ grind (arith, nat_tests)
 
+  none_fresh : (i : ℕ) → IsQueue lanes (waits lanes i) []
+  none_fresh i = none_waits lanes i record { members = λ j. sym (hidden j (slice_get lanes j) refl); order = λ p q d low within. absurd (omega (arith, within)) }
+    where
+      hidden : (j : ℕ) (o : Option Lane) → slice_get lanes j ≡ o → sees_at lanes j ≡ false
+      hidden j None is = ap lane_sees is
+      hidden j (Some lane) is = ap lane_sees is ∙ ap in_sight (new.each j lane is)
+
   begins : (b : Bool) → (count == 0) ≡ b → LeftIs (cond b Dues.End Dues.Read) 0 0 lanes nothing_known (round_plan (length lanes) (merging range) nothing_known)
   begins true is =
       let none = eqb-true count 0 is in
@@ -292,12 +333,13 @@ module _ (range : Range) (lanes : List Lane) (count : ℕ) (new : AreNew lanes c
       some_input : (count == 0) ≡ false → length lanes ≡ count → 0 < length lanes
       some_input is same = grind (arith, nat_tests)
 
-pub merge_begins : (x : Merge) → AreNew x.lanes.items x.count → x.opened ≡ 0 → x.input ≡ 0 → x.due ≡ cond (x.count == 0) Dues.End Dues.Read →
+pub merge_begins : (x : Merge) → AreNew x.lanes.items x.count → x.queue.items ≡ [] → x.opened ≡ 0 → x.input ≡ 0 → x.due ≡ cond (x.count == 0) Dues.End Dues.Read →
     MergeIs x (round_plan x.count (merging x.range)) nothing_known (round_plan x.count (merging x.range) nothing_known)
-merge_begins x new opened input due = record {
+merge_begins x new queue opened input due = record {
   plan_is = ap (λ n. round_plan n (merging x.range)) (sym new.length_is);
   count_is = new.length_is;
   lanes_are = are_fresh x.range x.lanes.items x.count new;
+  queue_is = subst (IsQueue x.lanes.items (waits x.lanes.items x.input)) (sym queue) (none_fresh x.range x.lanes.items x.count new x.input);
   left_is =
       subst (λ d. LeftIs d x.input x.opened x.lanes.items nothing_known (round_plan x.count (merging x.range) nothing_known)) (sym due)
       (subst (λ i. LeftIs (cond (x.count == 0) Dues.End Dues.Read) i x.opened x.lanes.items nothing_known (round_plan x.count (merging x.range) nothing_known)) (sym input)

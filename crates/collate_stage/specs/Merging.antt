@@ -1,12 +1,11 @@
 -- What MERGE's plans stand for.
-use Rattle.std.specs.Prelude.{◌≡◌, ◌≢◌, ◌<◌, ◌≤◌, ℕ, ◌==◌, nat_lt, nat_le, Bool, true, false, ◌&&◌, ◌||◌, not, List, [], ◌∷◌, length, slice_get, pos}
+use Rattle.std.specs.Prelude.{◌≡◌, ◌≢◌, ◌<◌, ◌≤◌, ℕ, ◌==◌, nat_le, true, false, ◌&&◌, ◌||◌, not, List, [], ◌∷◌, length, slice_get, pos}
 use Rattle.std.specs.declared.option.Option.{Option}
 use Rattle.std.specs.declared.option.Option.TheVariants.{Some, None}
 use Rattle.pipe_model.specs.declared.range.Range.{Range}
 use Rattle.pipe_model.specs.Event.Want.{Read}
 use Rattle.pipe_model.specs.Inputs.{records_from}
 use Rattle.pipe_model.specs.JoiningRows.{merging}
-use Rattle.pipe_model.specs.Keys.{is_less, is_same}
 use Rattle.pipe_model.specs.Row.{Act, Plan, Known}
 use Rattle.pipe_model.specs.Row.Act.{Writes, Takes}
 use Rattle.pipe_model.specs.Row.Goal.{Asks}
@@ -18,6 +17,7 @@ use Rattle.collate_stage.specs.declared.merge.Due.{Due}
 use Rattle.collate_stage.specs.declared.merge.Due.TheVariants.{Write, Take, Read as Reading, End}
 use Rattle.collate_stage.specs.declared.merge.Merge.{Merge}
 use Rattle.collate_stage.specs.Lanes.{is_lacking, in_sight, LaneIs}
+use Rattle.collate_stage.specs.Queues.{leads, waits, IsQueue}
 
 -- each input stands by what the strand knows, and nothing else is in sight
 pub record AreLanes (range : Range) (lanes : List Lane) (k : Known) : Type 0 where
@@ -34,10 +34,6 @@ pub record IsChanged (old new : List Lane) (i : ℕ) (IsSo : Lane → Type 0) : 
   pub length_is : length new ≡ length old
   pub others : (j : ℕ) → j ≢ i → slice_get new j ≡ slice_get old j
   pub here : (lane : Lane) → slice_get new i ≡ Some lane → IsSo lane
-
--- the record with the key on input i goes before the other one on input j
-abbrev pub leads : List ℕ → ℕ → List ℕ → ℕ → Bool
-leads key i other j = is_less key other || (is_same key other && nat_lt i j)
 
 -- of the records in sight on the inputs below n, none goes before that of input m
 pub record IsFirst (lanes : List Lane) (n m : ℕ) : Type 0 where
@@ -81,6 +77,7 @@ pub record MergeIs (x : Merge) (plan : Known → Plan) (k : Known) (left : Plan)
   pub plan_is : plan ≡ round_plan (length x.lanes.items) (merging x.range)
   pub count_is : length x.lanes.items ≡ x.count
   pub lanes_are : AreLanes x.range x.lanes.items k
+  pub queue_is : IsQueue x.lanes.items (waits x.lanes.items x.input) x.queue.items
   pub left_is : LeftIs x.due x.input x.opened x.lanes.items k left
 
 -- input i was heard, which it was to read
@@ -91,10 +88,10 @@ pub record IsHeard (range : Range) (lanes : List Lane) (i opened : ℕ) (k : Kno
   pub high : opened ≤ length lanes
   pub lacking : (j : ℕ) (lane : Lane) → slice_get lanes j ≡ Some lane → is_lacking lane.at ≡ (not (i == j) && nat_le opened j)
 
--- what it does then is what the row says
+-- what it does then is what the row says, and the others with a record in sight wait
 abbrev pub GoesOn : Merge → Merge → Type 0
-GoesOn x y = length x.lanes.items ≡ x.count → (k : Known) → IsHeard x.range x.lanes.items x.input x.opened k →
-    LeftIs y.due y.input y.opened x.lanes.items k (round_plan (length x.lanes.items) (merging x.range) k)
+GoesOn x y = length x.lanes.items ≡ x.count → IsQueue x.lanes.items (waits x.lanes.items x.input) x.queue.items → (k : Known) → IsHeard x.range x.lanes.items x.input x.opened k →
+    LeftIs y.due y.input y.opened x.lanes.items k (round_plan (length x.lanes.items) (merging x.range) k) × IsQueue x.lanes.items (waits x.lanes.items y.input) y.queue.items
 
 -- how many acts are left at most
 abbrev pub acts_due : Due → ℕ

@@ -6,6 +6,7 @@ mod collating;
 mod lane;
 mod laws;
 mod merge;
+mod queue;
 mod stage;
 
 pub use laws::lists;

@@ -1,11 +1,12 @@
 ghost use Rattle.std.specs.Prelude.{◌≡◌, ◌+◌, ◌<◌, ◌==◌, if◌then◌else◌, IfOk};
 ghost use Rattle.collate_stage.specs.declared.lane.At.TheVariants.{Lacking, InSight, Ended};
 ghost use Rattle.collate_stage.specs.declared.merge.Due.TheVariants.{Read, End};
-ghost use Rattle.collate_stage.specs.Merging.{IsChanged, IsLeast, AreNew};
+ghost use Rattle.collate_stage.specs.Merging.{IsChanged, AreNew};
 
 use crate::lane::{At, Lane};
+use crate::queue::put_in;
 use pipe_model::{NoMemory, Out, Range};
-use stage_steps::{Act, Goal, Plans, is_less, part_of};
+use stage_steps::{Act, Goal, Plans, part_of};
 use std::alloc::Global;
 
 /// What MERGE is to do next.
@@ -27,6 +28,9 @@ pub enum Due {
 pub struct Merge {
     range: Range,
     lanes: Vec<Lane>,
+    /// The inputs with a record in sight but `input`, the one whose record goes first at the end. An input is put to its
+    /// place by halves, so that a record costs few comparisons however many inputs there are.
+    queue: Vec<u16>,
     count: u16,
     /// How many inputs were read so far: at the start each of them is read, and only then a record is written.
     opened: u16,
@@ -63,37 +67,6 @@ fn take_at(lanes: &mut Vec<Lane>, input: u16)
     if let Some(lane) = lanes.get_mut(input as usize) {
         lane.take();
     }
-}
-
-// Of the inputs up to this one the one whose record goes first, where `least` is that of those before it.
-#[inline(always)]
-fn lesser(lanes: &[Lane], least: Option<u16>, input: u16) -> Option<u16>
-    ensures { IsLeast lanes.now input least → IsLeast lanes.now (input + 1) result }
-{
-    let Some(lane) = lanes.get(input as usize) else {
-        return least;
-    };
-    if !lane.is_in_sight() {
-        return least;
-    }
-    let Some(other) = least else {
-        return Some(input);
-    };
-    match lanes.get(other as usize) {
-        Some(first) if is_less(&lane.key, &first.key) => Some(input),
-        _ => least,
-    }
-}
-
-// The input whose record goes first, where one is in sight.
-fn least(lanes: &[Lane], count: u16) -> Option<u16>
-    ensures { IsLeast lanes.now count result }
-{
-    let mut least = None;
-    for input in 0..count {
-        least = lesser(lanes, least, input);
-    }
-    least
 }
 
 // How many inputs were read when this one was.
@@ -137,9 +110,11 @@ impl Merge {
         ensures { IfOk result (λ it. MergeIs it (round_plan count (merging range)) nothing_known (round_plan count (merging range) nothing_known)) }
     {
         let lanes = new_lanes(alloc, count)?;
+        let queue = Vec::with_capacity(alloc, count as usize)?;
         Ok(Merge {
             range,
             lanes,
+            queue,
             count,
             opened: 0,
             input: 0,
@@ -148,25 +123,27 @@ impl Merge {
     }
 
     // Plans when its input was heard.
-    fn go_on(&mut self)
+    fn go_on(&mut self) -> Result<(), NoMemory>
         ensures range { self.new.range ≡ self.old.range }
         ensures lanes { self.new.lanes.items ≡ self.old.lanes.items }
         ensures count { self.new.count ≡ self.old.count }
-        ensures plans { GoesOn self.old self.new }
+        ensures plans { IfOk result (λ _. GoesOn self.old self.new) }
     {
+        put_in(&self.lanes, &mut self.queue, self.input)?;
         self.opened = opened_after(self.input, self.opened, self.count);
         if self.opened < self.count {
             self.input = self.opened;
             self.due = Due::Read;
-            return;
+            return Ok(());
         }
-        match least(&self.lanes, self.count) {
+        match self.queue.pop() {
             Some(input) => {
                 self.input = input;
                 self.due = Due::Write;
             }
             None => self.due = Due::End,
         }
+        Ok(())
     }
 }
 
@@ -182,14 +159,12 @@ impl Plans for Merge {
 
     fn see(&mut self, _alloc: Global, input: u16, bytes: &[u8]) -> Result<(), NoMemory> {
         show_at(&mut self.lanes, input, part_of(self.range, bytes))?;
-        self.go_on();
-        Ok(())
+        self.go_on()
     }
 
     fn end(&mut self, _alloc: Global, input: u16) -> Result<(), NoMemory> {
         end_at(&mut self.lanes, input);
-        self.go_on();
-        Ok(())
+        self.go_on()
     }
 
     // It never looks at any input.
