@@ -4,7 +4,9 @@ pub mod Drives
 pub mod Fields
 pub mod Fitting
 pub mod Flags
+pub mod GoingOn
 pub mod Groups
+pub mod Lanes
 pub mod Lasts
 pub mod Passing
 pub mod PassingOn

@@ -1,5 +1,5 @@
 -- How a walk of pairs goes on: where it stands after an event, and what it asks for then.
-use Rattle.std.specs.Prelude.{◌≡◌, ◌⊎◌, ℕ, Bool, true, false, if◌then◌else◌, List, [], ◌++◌, pos, unwrap_or}
+use Rattle.std.specs.Prelude.{◌≡◌, ◌⊎◌, ℕ, Bool, true, false, if◌then◌else◌, List, [], ◌++◌, pos, unwrap_or, option_map}
 use Rattle.std.specs.Ordering.{int_eq}
 use Rattle.std.specs.declared.option.Option.{Option}
 use Rattle.std.specs.declared.option.Option.TheVariants.{Some, None}
@@ -21,6 +21,7 @@ use Rattle.stage_steps.specs.declared.place.Place.{Place}
 use Rattle.stage_steps.specs.declared.place.Place.TheVariants.{Starting, Committing, Looking, Writing, Taking, Passing, Ending}
 use Rattle.stage_steps.specs.declared.walk.Walk.{Walk}
 use Rattle.stage_steps.specs.Group.{group_acts, held_acts, is_due, less_one, IsHeld, IsOfRecord, IsLeftOfRecord}
+use Rattle.stage_steps.specs.Kept.{kept_after}
 use Rattle.stage_steps.specs.Lists.{Begins, Sees, Finishes, StandsOn, IsSpent, Tells}
 use Rattle.stage_steps.specs.Outputs.{live}
 use Rattle.stage_steps.specs.Places.{want_at, sight_place, taken_place, place_behind, is_last}
@@ -55,6 +56,15 @@ CanPass stands x w = ((w.place ≡ Writing Take) ⊎ (w.place ≡ Taking)) × (w
 abbrev pub IsPassing : {L : Type 0} → (L → Bool → Stream → Records → List Act → Type 0) → L → Walk → Walk → Bool → Type 0
 IsPassing stands x w v false = v ≡ w
 IsPassing stands x w v true = CanPass stands x w × (v ≡ record w { place = Passing })
+
+-- it waits until the record at hand is taken, and all that it does then is to look at the next one
+abbrev pub CanGoOn : {L : Type 0} → (L → Bool → Stream → Records → List Act → Type 0) → L → Walk → Type 0
+CanGoOn stands x w = ((w.place ≡ Taking) ⊎ (w.place ≡ Passing)) × (w.order ≡ WritesFirst) × Tells stands x false (λ t recs. t.stops recs)
+
+-- whether it does so, and where it stands then, with what it keeps counted as taken
+abbrev pub IsGoingOn : {L : Type 0} → (L → Bool → Stream → Records → List Act → Type 0) → L → Walk → Walk → Bool → Type 0
+IsGoingOn stands x w v false = v ≡ w
+IsGoingOn stands x w v true = CanGoOn stands x w × (v ≡ record w { place = Looking; kept = option_map (kept_after (Took 0) []) w.kept })
 
 -- the group that comes next of those whose output is open, the record in hand first, or none where nothing is left
 abbrev pub Fetches : {L : Type 0} → (L → Bool → Stream → Records → List Act → Type 0) → (L → Option (List ℕ)) → List Bool → L → Option Repeat → L → Option Group → Type 0

@@ -15,6 +15,10 @@ impl<T: Stage> Stage for Box<T> {
         (**self).resume(alloc, seen, bytes)
     }
 
+    fn goes_on(&mut self) -> bool {
+        (**self).goes_on()
+    }
+
     fn passes(&mut self) -> bool {
         (**self).passes()
     }

@@ -44,6 +44,7 @@ impl Kept {
     }
 
     // Counts all records that were seen as taken.
+    #[inline(always)]
     fn take_all(&mut self)
         ensures { self.new ≡ kept_after (Seen.Took 0) [] self.old }
     {
@@ -65,6 +66,16 @@ pub(crate) fn kept_if(alloc: Global, keeps: bool) -> Option<Kept>
     if keeps { Some(Kept::new(alloc)) } else { None }
 }
 
+// What is kept when a record was taken, where something is.
+#[inline(always)]
+pub(crate) fn note_taken(kept: &mut Option<Kept>)
+    ensures { kept.new ≡ option_map (kept_after (Seen.Took 0) []) kept.old }
+{
+    if let Some(kept) = kept {
+        kept.take_all();
+    }
+}
+
 // What is kept after an event, where something is.
 #[inline(always)]
 pub(crate) fn note_kept(kept: &mut Option<Kept>, seen: Seen, bytes: &[u8]) -> Result<(), NoMemory>
@@ -76,9 +87,7 @@ pub(crate) fn note_kept(kept: &mut Option<Kept>, seen: Seen, bytes: &[u8]) -> Re
             None => Ok(()),
         },
         Seen::Took(_) => {
-            if let Some(kept) = kept {
-                kept.take_all();
-            }
+            note_taken(kept);
             Ok(())
         }
         _ => Ok(()),

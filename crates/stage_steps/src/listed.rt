@@ -4,7 +4,7 @@ use crate::order::Order;
 use crate::outputs::Outputs;
 use crate::place::Place;
 use crate::stage::Stage;
-use crate::walk::{Walk, ask, hear, passes};
+use crate::walk::{Walk, ask, goes_on, hear, passes};
 use pipe_model::{NoMemory, Seen, Want};
 use std::alloc::Global;
 
@@ -64,6 +64,11 @@ impl<L: Lists> Stage for Listed<L> {
         self.walk.outputs.note(seen);
         let place = hear(&mut self.lists, &self.walk, alloc, seen, bytes)?;
         ask(&mut self.lists, &mut self.walk, place, alloc)
+    }
+
+    #[inline(always)]
+    fn goes_on(&mut self) -> bool {
+        goes_on(&self.lists, &mut self.walk)
     }
 
     #[inline(always)]

@@ -1,4 +1,4 @@
-ghost use Rattle.std.specs.Prelude.{◌≡◌, true, List, [], IfOk, Some};
+ghost use Rattle.std.specs.Prelude.{◌≡◌, true, false, List, [], IfOk, Some};
 ghost use Rattle.pipe_model.specs.declared.net.Strand.{Strand};
 ghost use Rattle.pipe_model.specs.Event.{Event};
 ghost use Rattle.pipe_model.specs.Next.{next};
@@ -24,6 +24,17 @@ pub trait Stage: Sized + Drop {
     fn resume(&mut self, alloc: Global, seen: Seen, bytes: &[u8]) -> Result<Want, NoMemory>
         requires { CanResume stands self.old seen bytes.now }
         ensures { IfOk result (λ asked. Resumes stands self.old self.new seen bytes.now asked) };
+
+    /// Tells it that the record of input 0, which it asked to take, was taken, where all that it does then is to look at
+    /// the next one there: the answer is whether it does. Else nothing changes, and `resume` has to tell it. The answer may
+    /// always be `false`.
+    fn goes_on(&mut self) -> bool
+        requires { CanResume stands self.old (Seen.Took 0) [] }
+        ensures goes { result ≡ true → Resumes stands self.old self.new (Seen.Took 0) [] (Want.Read 0) }
+        ensures stays { result ≡ false → self.new ≡ self.old }
+    {
+        false
+    }
 
     /// Whether it passes on the record that it saw last: once it has put one it takes the record of input 0, and once it took
     /// that it looks at the next one there. It needn't be told of these two events then, and may be told of them all the

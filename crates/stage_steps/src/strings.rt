@@ -1,9 +1,11 @@
-ghost use Rattle.std.specs.Prelude.{◌≡◌, ◌<◌, length};
-ghost use Rattle.bstr.specs.Find.{FindsNeedle, IsFirstByte, is_byte};
+ghost use Rattle.std.specs.Prelude.{◌≡◌, ◌+◌, ◌<◌, ◌≤◌, length, map};
+ghost use Rattle.std.specs.Simd.Lanes.{mask_l};
+ghost use Rattle.bstr.specs.Find.{FindsNeedle, IsFirst, IsFirstByte, Passes, is_byte};
 
 use bstr::ByteSlice;
 use pipe_model::Rec;
 use std::marker::Model;
+use std::simd::prelude::*;
 
 /// A string to look for, seen as the list of its bytes. A short one is looked for by its rarest byte, which is chosen
 /// when the value is made.
@@ -94,22 +96,64 @@ fn rarest(text: &[u8]) -> usize
     rare
 }
 
-/// A part shorter than this is looked along four bytes at a time. The library looks along such a one byte by byte.
-const SHORT: usize = 32;
+/// How many bytes a vector holds. A part shorter than this is looked along four bytes at a time.
+const LANES: usize = 16;
+
+/// From this length on a part is left to the library. It looks along 128 bytes at a time, and along a part below 32 byte by
+/// byte.
+const LONG: usize = 128;
 
 // The first place of a byte in a part.
 #[inline(always)]
 fn place_of(part: &[u8], byte: u8) -> Option<usize>
     ensures { IsFirstByte (is_byte byte) part.now result }
 {
-    if part.len() < SHORT {
+    if part.len() < LANES {
         place_near(part, byte)
+    } else if part.len() < LONG {
+        place_by_lanes(part, byte)
     } else {
         part.find_byte(byte)
     }
 }
 
-// The same in a short part.
+// Bit k tells whether lane k is the byte.
+#[inline(always)]
+fn marks(lanes: u8x16, byte: u8) -> u64
+    ensures { result ≡ mask_l (map (is_byte byte) lanes) }
+{
+    lanes.simd_eq(u8x16::splat(byte)).to_bitmask()
+}
+
+// The first place of a byte among those of a vector's length, from a place on.
+#[inline(always)]
+fn place_in_lanes(part: &[u8], from: usize, byte: u8) -> Option<usize>
+    requires { from + 16 ≤ length part.now }
+    ensures { IsFirst (Passes (is_byte byte) part.now) from (from + 16) result }
+{
+    let marked = marks(u8x16::from_slice(&part[from..]), byte);
+    if marked == 0 {
+        return None;
+    }
+    Some(from + marked.trailing_zeros() as usize)
+}
+
+// The first place of a byte in a part that fills a vector. The last vector may begin at bytes that were looked at.
+fn place_by_lanes(part: &[u8], byte: u8) -> Option<usize>
+    requires { 16 ≤ length part.now }
+    ensures { IsFirstByte (is_byte byte) part.now result }
+{
+    let mut at = 0;
+    while at + LANES < part.len() {
+        match place_in_lanes(part, at, byte) {
+            Some(place) => return Some(place),
+            None => at += LANES,
+        }
+    }
+    place_in_lanes(part, part.len() - LANES, byte)
+}
+
+// The first place of a byte in a short part.
 fn place_near(part: &[u8], byte: u8) -> Option<usize>
     ensures { IsFirstByte (is_byte byte) part.now result }
 {

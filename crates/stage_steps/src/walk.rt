@@ -5,10 +5,10 @@ ghost use Rattle.stage_steps.specs.Outputs.{none_left};
 ghost use Rattle.stage_steps.specs.Group.{less, less_one, IsHeld};
 ghost use Rattle.stage_steps.specs.Places.{look_place, sight_place, taken_place};
 ghost use Rattle.stage_steps.specs.Lists.{Tells};
-ghost use Rattle.stage_steps.specs.Walk.{IsBegun, Hears, CanPass, IsPassing, Fetches, Puts, Asks, TellsBehind};
+ghost use Rattle.stage_steps.specs.Walk.{IsBegun, Hears, CanPass, IsPassing, CanGoOn, IsGoingOn, Fetches, Puts, Asks, TellsBehind};
 
 use crate::group::{Group, Repeat};
-use crate::kept::Kept;
+use crate::kept::{Kept, note_taken};
 use crate::lists::Lists;
 use crate::order::Order;
 use crate::outputs::Outputs;
@@ -168,6 +168,30 @@ pub(crate) fn passes<L: Lists>(lists: &L, walk: &mut Walk) -> bool
         return false;
     }
     walk.place = Place::Passing;
+    true
+}
+
+// Whether all that it does, once the record at hand was taken, is to look at the next one.
+#[inline(always)]
+fn can_go_on<L: Lists>(lists: &L, walk: &Walk) -> bool
+    ensures { result ≡ true → CanGoOn L.stands lists.now walk.now }
+{
+    matches!(walk.place, Place::Taking | Place::Passing)
+        && matches!(walk.order, Order::WritesFirst)
+        && !lists.stops()
+}
+
+// Whether it goes on to the next record, when the one at hand was taken. It stands there then, and what it keeps of that
+// record is counted as taken.
+#[inline(always)]
+pub(crate) fn goes_on<L: Lists>(lists: &L, walk: &mut Walk) -> bool
+    ensures { IsGoingOn L.stands lists.now walk.old walk.new result }
+{
+    if !can_go_on(lists, walk) {
+        return false;
+    }
+    note_taken(&mut walk.kept);
+    walk.place = Place::Looking;
     true
 }
 
