@@ -78,6 +78,15 @@ impl Stage for DeviceStage {
         }
     }
 
+    // The others take no record, or pass it on.
+    #[inline(always)]
+    fn goes_on(&mut self) -> bool {
+        match self {
+            DeviceStage::Sink(stage) => stage.goes_on(),
+            _ => false,
+        }
+    }
+
     // A sink keeps what it takes, so it has to be told. The others take no record.
     #[inline(always)]
     fn passes(&mut self) -> bool {

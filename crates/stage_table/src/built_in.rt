@@ -71,6 +71,14 @@ impl Stage for BuiltIn {
     }
 
     #[inline(always)]
+    fn goes_on(&mut self) -> bool {
+        match self {
+            BuiltIn::Device(stage) => (**stage).goes_on(),
+            _ => false,
+        }
+    }
+
+    #[inline(always)]
     fn passes(&mut self) -> bool {
         match self {
             BuiltIn::Device(stage) => (**stage).passes(),
