@@ -19,6 +19,7 @@ pub mod Makes
 pub mod Members
 pub mod Offers
 pub mod Pacing
+pub mod Passes
 pub mod Pooled
 pub mod Queues
 pub mod Reserves

@@ -8,6 +8,7 @@ mod desk;
 mod doors;
 mod laws;
 mod looks;
+mod passing;
 mod records;
 mod seat;
 mod sights;

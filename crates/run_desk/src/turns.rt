@@ -26,7 +26,7 @@ impl Desk {
 
     // The same, but for the seat.
     #[inline(always)]
-    fn move_on(&mut self, pool: &mut Pool, strand: u32, seen: Seen)
+    pub(crate) fn move_on(&mut self, pool: &mut Pool, strand: u32, seen: Seen)
         requires strand { strand < length self.old.seats }
         requires can { CanTurn self.old pool.old strand seen }
         ensures desk { self.new ≡ rest_after_turn self.old strand seen }
