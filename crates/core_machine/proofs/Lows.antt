@@ -36,7 +36,7 @@ IsLow d s = (t j : ℕ) → t < s → Telling.seen_at d t j ≡ None
 -- Seats and doors
 
 -- who was told nothing of its end has ended no more than before
-ended_seat : (seen : Seen) (x : Option Seat) → ends seen ≡ false → Telling.ended_of x ≡ false → Telling.ended_of (option_map (seat_after seen) x) ≡ false
+pub ended_seat : (seen : Seen) (x : Option Seat) → ends seen ≡ false → Telling.ended_of x ≡ false → Telling.ended_of (option_map (seat_after seen) x) ≡ false
 ended_seat seen None no_end live = refl
 ended_seat seen (Some seat) no_end live = ap (λ b. b || ends seen) live ∙ no_end
 
@@ -62,7 +62,7 @@ behind_door links None link l = cc
 behind_door links (Some j) link l = (j, l)
 
 -- a record that is seen, or put and not into a queue, concerns nobody else
-ends_still : (net : Net) (d : DeskState) (s : ℕ) (seen : Seen) (set : Members) → HasSeenOrPut net d s seen → AreEndsIn d net.links s seen set
+pub ends_still : (net : Net) (d : DeskState) (s : ℕ) (seen : Seen) (set : Members) → HasSeenOrPut net d s seen → AreEndsIn d net.links s seen set
 ends_still net d s (Saw i) set plain = tt
 ends_still net d s (Put o) set plain = λ link l queue. let z : true ≡ false = sym queue ∙ plain link l in cc
 ends_still net d s (Took i) set plain = absurd plain

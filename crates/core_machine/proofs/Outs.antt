@@ -44,7 +44,7 @@ settled_reads wire plain writes = (λ p. hidden (wire.puts + 1 == wire.tooks) (a
     no_over p = let z : false ≡ true = sym (ap (λ b. b && wire.puts + 1 == wire.tooks) writes) ∙ p in cc
 
 -- a wire is no queue where its link is none
-no_waiting : (q : Option (List ℕ)) (b : Bool) → is_some q ≡ b → b ≡ false → q ≡ None
+pub no_waiting : (q : Option (List ℕ)) (b : Bool) → is_some q ≡ b → b ≡ false → q ≡ None
 no_waiting None b same plain = refl
 no_waiting (Some waiting) b same plain = cc
 

@@ -1,10 +1,11 @@
 -- What the answers of a core tell.
-use Rattle.std.specs.Prelude.{◌≡◌, ◌⊎◌, ℕ, ◌<◌, ◌≤◌, Bool, true, false, List, [], ◌∷◌, ◌++◌, length, Option, Some, None, is_some, ℤ, if◌then◌else◌}
+use Rattle.std.specs.Prelude.{◌≡◌, ◌⊎◌, ℕ, ◌+◌, ◌<◌, ◌≤◌, Bool, true, false, List, [], ◌∷◌, ◌++◌, length, Option, Some, None, is_some, ℤ, if◌then◌else◌}
 use Rattle.pipe_model.specs.declared.net.Strand.{Strand}
 use Rattle.pipe_model.specs.declared.step.Entry.{Entry}
 use Rattle.pipe_model.specs.declared.step.Out.TheVariants.{Fresh}
 use Rattle.pipe_model.specs.declared.step.Seen.{Seen}
 use Rattle.pipe_model.specs.declared.step.Seen.TheVariants.{Took, Put}
+use Rattle.pipe_model.specs.declared.step.Seen.TheVariants.{Saw as Sees}
 use Rattle.pipe_model.specs.declared.step.Want.{Want as Asked}
 use Rattle.pipe_model.specs.declared.step.Want.TheVariants as Ask
 use Rattle.pipe_model.specs.Event.{Event, Want, has_ended, code_of}
@@ -97,29 +98,37 @@ pub record HasBroken (m n : Machine) : Type 0 where
   pub more : length m.journal < length n.journal
   pub out : n.out ≡ m.out ++ length n.journal ∷ []
 
--- a record was taken or put: there is nothing to look at
-abbrev pub is_quiet : Seen → Bool
-is_quiet (Took i) = true
-is_quiet (Put o) = true
-is_quiet _ = false
+-- a record was taken or put, or, with sights, seen
+abbrev pub is_of_record : Bool → Seen → Bool
+is_of_record sights (Took i) = true
+is_of_record sights (Put o) = true
+is_of_record sights (Sees i) = sights
+is_of_record sights _ = false
 
--- each entry that was added was that of the least event that might be, by which a record was taken or put
-abbrev pub AreQuiet : Machine → List Entry → Type 0
-AreQuiet m [] = Unit {0}
-AreQuiet m (e ∷ es) =
-    ((seen : Seen) × LeastEvent m (Some (e.strand, e.stream, seen)) × (is_quiet seen ≡ true)) × AreQuiet (record m { journal = m.journal ++ e ∷ [] }) es
+-- each entry that was added was that of the least event that might be, by which a record was taken or put, or, with sights, seen
+abbrev pub AreOnRecords : Bool → Machine → List Entry → Type 0
+AreOnRecords sights m [] = Unit {0}
+AreOnRecords sights m (e ∷ es) =
+    ((seen : Seen) × LeastEvent m (Some (e.strand, e.stream, seen)) × (is_of_record sights seen ≡ true)) × AreOnRecords sights (record m { journal = m.journal ++ e ∷ [] }) es
 
 -- the core went on so, by so many steps
-pub record HasRunQuietly (m : Machine) (made : ℕ) (n : Machine) : Type 0 where
+pub record HasRunOnRecords (sights : Bool) (m : Machine) (made : ℕ) (n : Machine) : Type 0 where
   pub more : List Entry
-  pub quiet : AreQuiet m more
+  pub steps : AreOnRecords sights m more
   pub after : n ≡ record m { journal = m.journal ++ more }
   pub made_is : made ≡ length more
 
--- why it goes on no further: all steps that it might make are made, or the budget is used up, or no strand may have an event, or the least is of another kind
-abbrev pub IsQuietEnd : ℕ → ℕ → Machine → Type 0
-IsQuietEnd most made m =
-    (made ≡ most) ⊎ ((length m.journal ≡ m.budget) ⊎ (LeastEvent m None ⊎ ((r : ℕ × ℕ × Seen) × LeastEvent m (Some r) × (is_quiet r.2 ≡ false))))
+-- why it goes on no further: all steps that it might make are made, or the budget is used up, or no strand may have an event, or by the least no record is taken or put
+abbrev pub IsEndOnRecords : ℕ → ℕ → Machine → Type 0
+IsEndOnRecords most made m =
+    (made ≡ most) ⊎ ((length m.journal ≡ m.budget) ⊎ (LeastEvent m None ⊎ ((r : ℕ × ℕ × Seen) × LeastEvent m (Some r) × (is_of_record false r.2 ≡ false))))
+
+-- the event of the entry was made, and maybe a second of the strand, by which it took a record, where the journal has fewer entries than the limit then
+abbrev pub HasMade : Machine → Entry → ℕ → Machine → Type 0
+HasMade m e limit n =
+    (n ≡ record m { journal = m.journal ++ e ∷ [] })
+    ⊎ ((i : ℕ) × LeastEvent (record m { journal = m.journal ++ e ∷ [] }) (Some (e.strand, i, Took i)) × (length m.journal + 1 < limit)
+    × (n ≡ record m { journal = (m.journal ++ e ∷ []) ++ (record { strand = e.strand; stream = i }) ∷ [] }))
 
 -- how a run ended
 abbrev pub Ends : RunEnd → Machine → Type 0

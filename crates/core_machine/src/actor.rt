@@ -1,5 +1,7 @@
-ghost use Rattle.std.specs.Prelude.{◌≡◌, Bool, true, ◌<◌, ◌||◌, ◌∷◌, ◌++◌, [], Some, None, length, slice_get, slice_set, vec_capacity, IfOk};
+ghost use Rattle.std.specs.Prelude.{◌≡◌, Bool, true, false, ◌<◌, ◌||◌, ◌∷◌, ◌++◌, [], Some, None, length, slice_get, slice_set, vec_capacity, IfOk};
+ghost use Rattle.pipe_model.specs.declared.step.Seen.TheVariants as Told;
 ghost use Rattle.pipe_model.specs.declared.step.Want.{Want as Asked};
+ghost use Rattle.pipe_model.specs.declared.step.Want.TheVariants as Asks;
 ghost use Rattle.stage_steps.specs.Coroutine.{CanResume, Resumes};
 ghost use Rattle.stage_steps.specs.PassesOn.{PassesOn};
 ghost use Rattle.core_machine.specs.Actors.{is_end, gone_out, come_back, gone_on, given_up, asking_for, looks_in, DoesPass};
@@ -79,9 +81,32 @@ pub(crate) fn advance<S: Stage>(
     Ok(())
 }
 
-// The strand's coroutine is told this, and goes on.
+/// Whether all that the strand does, once it took the record of input 0 that it asked to take, is to look at the next one
+/// there. Then it asks for that, and its coroutine is told, or needn't be.
 #[inline(always)]
-fn resume<S: Stage>(
+pub(crate) fn take_on<S: Stage>(actor: &mut Actor<S>) -> bool
+    requires can { (x : S) × (actor.old.stage ≡ Some x) × CanResume S.stands x (Told.Took 0) [] }
+    requires passes { DoesPass S.stands actor.old }
+    ensures goes { result ≡ true → (x : S) × (y : S) × (actor.old.stage ≡ Some x) × (actor.new ≡ gone_on (Told.Took 0) y (Asks.Read 0) actor.old.passes actor.old) × Resumes S.stands x y (Told.Took 0) [] (Asks.Read 0) × (actor.old.passes ≡ true → PassesOn S.stands y) }
+    ensures stays { result ≡ false → actor.new ≡ actor.old }
+{
+    if actor.passes {
+        ask(actor, Want::Read(0));
+        return true;
+    }
+    let Some(stage) = &mut actor.stage else {
+        unreachable!()
+    };
+    if !stage.goes_on() {
+        return false;
+    }
+    ask(actor, Want::Read(0));
+    true
+}
+
+/// The strand's coroutine is told this, and goes on.
+#[inline(always)]
+pub(crate) fn resume<S: Stage>(
     actor: &mut Actor<S>,
     alloc: Global,
     seen: Seen,
@@ -100,9 +125,9 @@ fn resume<S: Stage>(
     Ok(())
 }
 
-// It asks for this.
+/// It asks for this.
 #[inline(always)]
-fn ask<S: Stage>(actor: &mut Actor<S>, asked: Want)
+pub(crate) fn ask<S: Stage>(actor: &mut Actor<S>, asked: Want)
     ensures { actor.new ≡ asking_for asked actor.old }
 {
     let last = mem::replace(&mut actor.asked, asked);

@@ -30,10 +30,10 @@ pub enum Ahead {
 /// A net, and what is kept of a run of it besides coroutines and journal. Every strand that may go on is in the set of
 /// those that may be ready.
 pub(crate) struct Floor {
-    net: Net,
-    desk: Desk,
-    pool: Pool,
-    ready: Ready,
+    pub(crate) net: Net,
+    pub(crate) desk: Desk,
+    pub(crate) pool: Pool,
+    pub(crate) ready: Ready,
 }
 
 impl Model for Floor {
@@ -94,6 +94,7 @@ impl Floor {
         ensures net { self.new.net ≡ self.old.net }
         ensures desk { self.new.desk ≡ desk_after_turn self.old.desk strand seen }
         ensures pool { self.new.pool ≡ pool_after_turn self.old.desk self.old.pool strand seen }
+        ensures formed { IsWellFormed self.new.net }
         ensures awake { (k : ℕ) → is_some (Telling.seen_at self.old.desk strand k) ≡ true → is_member self.new.ready strand ≡ true }
     {
         if may_settle(&self.desk, strand, seen) {
@@ -256,7 +257,7 @@ impl Floor {
 
     // Whether a strand's output is connected to a queue.
     #[inline(always)]
-    fn writes_queue(&self, strand: u32, o: u16) -> bool
+    pub(crate) fn writes_queue(&self, strand: u32, o: u16) -> bool
         requires used { IsInUse self.now.net self.now.desk }
         requires strand { strand < length self.now.net.strands }
         ensures { result ≡ false → (link : LinkIs) → link_through self.now.net.links (Telling.out_door self.now.desk strand o) ≡ Some link → link.queue ≡ false }

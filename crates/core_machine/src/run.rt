@@ -1,24 +1,25 @@
-ghost use Rattle.std.specs.Prelude.{◌≡◌};
-ghost use Rattle.core_machine.specs.Answered.{is_quiet};
+ghost use Rattle.std.specs.Prelude.{◌≡◌, false};
+ghost use Rattle.core_machine.specs.Answered.{is_of_record};
 
-use crate::actor::{advance, give_up};
+use crate::actor::{advance, ask, give_up, resume, take_on};
 use crate::core_state::Core;
 use crate::floor::Ahead;
 use crate::job::RunEnd;
 use crate::settling::ends;
 use outside::{Gate, OpenGate};
-use pipe_model::{Entry, NoMemory, Seen};
+use pipe_model::{Entry, NoMemory, Seen, Want};
 use stage_steps::Stage;
 use std::alloc::Global;
 
 impl<S: Stage> Core<S> {
-    ghost use Rattle.std.specs.Prelude.{◌≡◌, ◌<◌, ◌≤◌, [], Some, false, ◌++◌, ◌∷◌, length, IfOk, OnOk, OnErr};
+    ghost use Rattle.std.specs.Prelude.{◌≡◌, ◌<◌, ◌≤◌, ◌+◌, [], Some, false, true, ◌++◌, ◌∷◌, length, IfOk, OnOk, OnErr};
     ghost use Rattle.pipe_model.specs.Event.{Event};
+    ghost use Rattle.pipe_model.specs.declared.step.Seen.TheVariants as Told;
     ghost use Rattle.stage_steps.specs.Coroutine.{told};
     ghost use Rattle.core_machine.specs.Ahead.{IsAhead, event_ahead};
     ghost use Rattle.core_machine.specs.declared.floor.Ahead.TheVariants as AheadIs;
     ghost use Rattle.core_machine.specs.Machine.{licence_of, IsLawful};
-    ghost use Rattle.core_machine.specs.Answered.{LeastEvent, HasRun, HasRunQuietly, HasBroken, Ends, IsQuietEnd};
+    ghost use Rattle.core_machine.specs.Answered.{LeastEvent, HasRun, HasRunOnRecords, HasBroken, HasMade, Ends, IsEndOnRecords};
 
     /// Makes the least event that may be, of the least strand on its least stream, until there is none or the journal
     /// has as many entries as the budget allows. The gate is entered before the work on each record that a strand saw.
@@ -31,12 +32,13 @@ impl<S: Stage> Core<S> {
         ensures lawful { IsLawful self.new }
     {
         let mut ahead = Ahead::Search;
-        while (self.journal.len() as u64) < self.budget {
+        let limit = self.budget;
+        while (self.journal.len() as u64) < limit {
             ahead = match self.next(ahead) {
                 Ahead::Search => return Ok(RunEnd::Complete),
-                Ahead::Saw(strand, i) => self.go_on(alloc, gate, strand, i, Seen::Saw(i))?,
+                Ahead::Saw(strand, i) => self.see(alloc, gate, strand, i, limit)?,
                 Ahead::Took(strand, i) => self.go_on(alloc, gate, strand, i, Seen::Took(i))?,
-                Ahead::Put(strand, o) => self.go_on(alloc, gate, strand, o, Seen::Put(o))?,
+                Ahead::Put(strand, o) => self.put(alloc, gate, strand, o, limit)?,
                 Ahead::Other(strand, stream, seen) => {
                     self.go_on_otherwise(alloc, gate, strand, stream, seen)?
                 }
@@ -48,25 +50,36 @@ impl<S: Stage> Core<S> {
         }
     }
 
-    /// Makes the least event that may be, again and again, at most so many, as long as by it a record is taken or put. No
-    /// gate is entered for these, and no record is looked at. Other strands' jobs may be out meanwhile. The answer is how
-    /// many were made. After want of memory the core is broken, and the strand of the last entry is out.
-    pub fn run_quietly(&mut self, alloc: Global, most: u64) -> Result<u64, NoMemory>
+    /// Makes the least event that may be, again and again, at most so many, as long as by it a record is taken or put, or,
+    /// with `sights`, seen, but for sights that may take more than some five microseconds. No gate is entered for these.
+    /// Other strands' jobs may be out meanwhile. The answer is how many were made. After want of memory the core is broken,
+    /// and the strand of the last entry is out.
+    pub fn run_on_records(
+        &mut self,
+        alloc: Global,
+        sights: bool,
+        most: u64,
+    ) -> Result<u64, NoMemory>
         requires whole { self.old.is_broken ≡ false }
-        ensures quiet { IfOk result (λ made. HasRunQuietly self.old made self.new × (made ≤ most)) }
-        ensures ends { IfOk result (λ made. IsQuietEnd most made self.new) }
+        ensures runs { IfOk result (λ made. HasRunOnRecords sights self.old made self.new × (made ≤ most)) }
+        ensures ends { IfOk result (λ made. IsEndOnRecords most made self.new) }
         ensures lacks { OnErr result (HasBroken self.old self.new) }
         ensures lawful { IsLawful self.new }
     {
         let start = self.len();
-        let end = self.budget.min(start.saturating_add(most));
+        let limit = self.budget.min(start.saturating_add(most));
         let mut ahead = Ahead::Search;
-        while self.len() < end {
+        while self.len() < limit {
             ahead = match self.next(ahead) {
                 Ahead::Search => return Ok(self.len() - start),
-                Ahead::Saw(_, _) => return Ok(self.len() - start),
+                Ahead::Saw(strand, i) => {
+                    if !sights || self.takes_long(strand, i) {
+                        return Ok(self.len() - start);
+                    }
+                    self.see(alloc, &OpenGate, strand, i, limit)?
+                }
                 Ahead::Took(strand, i) => self.go_on(alloc, &OpenGate, strand, i, Seen::Took(i))?,
-                Ahead::Put(strand, o) => self.go_on(alloc, &OpenGate, strand, o, Seen::Put(o))?,
+                Ahead::Put(strand, o) => self.put(alloc, &OpenGate, strand, o, limit)?,
                 Ahead::Other(strand, stream, seen) => {
                     if !is_quiet(seen) {
                         return Ok(self.len() - start);
@@ -132,6 +145,96 @@ impl<S: Stage> Core<S> {
         self.go_on(alloc, gate, strand, stream, seen)
     }
 
+    // Whether the strand's work on the record at hand may take more than some five microseconds.
+    fn takes_long(&self, strand: u32, i: u16) -> bool
+        requires { LeastEvent self.now (Some (strand, i, Told.Saw i)) }
+    {
+        self.floor.takes_long(strand, i)
+    }
+
+    // The strand sees the record at hand on an input, which is the least event that may be, and its coroutine goes on, in
+    // place. Where all that it does is to take the record, it takes it at once. It answers what is known of the next event.
+    #[inline(always)]
+    fn see<G: Gate>(
+        &mut self,
+        alloc: Global,
+        gate: &G,
+        strand: u32,
+        i: u16,
+        limit: u64,
+    ) -> Result<Ahead, NoMemory>
+        requires least { LeastEvent self.old (Some (strand, i, Told.Saw i)) }
+        requires space { length self.old.journal < limit }
+        requires limit { limit ≤ self.old.budget }
+        requires whole { self.old.is_broken ≡ false }
+        ensures goes { OnOk result (HasMade self.old (record { strand = strand; stream = i }) limit self.new) }
+        ensures ahead { IfOk result (IsAhead self.new) }
+        ensures lacks { OnErr result (HasBroken self.old self.new) }
+        ensures lawful { IsLawful self.new }
+    {
+        let seen = Seen::Saw(i);
+        if self.floor.may_settle(strand, seen) {
+            return self.go_on_otherwise(alloc, gate, strand, i, seen);
+        }
+        gate.enter(strand);
+        self.journal.push_reserved(Entry { strand, stream: i });
+        let actor = &mut self.actors[strand as usize];
+        let bytes = self.floor.bytes_ahead(actor.looks, strand, i);
+        let Ok(()) = resume(actor, alloc, seen, bytes) else {
+            self.floor.make(strand, seen);
+            give_up(actor, &mut self.out, self.journal.len() as u64);
+            self.is_broken = true;
+            return Err(NoMemory);
+        };
+        if i == 0
+            && matches!(actor.asked, Want::Take(0))
+            && (self.journal.len() as u64) < limit
+            && take_on(actor)
+        {
+            self.journal.push_reserved(Entry { strand, stream: 0 });
+            return Ok(self.floor.take_after(strand, seen, 0));
+        }
+        let Ok(ahead) = self.floor.see(strand, i, &mut actor.asked) else {
+            give_up(actor, &mut self.out, self.journal.len() as u64);
+            self.is_broken = true;
+            return Err(NoMemory);
+        };
+        Ok(ahead)
+    }
+
+    // The strand puts a record on an output, which is the least event that may be, and its coroutine goes on, in place. Where
+    // it passes its record on, and not into a queue, it takes that at once. It answers what is known of the next event.
+    #[inline(always)]
+    fn put<G: Gate>(
+        &mut self,
+        alloc: Global,
+        gate: &G,
+        strand: u32,
+        o: u16,
+        limit: u64,
+    ) -> Result<Ahead, NoMemory>
+        requires least { LeastEvent self.old (Some (strand, o, Told.Put o)) }
+        requires space { length self.old.journal < limit }
+        requires limit { limit ≤ self.old.budget }
+        requires whole { self.old.is_broken ≡ false }
+        ensures goes { OnOk result (HasMade self.old (record { strand = strand; stream = o }) limit self.new) }
+        ensures ahead { IfOk result (IsAhead self.new) }
+        ensures lacks { OnErr result (HasBroken self.old self.new) }
+        ensures lawful { IsLawful self.new }
+    {
+        let actor = &mut self.actors[strand as usize];
+        if !actor.passes
+            || self.journal.len() as u64 + 1 >= limit
+            || self.floor.writes_queue(strand, o)
+        {
+            return self.go_on(alloc, gate, strand, o, Seen::Put(o));
+        }
+        self.journal.push_reserved(Entry { strand, stream: o });
+        self.journal.push_reserved(Entry { strand, stream: 0 });
+        ask(actor, Want::Read(0));
+        Ok(self.floor.take_after(strand, Seen::Put(o), 0))
+    }
+
     // Makes the least event that may be, and goes on with the strand's coroutine, in place. It answers what is known of the next event.
     #[inline(always)]
     fn go_on<G: Gate>(
@@ -188,7 +291,7 @@ impl<S: Stage> Core<S> {
 
 // Whether what is told is that a record was taken or put.
 fn is_quiet(seen: Seen) -> bool
-    ensures { result ≡ is_quiet seen }
+    ensures { result ≡ is_of_record false seen }
 {
     matches!(seen, Seen::Took(_) | Seen::Put(_))
 }

@@ -130,7 +130,8 @@ fn a_turn_is_made_where_it_may_be(rt: HostRuntime) -> Result<(), Fail> {
     Ok(())
 }
 
-// After the last CONSOLE saw a record, it and the others take it and have put it, until the next one is seen.
+// After the last CONSOLE saw a record, it and the others take it and have put it, until the next one is seen. With sights
+// they go on until the records end, by as many events as are asked for.
 #[test]
 fn records_are_taken_and_put_in_a_row(rt: HostRuntime) -> Result<(), Fail> {
     let alloc = rt.alloc();
@@ -143,9 +144,12 @@ fn records_are_taken_and_put_in_a_row(rt: HostRuntime) -> Result<(), Fail> {
     if core.is_broken() {
         panic!(rt; "the core is broken")
     }
-    assert_eq!(rt; core.run_quietly(alloc, 3)?, 3);
-    assert_eq!(rt; core.run_quietly(alloc, 16)?, 1);
+    assert_eq!(rt; core.run_on_records(alloc, false, 3)?, 3);
+    assert_eq!(rt; core.run_on_records(alloc, false, 16)?, 1);
     assert_eq!(rt; core.len(), 12);
+    assert_eq!(rt; core.run_on_records(alloc, true, 5)?, 5);
+    assert_eq!(rt; core.run_on_records(alloc, true, 16)?, 7);
+    assert_eq!(rt; core.len(), 24);
     Ok(())
 }
 
@@ -165,7 +169,7 @@ fn records_are_taken_and_put_beside_a_job(rt: HostRuntime) -> Result<(), Fail> {
     if core.is_broken() {
         panic!(rt; "the core is broken")
     }
-    assert_eq!(rt; core.run_quietly(alloc, 16)?, 3);
+    assert_eq!(rt; core.run_on_records(alloc, false, 16)?, 3);
     assert_eq!(rt; (core.out_count(), core.len()), (1, 12));
     Ok(())
 }

@@ -3,8 +3,8 @@ use Rattle.core_machine.specs.Ahead.{IsAhead}
 use Rattle.core_machine.specs.Answered.{HasRun}
 use Rattle.core_machine.proofs.core_state.Core.run_one_thread.Given as goal
 
-abbrev pub invariant-loop-self : goal.invariant-loop-self
-invariant-loop-self g l = HasRun l.initial.self l.self × (l.self.out ≡ []) × (l.self.is_broken ≡ false) × IsAhead l.self l.ahead
+abbrev pub invariant-loop-alloc : goal.invariant-loop-alloc
+invariant-loop-alloc g l = HasRun l.initial.self l.self × (l.self.out ≡ []) × (l.self.is_broken ≡ false) × IsAhead l.self l.ahead × (l.limit ≡ l.self.budget)
 
-abbrev pub decreases-loop-self : goal.decreases-loop-self
-decreases-loop-self g l = l.self.budget - length l.self.journal
+abbrev pub decreases-loop-alloc : goal.decreases-loop-alloc
+decreases-loop-alloc g l = l.limit - length l.self.journal

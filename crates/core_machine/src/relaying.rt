@@ -1,0 +1,175 @@
+//! Strands that pass records on: what their steps do to the floor, where two changes of it are made in one.
+ghost use Rattle.std.specs.Prelude.{◌≡◌, IfSome};
+ghost use Rattle.pipe_model.specs.declared.step.Out.TheVariants as Outs;
+ghost use Rattle.pipe_model.specs.declared.step.Want.TheVariants as Asks;
+
+use crate::floor::{Ahead, Floor};
+use pipe_model::{Kind, NoMemory, Out, Seen, Want};
+
+// The sight of a record of more bytes is work of its own, which others needn't wait for.
+const SHORT_RECORD: usize = 1_024;
+
+// So is that of a SPECS of more items.
+const FEW_ITEMS: usize = 32;
+
+impl Floor {
+    ghost use Rattle.std.specs.Prelude.{◌≡◌, ◌<◌, ℕ, true, false, length, Some, None, slice_get, IfOk, OnErr, IfSome};
+    ghost use Rattle.pipe_model.specs.declared.step.Seen.TheVariants as Told;
+    ghost use Rattle.pipe_model.specs.declared.step.Out.TheVariants as Outs;
+    ghost use Rattle.pipe_model.specs.declared.step.Want.TheVariants as Asks;
+    ghost use Rattle.pipe_model.specs.declared.net.Link.{Link as LinkIs};
+    ghost use Rattle.connectors.specs.WireState.{IsHeldIn};
+    ghost use Rattle.run_desk.specs.Turns.{CanTurn, CanCome, HasCome, bare, hand_on, desk_after_turn, pool_after_turn};
+    ghost use Rattle.run_desk.specs.Passing.{desk_taking, desk_passed, pool_passed};
+    ghost use Rattle.run_desk.specs.Desk.{DeskState};
+    ghost use Rattle.run_desk.specs.Telling as Telling;
+    ghost use Rattle.record_pool.specs.PoolState.{PoolState};
+    ghost use Rattle.core_machine.specs.Actors.{bytes_told};
+    ghost use Rattle.core_machine.specs.Floor.{IsInUse, CanMake, StaysEarly};
+    ghost use Rattle.core_machine.specs.Woken.{HasReturned, LeastEventAwake, may_settle};
+    ghost use Rattle.core_machine.specs.Ahead.{HasSeenOrPut, IsAheadOn};
+
+    /// The bytes of the record at hand on an input, where the strand that sees it next looks.
+    #[inline(always)]
+    pub(crate) fn bytes_ahead(&self, looks: bool, strand: u32, i: u16) -> &[u8]
+        requires strand { strand < length self.now.desk.seats }
+        requires can { CanTurn self.now.desk self.now.pool strand (Told.Saw i) }
+        requires shows { Telling.shows (Telling.wire_in self.now.desk strand i) ≡ true }
+        requires held { IsHeldIn (pool_after_turn self.now.desk self.now.pool strand (Told.Saw i)) (Telling.sight_through (desk_after_turn self.now.desk strand (Told.Saw i)).sights (Telling.sight_door (desk_after_turn self.now.desk strand (Told.Saw i)) strand i)) }
+        ensures { result.now ≡ bytes_told looks (desk_after_turn self.now.desk strand (Told.Saw i)) (pool_after_turn self.now.desk self.now.pool strand (Told.Saw i)) strand (Told.Saw i) }
+    {
+        if looks {
+            self.desk.bytes_at_hand(&self.pool, strand, i)
+        } else {
+            &[]
+        }
+    }
+
+    /// Whether what a strand does with the record at hand on an input may take more than some five microseconds. Nothing is
+    /// proved of the answer.
+    pub(crate) fn takes_long(&self, strand: u32, i: u16) -> bool
+        requires strand { strand < length self.now.net.strands }
+        requires held { IsHeldIn self.now.pool (hand_on (Telling.wire_in self.now.desk strand i)) }
+    {
+        let has_many = match &self.net.strands.as_slice()[strand as usize].kind {
+            Kind::Specs { items, .. } => items.as_slice().len() > FEW_ITEMS,
+            _ => false,
+        };
+        has_many || self.desk.size_at_hand(&self.pool, strand, i) > SHORT_RECORD
+    }
+
+    /// A strand sees the record at hand on an input, and comes home with what it wants next, out of which a new record is
+    /// moved. Those whom that may concern are woken. The answer is what is known of the next event. Out of memory leaves the
+    /// desk and the pool as they are after the sight.
+    #[inline(always)]
+    pub(crate) fn see(&mut self, strand: u32, i: u16, want: &mut Want) -> Result<Ahead, NoMemory>
+        requires can { CanMake self.old.net self.old.desk self.old.pool strand (Told.Saw i) }
+        requires least { (stream : ℕ) × LeastEventAwake self.old.desk (Some (strand, stream, Told.Saw i)) }
+        requires quiet { may_settle self.old.desk strand (Told.Saw i) ≡ false }
+        requires used { IsInUse self.old.net (desk_after_turn self.old.desk strand (Told.Saw i)) }
+        requires live { Telling.ended_at (desk_after_turn self.old.desk strand (Told.Saw i)) strand ≡ false }
+        requires home { CanCome (desk_after_turn self.old.desk strand (Told.Saw i)) (pool_after_turn self.old.desk self.old.pool strand (Told.Saw i)) strand want.old }
+        requires early { StaysEarly (desk_after_turn self.old.desk strand (Told.Saw i)) (pool_after_turn self.old.desk self.old.pool strand (Told.Saw i)) strand want.old }
+        requires used_home { (desk : DeskState) (pool : PoolState) → HasCome (desk_after_turn self.old.desk strand (Told.Saw i)) (pool_after_turn self.old.desk self.old.pool strand (Told.Saw i)) strand want.old desk pool → IsInUse self.old.net desk }
+        ensures net { self.new.net ≡ self.old.net }
+        ensures home { IfOk result (λ ahead. HasReturned (desk_after_turn self.old.desk strand (Told.Saw i)) (pool_after_turn self.old.desk self.old.pool strand (Told.Saw i)) strand want.old self.new.desk self.new.pool) }
+        ensures bare { want.new ≡ bare want.old }
+        ensures ahead { IfOk result (IsAheadOn self.new.desk) }
+        ensures err { OnErr result (self.new.desk ≡ desk_after_turn self.old.desk strand (Told.Saw i)) }
+        ensures err_pool { OnErr result (self.new.pool ≡ pool_after_turn self.old.desk self.old.pool strand (Told.Saw i)) }
+    {
+        if let Some(o) = passed_to(want, i) {
+            if let Some(link) = self.rendezvous_at(strand, o) {
+                return Ok(self.pass_on(strand, i, o, link));
+            }
+        }
+        self.make(strand, Seen::Saw(i));
+        self.come_home(strand, false, want)?;
+        Ok(self.ahead(strand, Seen::Saw(i), want))
+    }
+
+    // The number of the link at a strand's output, where that is a rendezvous.
+    #[inline(always)]
+    fn rendezvous_at(&self, strand: u32, o: u16) -> Option<u32>
+        requires used { IsInUse self.now.net self.now.desk }
+        requires strand { strand < length self.now.net.strands }
+        ensures { IfSome result (λ j. (Telling.out_door self.now.desk strand o ≡ Some j) × ((link : LinkIs) × (slice_get self.now.net.links j ≡ Some link) × (link.queue ≡ false))) }
+    {
+        let j = self.desk.out_door(strand, o)?;
+        if self.net.links.as_slice()[j as usize].queue {
+            None
+        } else {
+            Some(j)
+        }
+    }
+
+    // A strand sees the record at hand on an input, and comes home to write it on an output, which leads to this rendezvous.
+    #[inline(always)]
+    fn pass_on(&mut self, strand: u32, i: u16, o: u16, link: u32) -> Ahead
+        requires can { CanMake self.old.net self.old.desk self.old.pool strand (Told.Saw i) }
+        requires least { (stream : ℕ) × LeastEventAwake self.old.desk (Some (strand, stream, Told.Saw i)) }
+        requires quiet { may_settle self.old.desk strand (Told.Saw i) ≡ false }
+        requires used { IsInUse self.old.net (desk_after_turn self.old.desk strand (Told.Saw i)) }
+        requires live { Telling.ended_at (desk_after_turn self.old.desk strand (Told.Saw i)) strand ≡ false }
+        requires home { CanCome (desk_after_turn self.old.desk strand (Told.Saw i)) (pool_after_turn self.old.desk self.old.pool strand (Told.Saw i)) strand (Asks.Write o (Outs.Same i)) }
+        requires early { StaysEarly (desk_after_turn self.old.desk strand (Told.Saw i)) (pool_after_turn self.old.desk self.old.pool strand (Told.Saw i)) strand (Asks.Write o (Outs.Same i)) }
+        requires door { Telling.out_door self.old.desk strand o ≡ Some link }
+        requires rendezvous { (l : LinkIs) × (slice_get self.old.net.links link ≡ Some l) × (l.queue ≡ false) }
+        ensures net { self.new.net ≡ self.old.net }
+        ensures home { HasReturned (desk_after_turn self.old.desk strand (Told.Saw i)) (pool_after_turn self.old.desk self.old.pool strand (Told.Saw i)) strand (Asks.Write o (Outs.Same i)) self.new.desk self.new.pool }
+        ensures ahead { IsAheadOn self.new.desk result }
+    {
+        let its = self.net.links.as_slice()[link as usize];
+        self.ready.insert(its.to);
+        self.desk.pass_on(&mut self.pool, strand, i, o, link);
+        let door = Some(link);
+        let is_near = its.to < strand || its.to == strand + 1 && !self.desk.may_write(door);
+        if is_near && self.desk.shows(door) && self.desk.reads(its.to, its.input) {
+            Ahead::Saw(its.to, its.input)
+        } else {
+            Ahead::Search
+        }
+    }
+
+    /// A strand is told this, takes the record that it saw on an input, and comes home to look at the next one there. Those
+    /// whom that may concern are woken. The answer is what is known of the next event.
+    #[inline(always)]
+    pub(crate) fn take_after(&mut self, strand: u32, seen: Seen, i: u16) -> Ahead
+        requires can { CanMake self.old.net self.old.desk self.old.pool strand seen }
+        requires quiet { may_settle self.old.desk strand seen ≡ false }
+        requires awake { (stream : ℕ) × LeastEventAwake self.old.desk (Some (strand, stream, seen)) }
+        requires told { HasSeenOrPut self.old.net self.old.desk strand seen }
+        requires used { IsInUse self.old.net (desk_after_turn self.old.desk strand seen) }
+        requires early { StaysEarly (desk_after_turn self.old.desk strand seen) (pool_after_turn self.old.desk self.old.pool strand seen) strand (Asks.Take i) }
+        requires takes { CanMake self.old.net (desk_taking self.old.desk strand seen i) (pool_after_turn self.old.desk self.old.pool strand seen) strand (Told.Took i) }
+        requires least { (stream : ℕ) × LeastEventAwake (desk_taking self.old.desk strand seen i) (Some (strand, stream, Told.Took i)) }
+        requires used_last { IsInUse self.old.net (desk_after_turn (desk_taking self.old.desk strand seen i) strand (Told.Took i)) }
+        requires early_last { StaysEarly (desk_after_turn (desk_taking self.old.desk strand seen i) strand (Told.Took i)) (pool_passed self.old.desk self.old.pool strand seen i) strand (Asks.Read i) }
+        ensures net { self.new.net ≡ self.old.net }
+        ensures desk { self.new.desk ≡ desk_passed self.old.desk strand seen i }
+        ensures pool { self.new.pool ≡ pool_passed self.old.desk self.old.pool strand seen i }
+        ensures ahead { IsAheadOn self.new.desk result }
+    {
+        self.desk.take_after(&mut self.pool, strand, seen, i);
+        let Some(j) = self.desk.in_door(strand, i) else {
+            return Ahead::Search;
+        };
+        let link = self.net.links.as_slice()[j as usize];
+        self.ready.insert(link.from);
+        if link.queue || link.from >= strand {
+            return Ahead::Search;
+        }
+        Ahead::Put(link.from, link.output)
+    }
+}
+
+// The output on which the record that was seen on this input is to be written, if one is.
+#[inline(always)]
+fn passed_to(want: &Want, i: u16) -> Option<u16>
+    ensures { IfSome result (λ o. want.now ≡ Asks.Write o (Outs.Same i)) }
+{
+    match want {
+        Want::Write(o, Out::Same(k)) if *k == i => Some(*o),
+        _ => None,
+    }
+}
