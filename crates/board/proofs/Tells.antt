@@ -1,5 +1,5 @@
 -- What each answer leaves of a pass, and how a board ends.
-use Rattle.std.proofs.Common.{◌≡◌, ℕ, ◌+◌, ◌-◌, ◌<◌, ◌≤◌, List, [], ◌∷◌, sym, refl, ap, ◌∙◌, subst, arith, ⊎_elim, Some, None}
+use Rattle.std.proofs.Common.{◌≡◌, ℕ, Bool, ◌+◌, ◌-◌, ◌<◌, ◌≤◌, List, [], ◌∷◌, sym, refl, ap, ◌∙◌, subst, arith, ⊎_elim, Some, None}
 use Rattle.pipe_model.specs.declared.net.Strand.{Strand}
 use Rattle.pipe_model.specs.Event.{Event}
 use Rattle.core_machine.specs.Machine.{Machine}
@@ -93,10 +93,10 @@ module _ {S : Type 0} (v w : View) (some : 0 < v.tries) where
   try_finish_left done (End.Busy back) parts t = record { left = busy_left v w some parts t.0; made = ap (λ (x : View). x.mine) t.0.0 }
 
   -- a finish that went on leaves more of its own
-  pub finish_on_left : (place most : ℕ) (answer : TryFinish S) → FinishOnTold v place most answer w → Left v w
-  finish_on_left place most End.Home t = held_left v w t.0 some t.1.held
-  finish_on_left place most End.NoMemory t = ⊎_elim (λ (lost : WasLost (less_one_try v) t.0 place w). held_left v w t.0 some lost.held) (λ (short : FellShort (less_one_try v) t.0 place w). held_left v w t.0 some short.held) t.1
-  finish_on_left place most (End.Busy back) t = absurd t.1
+  pub finish_on_left : (place : ℕ) (sights : Bool) (most : ℕ) (answer : TryFinish S) → FinishOnTold v place sights most answer w → Left v w
+  finish_on_left place sights most End.Home t = held_left v w t.0 some t.1.held
+  finish_on_left place sights most End.NoMemory t = ⊎_elim (λ (lost : WasLost (less_one_try v) t.0 place w). held_left v w t.0 some lost.held) (λ (short : FellShort (less_one_try v) t.0 place w). held_left v w t.0 some short.held) t.1
+  finish_on_left place sights most (End.Busy back) t = absurd t.1
 
 -- what the one who took the core for good knows of it
 pub ends_so : (v : View) (k : Kept) → 0 < v.shares → Sees v k → Ends v k.0

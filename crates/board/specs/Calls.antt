@@ -1,5 +1,5 @@
 -- What the calls of a board say of a pass: v is its view before the call, w its view after, and m the core that the call found in the slot.
-use Rattle.std.specs.Prelude.{◌≡◌, ◌≢◌, ℕ, ◌+◌, ◌-◌, ◌<◌, ◌≤◌, true, false, List, [], ◌∷◌, ◌++◌, length, Some, None, is_some, ◌⊎◌}
+use Rattle.std.specs.Prelude.{◌≡◌, ◌≢◌, ℕ, ◌+◌, ◌-◌, ◌<◌, ◌≤◌, Bool, true, false, List, [], ◌∷◌, ◌++◌, length, Some, None, is_some, ◌⊎◌}
 use mathlib.Core.List.{IsPrefix}
 use Rattle.pipe_model.specs.declared.net.Strand.{Strand}
 use Rattle.pipe_model.specs.declared.step.Entry.{Entry}
@@ -8,7 +8,7 @@ use Rattle.pipe_model.specs.State.{Who}
 use Rattle.core_machine.specs.declared.job.Turned.TheVariants as Turn
 use Rattle.core_machine.specs.Machine.{Machine, IsLawful, licence_of, looks_at, came_home, broke_down}
 use Rattle.core_machine.specs.Jobs.{JobState, FinishedState}
-use Rattle.core_machine.specs.Answered.{IsLook, TurnedAs, LeastReady, HasRunQuietly, HasBroken, IsQuietEnd}
+use Rattle.core_machine.specs.Answered.{IsLook, TurnedAs, LeastReady, HasRunOnRecords, HasBroken, IsEndOnRecords}
 use Rattle.board.specs.Counts.{times, places, places_after, all_shares}
 use Rattle.board.specs.Rule.{machine_of}
 use Rattle.board.specs.Plays.{after_busy, without_slot, IsNew}
@@ -157,14 +157,14 @@ pub record WasLost (v : View) (m : Machine) (place : ℕ) (w : View) : Type 0 wh
   pub lost : w.lost ≡ v.lost ++ place ∷ []
   pub others : (w.mine ≡ v.mine) × (w.home ≡ v.home)
 
--- the job came home to the core, which then made so many steps by which a record was taken or put, at most as many as it might; its place and theirs are home
-pub record WentOn (v : View) (m : Machine) (place most : ℕ) (w : View) : Type 0 where
+-- the job came home to the core, which then made so many steps by which a record was taken or put, or, with sights, seen, at most as many as it might; its place and theirs are home
+pub record WentOn (v : View) (m : Machine) (place : ℕ) (sights : Bool) (most : ℕ) (w : View) : Type 0 where
   pub held : Held v m w
   pub sound : m.is_broken ≡ false
   pub made : ℕ
   pub few : made ≤ most
-  pub core : HasRunQuietly (came_home m place) made (machine_of w)
-  pub ends : IsQuietEnd most made (machine_of w)
+  pub core : HasRunOnRecords sights (came_home m place) made (machine_of w)
+  pub ends : IsEndOnRecords most made (machine_of w)
   pub mine : w.mine ≡ v.mine ++ places_after (length m.journal) (length w.seen)
   pub home : w.home ≡ v.home ++ place ∷ places_after (length m.journal) (length w.seen)
   pub lost : w.lost ≡ v.lost
@@ -190,14 +190,14 @@ module _ {S : Type 0} where
   FinishTold v place answer w = (m : Machine) × HeldFinish (less_one_try v) m place answer w
 
   -- what a finish says that held the slot and went on, by so many steps at most
-  abbrev pub HeldFinishOn : View → Machine → ℕ → ℕ → TryFinish S → View → Type 0
-  HeldFinishOn v m place most End.Home w = WentOn v m place most w
-  HeldFinishOn v m place most End.NoMemory w = WasLost v m place w ⊎ FellShort v m place w
-  HeldFinishOn v m place most (End.Busy back) w = ⊥
+  abbrev pub HeldFinishOn : View → Machine → ℕ → Bool → ℕ → TryFinish S → View → Type 0
+  HeldFinishOn v m place sights most End.Home w = WentOn v m place sights most w
+  HeldFinishOn v m place sights most End.NoMemory w = WasLost v m place w ⊎ FellShort v m place w
+  HeldFinishOn v m place sights most (End.Busy back) w = ⊥
 
   -- what such a finish says, which waits for the slot
-  abbrev pub FinishOnTold : View → ℕ → ℕ → TryFinish S → View → Type 0
-  FinishOnTold v place most answer w = (m : Machine) × HeldFinishOn (less_one_try v) m place most answer w
+  abbrev pub FinishOnTold : View → ℕ → Bool → ℕ → TryFinish S → View → Type 0
+  FinishOnTold v place sights most answer w = (m : Machine) × HeldFinishOn (less_one_try v) m place sights most answer w
 
   -- what a finish says that tries once to take the slot: where it is busy, the job is handed back
   abbrev pub TryFinishTold : View → FinishedState S → TryFinish S → View → Type 0

@@ -1,7 +1,7 @@
 -- What a seat knows while it has the slot in hand. It serves the inside.
 use Rattle.std.specs.Prelude.{◌≡◌, ℕ, ◌+◌, ◌<◌, ◌≤◌, Bool, true, false, List, [], ◌∷◌, length, Some, None}
 use Rattle.core_machine.specs.Machine.{Machine, came_home, broke_down}
-use Rattle.core_machine.specs.Answered.{HasRunQuietly, HasBroken, IsQuietEnd}
+use Rattle.core_machine.specs.Answered.{HasRunOnRecords, HasBroken, IsEndOnRecords}
 use Rattle.board.specs.Counts.{all_tries}
 use Rattle.board.specs.Rule.{Kept, MayGive, HasMade}
 use Rattle.board.specs.Plays.{Sat, Sees, AreNew, new_places, after_raise, after_give}
@@ -67,10 +67,10 @@ abbrev pub FinishedAs : Machine → ℕ → Bool → Machine → Type 0
 FinishedAs m place true n = (m.is_broken ≡ false) × (n ≡ came_home m place)
 FinishedAs m place false n = n ≡ broke_down m
 
--- how a core brings a job home and goes on by quiet steps, at most so many
-abbrev pub CameAs : ℕ → Machine → ℕ → Came → Machine → Type 0
-CameAs most m place (Home made) n =
-    (m.is_broken ≡ false) × HasRunQuietly (came_home m place) made n × (made ≤ most) × IsQuietEnd most made n
-CameAs most m place (Short made) n =
+-- how a core brings a job home and goes on by steps on records, at most so many
+abbrev pub CameAs : Bool → ℕ → Machine → ℕ → Came → Machine → Type 0
+CameAs sights most m place (Home made) n =
+    (m.is_broken ≡ false) × HasRunOnRecords sights (came_home m place) made n × (made ≤ most) × IsEndOnRecords most made n
+CameAs sights most m place (Short made) n =
     (m.is_broken ≡ false) × HasBroken (came_home m place) n × (length n.journal ≡ length m.journal + made)
-CameAs most m place Lost n = n ≡ broke_down m
+CameAs sights most m place Lost n = n ≡ broke_down m

@@ -6,92 +6,117 @@ use std::sync::atomic::{AtomicU64, Ordering};
 use std::thread::yield_now;
 use std::time::Duration;
 
-// At most so many watch at once.
+// At most so many watch at once; others sleep.
 const MOST_WATCHERS: u64 = 3;
 
 // How often one who watches looks: each look gives way to others, and takes a fifth of a microsecond or more.
 const MOST_LOOKS: u32 = 128;
 
-// How often in a row it has to find what it found before: a job is long that takes some five microseconds.
-const STILL_LOOKS: u32 = 24;
-
-/// Where those sleep who have nothing to do, and what they watch. Nothing is proved of it.
+/// Where those watch and sleep who have nothing to do. Nothing is proved of it.
 #[derive(Drop)]
 pub(crate) struct Bell {
     // 1 once the work has ended, and 0 before.
     ended: AtomicU64,
-    // Another number whenever a job was brought home.
-    pace: AtomicU64,
+    // How often it was rung.
+    rings: AtomicU64,
+    // The last ring that one who watches has answered.
+    answered: AtomicU64,
     watchers: AtomicU64,
+    sleepers: AtomicU64,
+    // 1 where the steps made last ended before as many were made as might be, and 0 else. The holder of the slot alone
+    // writes it.
+    early: AtomicU64,
 }
 
 impl Bell {
     pub(crate) fn new() -> Bell {
         Bell {
             ended: AtomicU64::new(0),
-            pace: AtomicU64::new(0),
+            rings: AtomicU64::new(0),
+            answered: AtomicU64::new(0),
             watchers: AtomicU64::new(0),
+            sleepers: AtomicU64::new(0),
+            early: AtomicU64::new(0),
         }
     }
 
-    /// Sleeps so many microseconds, or less, and not at all once the work has ended.
+    /// For the holder of the slot: steps were made, and maybe fewer than might be, as by the next no record is taken or put
+    /// in no time.
+    pub(crate) fn note_steps(&self, is_early: bool) {
+        self.early.store(is_early as u64, Ordering::Relaxed);
+    }
+
+    /// For the holder of the slot: a job is handed out. Where it may take long, something may be left to do for one more.
+    pub(crate) fn note_job(&self) {
+        if self.early.load(Ordering::Relaxed) == 1 {
+            self.early.store(0, Ordering::Relaxed);
+            self.ring();
+        }
+    }
+
+    // Who watches answers, and if nobody does, one who sleeps is woken.
+    fn ring(&self) {
+        let rings = self.rings.load(Ordering::Relaxed);
+        self.rings.store(rings.wrapping_add(1), Ordering::SeqCst);
+        if self.watchers.load(Ordering::SeqCst) == 0 && self.sleepers.load(Ordering::SeqCst) > 0 {
+            self.rings.wake_one();
+        }
+    }
+
+    /// Sleeps so many microseconds, or till it is rung for one that sleeps, and not at all once the work has ended.
     pub(crate) fn nap<R: Wait>(&self, rt: &R, micros: u64) {
-        self.ended
-            .park_timeout(rt, 0, Duration::from_micros(micros));
+        let rings = self.rings.load(Ordering::SeqCst) % (1 << 32);
+        self.sleepers.fetch_add(1, Ordering::SeqCst);
+        if self.ended.load(Ordering::SeqCst) == 0 {
+            self.rings
+                .park_timeout(rt, rings as u32, Duration::from_micros(micros));
+        }
+        self.sleepers.fetch_sub(1, Ordering::SeqCst);
     }
 
     fn end(&self) {
         self.ended.store(1, Ordering::SeqCst);
-        self.ended.wake_all();
+        self.rings.fetch_add(1, Ordering::SeqCst);
+        self.rings.wake_all();
     }
 
-    /// For the holder of the slot, who brought a job home: nobody else writes here.
-    #[inline(always)]
-    pub(crate) fn note_home(&self) {
-        let pace = self.pace.load(Ordering::Relaxed);
-        self.pace.store(pace.wrapping_add(1), Ordering::Relaxed);
-    }
-
-    // Whether a job was brought home, and then for some microseconds none was, while one looked for a limited time. It isn't
-    // looked at where enough others do so.
-    fn becomes_still(&self) -> bool {
+    // Whether it is rung while one watches for a limited time, and another doesn't answer. Where enough watch it isn't
+    // waited for.
+    fn hears(&self) -> bool {
         let others = self.watchers.fetch_add(1, Ordering::SeqCst);
-        let is_still = others < MOST_WATCHERS && self.watch();
+        let heard = others < MOST_WATCHERS && self.watch();
         self.watchers.fetch_sub(1, Ordering::SeqCst);
-        is_still
+        heard
     }
 
     fn watch(&self) -> bool {
-        let start = self.pace.load(Ordering::Relaxed);
-        let mut last = start;
-        let mut same = 0_u32;
         for _ in 0..MOST_LOOKS {
-            yield_now();
-            let now = self.pace.load(Ordering::Relaxed);
-            if now != start && now == last {
-                same = same.saturating_add(1);
-            } else {
-                same = 0;
-            }
-            if same == STILL_LOOKS {
+            let answered = self.answered.load(Ordering::Relaxed);
+            let rings = self.rings.load(Ordering::Relaxed);
+            if rings != answered
+                && self
+                    .answered
+                    .compare_exchange(answered, rings, Ordering::SeqCst, Ordering::SeqCst)
+                    .is_ok()
+            {
                 return true;
             }
-            last = now;
+            yield_now();
         }
         false
     }
 }
 
 impl<S: Stage> Board<S> {
-    /// Watches for some microseconds whether others are at work on jobs that take long: then something may be left to do. It
-    /// is false where jobs come home fast, or none does, or where enough others watch.
-    pub fn sees_long_jobs(&self) -> bool {
-        self.bell.becomes_still()
-    }
-
-    /// Sleeps so many microseconds, or less, and not at all once the work has ended.
-    pub fn rest<R: Wait>(&self, rt: &R, micros: u64) {
-        self.bell.nap(rt, micros);
+    /// Waits where there is nothing to do: it watches for some microseconds whether something is left to do beside a job that
+    /// another has, and answers whether it is. Else it sleeps so many microseconds, or less, and not at all once the work
+    /// has ended.
+    pub fn rest<R: Wait>(&self, rt: &R, micros: u64) -> bool {
+        let heard = self.bell.hears();
+        if !heard {
+            self.bell.nap(rt, micros);
+        }
+        heard
     }
 
     /// Says that the work has ended: it wakes all that rest, and nobody sleeps there any more.

@@ -94,18 +94,24 @@ impl<S: Stage> CoreBox<S> {
         self.core.len()
     }
 
-    /// Brings a job home, and goes on by steps by which a record is taken or put, at most so many.
-    pub(crate) fn finish_and_go_on(&mut self, alloc: Global, done: Finished<S>, most: u64) -> Came
+    /// Brings a job home, and goes on by steps by which a record is taken or put, or, with `sights`, seen, at most so many.
+    pub(crate) fn finish_and_go_on(
+        &mut self,
+        alloc: Global,
+        done: Finished<S>,
+        sights: bool,
+        most: u64,
+    ) -> Came
         requires among { is_among done.place self.old.out ≡ true }
         requires stands { DoneStands S.stands self.old.net (take done.place self.old.journal) done }
-        ensures came { CameAs most self.old done.place result self.new }
+        ensures came { CameAs sights most self.old done.place result self.new }
         ensures lawful { IsLawful self.new }
     {
         if self.core.finish(done).is_err() {
             return Came::Lost;
         }
         let start = self.core.len();
-        match self.core.run_quietly(alloc, most) {
+        match self.core.run_on_records(alloc, sights, most) {
             Ok(made) => Came::Home { made },
             Err(_) => Came::Short {
                 made: self.core.len() - start,

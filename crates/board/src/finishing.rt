@@ -27,7 +27,6 @@ impl<S: Stage> Board<S> {
         ensures told { IfKept seat.old.me (λ k. HeldFinish (without_slot seat.old.me.0) k.0 done.place result seat.new.me.0) }
     {
         let place = done.place();
-        self.bell.note_home();
         if self.finish_core(seat, done) {
             self.give_home(seat, place);
             TryFinish::Home

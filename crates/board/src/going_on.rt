@@ -24,6 +24,7 @@ impl<S: Stage> Board<S> {
         alloc: Global,
         seat: &mut Seat<Slot<S>, View>,
         done: Finished<S>,
+        sights: bool,
         most: u64,
     ) -> TryFinish<S>
         requires id { seat.old.table_id ≡ self.now.table.shared.table_id }
@@ -32,17 +33,18 @@ impl<S: Stage> Board<S> {
         requires stands { DoneStands S.stands seat.old.me.0.net (take done.place seat.old.me.0.seen) done }
         ensures id { (seat.new.table_id ≡ seat.old.table_id) × (seat.new.id ≡ seat.old.id) }
         ensures free { HasLetGo seat.new.me }
-        ensures told { IfKept seat.old.me (λ k. HeldFinishOn (without_slot seat.old.me.0) k.0 done.place most result seat.new.me.0) }
+        ensures told { IfKept seat.old.me (λ k. HeldFinishOn (without_slot seat.old.me.0) k.0 done.place sights most result seat.new.me.0) }
     {
         let place = done.place();
-        self.bell.note_home();
-        let (came, len) = self.finish_on_core(alloc, seat, done, most);
+        let (came, len) = self.finish_on_core(alloc, seat, done, sights, most);
         match came {
             Came::Home { made: 0 } => {
+                self.bell.note_steps(true);
                 self.give_home(seat, place);
                 TryFinish::Home
             }
             Came::Home { made } => {
+                self.bell.note_steps(made < most);
                 self.give_gone_on(seat, place, made, len);
                 TryFinish::Home
             }
@@ -63,6 +65,7 @@ impl<S: Stage> Board<S> {
         alloc: Global,
         seat: &mut Seat<Slot<S>, View>,
         done: Finished<S>,
+        sights: bool,
         most: u64,
     ) -> TryFinish<S>
         requires id { seat.old.table_id ≡ self.now.table.shared.table_id }
@@ -71,10 +74,10 @@ impl<S: Stage> Board<S> {
         requires stands { DoneStands S.stands seat.old.me.0.net (take done.place seat.old.me.0.seen) done }
         ensures id { (seat.new.table_id ≡ seat.old.table_id) × (seat.new.id ≡ seat.old.id) }
         ensures free { HasLetGo seat.new.me }
-        ensures told { FinishOnTold seat.old.me.0 done.place most result seat.new.me.0 }
+        ensures told { FinishOnTold seat.old.me.0 done.place sights most result seat.new.me.0 }
     {
         self.take_awake(rt, seat);
-        self.finish_on_held(alloc, seat, done, most)
+        self.finish_on_held(alloc, seat, done, sights, most)
     }
 }
 
@@ -86,7 +89,8 @@ impl<S: Stage> Board<S> {
     ghost use Rattle.board.specs.Names.{view, board_of, board_id};
 
     /// Takes back a job as `finish` does. Then it makes the least event that may be, at most `most` times, as long as by
-    /// it a record is taken or put; no job of these is out afterwards. `NoMemory` says that
+    /// it a record is taken or put, or, with `sights`, seen, but for sights that may take more than some five microseconds;
+    /// no job of these is out afterwards, and no gate is entered for them. `NoMemory` says that
     /// the job, the core or a stage that went on wanted memory: the core is broken, and the strand of the job, or of the
     /// last entry, stays out. It uses one try, waits where the slot is out, and never answers `Busy`.
     pub fn finish_and_go_on<R: Wait>(
@@ -95,6 +99,7 @@ impl<S: Stage> Board<S> {
         alloc: Global,
         pass: &mut Pass,
         done: Finished<S>,
+        sights: bool,
         most: u64,
     ) -> TryFinish<S>
         requires board { board_of pass.old ≡ board_id self.now }
@@ -102,11 +107,11 @@ impl<S: Stage> Board<S> {
         requires can { CanFinish (view pass.old) done.place }
         requires stands { DoneStands S.stands (view pass.old).net (take done.place (view pass.old).seen) done }
         ensures board { board_of pass.new ≡ board_of pass.old }
-        ensures told { FinishOnTold (view pass.old) done.place most result (view pass.new) }
+        ensures told { FinishOnTold (view pass.old) done.place sights most result (view pass.new) }
         ensures goes { GoesOn (view pass.old) (view pass.new) }
     {
         let mut seat = sit(&mut pass.badge);
-        let answer = self.finish_on_seat(rt, alloc, &mut seat, done, most);
+        let answer = self.finish_on_seat(rt, alloc, &mut seat, done, sights, most);
         pass.badge = seat.into_badge();
         pass.tries -= 1;
         answer

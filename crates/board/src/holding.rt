@@ -77,15 +77,16 @@ impl<S: Stage> Board<S> {
         alloc: Global,
         seat: &mut Seat<Slot<S>, View>,
         done: Finished<S>,
+        sights: bool,
         most: u64,
     ) -> (Came, u64)
         requires id { seat.old.table_id ≡ self.now.table.shared.table_id }
         requires kept { HasKept seat.old.me (λ k. (is_among done.place k.0.out ≡ true) × DoneStands S.stands k.0.net (take done.place k.0.journal) done) }
         ensures id { (seat.new.table_id ≡ seat.old.table_id) × (seat.new.id ≡ seat.old.id) }
-        ensures came { IfKept seat.old.me (λ k. (l : Kept) × (seat.new.me ≡ with_kept seat.old.me.0 l) × CameAs most k.0 done.place result.0 l.0 × (result.1 ≡ length l.0.journal) × (l.1 ≡ k.1) × IsLawful l.0) }
+        ensures came { IfKept seat.old.me (λ k. (l : Kept) × (seat.new.me ≡ with_kept seat.old.me.0 l) × CameAs sights most k.0 done.place result.0 l.0 × (result.1 ≡ length l.0.journal) × (l.1 ≡ k.1) × IsLawful l.0) }
     {
         let slot = seat.slot_mut(&self.table.shared, 0);
-        finish_on_slot(alloc, slot, done, most)
+        finish_on_slot(alloc, slot, done, sights, most)
     }
 
     fn count(&self, seat: &mut Seat<Slot<S>, View>)

@@ -27,6 +27,7 @@ impl<S: Stage> Board<S> {
     {
         match self.least_core(seat, room) {
             Turned::Work(job) => {
+                self.bell.note_job();
                 self.give_work(seat);
                 let place = job.place();
                 TryAny::Work(job, Receipt { place })

@@ -11,13 +11,15 @@ use std::thread::yield_now;
 // How often one looks at the slot before it lets others run.
 const AWAKE_TRIES: u32 = 100;
 
-// How often one looks at the slot before it naps.
+// How often one looks at the slot before it lets others run, and how often it does that before it naps.
 const NAPPING_TRIES: u32 = 16;
+
+const NAPPING_ROUNDS: u32 = 8;
 
 // The shortest nap and the longest, in microseconds.
 const SHORTEST_NAP: u64 = 50;
 
-const LONGEST_NAP: u64 = 1_000;
+const LONGEST_NAP: u64 = 16_000;
 
 impl<S: Stage> Board<S> {
     ghost use Rattle.std.specs.Prelude.{◌≡◌, true, false};
@@ -69,12 +71,19 @@ impl<S: Stage> Board<S> {
         ensures took { Took seat.old.me seat.new.me }
     {
         let mut micros = SHORTEST_NAP;
+        let mut rounds = 0_u32;
         for _ in rt.forever() {
             if self.take_within(seat, NAPPING_TRIES) {
                 return;
             }
-            self.bell.nap(rt, micros);
-            micros = micros.saturating_mul(2).min(LONGEST_NAP);
+            rounds = rounds.saturating_add(1);
+            if rounds < NAPPING_ROUNDS {
+                yield_now();
+            } else {
+                rounds = 0;
+                self.bell.nap(rt, micros);
+                micros = micros.saturating_mul(2).min(LONGEST_NAP);
+            }
         }
         unreachable!()
     }

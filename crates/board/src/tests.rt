@@ -47,7 +47,7 @@ fn work<S: Stage, R: Wait>(
     let seen = job.seen();
     let done = job.run(alloc, room);
     let answer = if goes_on {
-        board.finish_and_go_on(rt, alloc, pass, done, 16)
+        board.finish_and_go_on(rt, alloc, pass, done, false, 16)
     } else {
         board.try_finish(pass, done)
     };

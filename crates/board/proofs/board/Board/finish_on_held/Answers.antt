@@ -12,41 +12,41 @@ finish_on_core-came-requires-clause-kept g c = let h = c.requires.holder in let 
     (h.kept, h.slot, (place_there me h c.args.done.place c.requires.can, done_there g.S.Stage.stands me h c.args.done c.requires.stands))
 
 pub give_home-requires-clause-may : goal.give_home-requires-clause-may
-give_home-requires-clause-may g c = let h = c.requires.holder in let p = c.args.done.place in let most = c.args.most in let t = c.finish_on_core-came.ensures.came h.kept h.slot in let n = c.finish_on_core-came.new.seat.me in
-    let f = subst (λ (x : Came). CameAs most h.kept.0 p x t.0.0) (c.in-Home-eq0.is ∙ ap Home (sym c.in-Home-eq0.made-is ∙ c.in-Home-eq0.made-test)) t.2 in
-    subst (λ (z : ℕ). MayGiveBack (z ∷ []) [] n) (sym c.place-place.ensures) (nowhere_may c.args.seat.now.me n h t.0 p most 0 c.requires.can t.1 t.4 t.5 f)
+give_home-requires-clause-may g c = let h = c.requires.holder in let p = c.args.done.place in let sights = c.args.sights in let most = c.args.most in let t = c.finish_on_core-came.ensures.came h.kept h.slot in let n = c.finish_on_core-came.new.seat.me in
+    let f = subst (λ (x : Came). CameAs sights most h.kept.0 p x t.0.0) (c.in-Home-eq0.is ∙ ap Home (sym c.in-Home-eq0.made-is ∙ c.in-Home-eq0.made-test)) t.2 in
+    subst (λ (z : ℕ). MayGiveBack (z ∷ []) [] n) (sym c.place-place.ensures) (nowhere_may c.args.seat.now.me n h t.0 p sights most 0 c.requires.can t.1 t.4 t.5 f)
 
 pub give_gone_on-requires-clause-may : goal.give_gone_on-requires-clause-may
-give_gone_on-requires-clause-may g c = let h = c.requires.holder in let p = c.args.done.place in let most = c.args.most in let t = c.finish_on_core-came.ensures.came h.kept h.slot in let n = c.finish_on_core-came.new.seat.me in
-    let f = subst (λ (x : Came). CameAs most h.kept.0 p x t.0.0) c.in-Home.is t.2 in
-    home_on_may c.args.seat.now.me n h t.0 p most c.in-Home.made c.requires.can t.1 t.4 t.5 f c.place-place.result c.finish_on_core-came.result.1 c.place-place.ensures t.3
+give_gone_on-requires-clause-may g c = let h = c.requires.holder in let p = c.args.done.place in let sights = c.args.sights in let most = c.args.most in let t = c.finish_on_core-came.ensures.came h.kept h.slot in let n = c.finish_on_core-came.new.seat.me in
+    let f = subst (λ (x : Came). CameAs sights most h.kept.0 p x t.0.0) c.in-Home.is t.2 in
+    home_on_may c.args.seat.now.me n h t.0 p sights most c.in-Home.made c.requires.can t.1 t.4 t.5 f c.place-place.result c.finish_on_core-came.result.1 c.place-place.ensures t.3
 
 pub give_short-requires-clause-may : goal.give_short-requires-clause-may
-give_short-requires-clause-may g c = let h = c.requires.holder in let p = c.args.done.place in let most = c.args.most in let t = c.finish_on_core-came.ensures.came h.kept h.slot in let n = c.finish_on_core-came.new.seat.me in
-    let f = subst (λ (x : Came). CameAs most h.kept.0 p x t.0.0) c.in-Short.is t.2 in
-    short_may c.args.seat.now.me n h t.0 p most c.in-Short.made c.requires.can t.1 t.4 t.5 f c.place-place.result c.finish_on_core-came.result.1 c.place-place.ensures t.3
+give_short-requires-clause-may g c = let h = c.requires.holder in let p = c.args.done.place in let sights = c.args.sights in let most = c.args.most in let t = c.finish_on_core-came.ensures.came h.kept h.slot in let n = c.finish_on_core-came.new.seat.me in
+    let f = subst (λ (x : Came). CameAs sights most h.kept.0 p x t.0.0) c.in-Short.is t.2 in
+    short_may c.args.seat.now.me n h t.0 p sights most c.in-Short.made c.requires.can t.1 t.4 t.5 f c.place-place.result c.finish_on_core-came.result.1 c.place-place.ensures t.3
 
 pub give_lost-requires-clause-may : goal.give_lost-requires-clause-may
-give_lost-requires-clause-may g c = let h = c.requires.holder in let p = c.args.done.place in let most = c.args.most in let t = c.finish_on_core-came.ensures.came h.kept h.slot in let n = c.finish_on_core-came.new.seat.me in
-    let f = subst (λ (x : Came). CameAs most h.kept.0 p x t.0.0) c.in-Lost.is t.2 in
+give_lost-requires-clause-may g c = let h = c.requires.holder in let p = c.args.done.place in let sights = c.args.sights in let most = c.args.most in let t = c.finish_on_core-came.ensures.came h.kept h.slot in let n = c.finish_on_core-came.new.seat.me in
+    let f = subst (λ (x : Came). CameAs sights most h.kept.0 p x t.0.0) c.in-Lost.is t.2 in
     subst (λ (z : ℕ). MayGiveBack [] (z ∷ []) n) (sym c.place-place.ensures) (lost_back c.args.seat.now.me n h t.0 p c.requires.can t.1 t.4 f)
 
 pub returns-in-Home-eq0-clause-told : goal.returns-in-Home-eq0-clause-told
-returns-in-Home-eq0-clause-told g c = let h = c.requires.holder in let p = c.args.done.place in let most = c.args.most in let t = c.finish_on_core-came.ensures.came h.kept h.slot in let n = c.finish_on_core-came.new.seat.me in let w = c.give_home.new.seat.me in
-    let f = subst (λ (x : Came). CameAs most h.kept.0 p x t.0.0) (c.in-Home-eq0.is ∙ ap Home (sym c.in-Home-eq0.made-is ∙ c.in-Home-eq0.made-test)) t.2 in
-    nowhere_told c.args.seat.now.me n h t.0 p most 0 c.requires.can t.1 t.4 t.5 f w (subst (λ (z : ℕ). GaveBack (z ∷ []) [] n w) c.place-place.ensures c.give_home.ensures.gave)
+returns-in-Home-eq0-clause-told g c = let h = c.requires.holder in let p = c.args.done.place in let sights = c.args.sights in let most = c.args.most in let t = c.finish_on_core-came.ensures.came h.kept h.slot in let n = c.finish_on_core-came.new.seat.me in let w = c.give_home.new.seat.me in
+    let f = subst (λ (x : Came). CameAs sights most h.kept.0 p x t.0.0) (c.in-Home-eq0.is ∙ ap Home (sym c.in-Home-eq0.made-is ∙ c.in-Home-eq0.made-test)) t.2 in
+    nowhere_told c.args.seat.now.me n h t.0 p sights most 0 c.requires.can t.1 t.4 t.5 f w (subst (λ (z : ℕ). GaveBack (z ∷ []) [] n w) c.place-place.ensures c.give_home.ensures.gave)
 
 pub returns-in-Home-clause-told : goal.returns-in-Home-clause-told
-returns-in-Home-clause-told g c = let h = c.requires.holder in let p = c.args.done.place in let most = c.args.most in let t = c.finish_on_core-came.ensures.came h.kept h.slot in let n = c.finish_on_core-came.new.seat.me in
-    let f = subst (λ (x : Came). CameAs most h.kept.0 p x t.0.0) c.in-Home.is t.2 in
-    went_on c.args.seat.now.me n h t.0 p most c.in-Home.made c.requires.can t.1 t.4 t.5 f c.place-place.result c.finish_on_core-came.result.1 c.place-place.ensures t.3 c.give_gone_on.new.seat.me c.give_gone_on.ensures.gave
+returns-in-Home-clause-told g c = let h = c.requires.holder in let p = c.args.done.place in let sights = c.args.sights in let most = c.args.most in let t = c.finish_on_core-came.ensures.came h.kept h.slot in let n = c.finish_on_core-came.new.seat.me in
+    let f = subst (λ (x : Came). CameAs sights most h.kept.0 p x t.0.0) c.in-Home.is t.2 in
+    went_on c.args.seat.now.me n h t.0 p sights most c.in-Home.made c.requires.can t.1 t.4 t.5 f c.place-place.result c.finish_on_core-came.result.1 c.place-place.ensures t.3 c.give_gone_on.new.seat.me c.give_gone_on.ensures.gave
 
 pub returns-in-Short-clause-told : goal.returns-in-Short-clause-told
-returns-in-Short-clause-told g c k at = let h = c.requires.holder in let p = c.args.done.place in let most = c.args.most in let t = c.finish_on_core-came.ensures.came h.kept h.slot in let n = c.finish_on_core-came.new.seat.me in
-    let f = subst (λ (x : Came). CameAs most h.kept.0 p x t.0.0) c.in-Short.is t.2 in
-    inr (fell_short c.args.seat.now.me n h t.0 p most c.in-Short.made c.requires.can t.1 t.4 t.5 f c.place-place.result c.finish_on_core-came.result.1 c.place-place.ensures t.3 c.give_short.new.seat.me c.give_short.ensures.gave k at)
+returns-in-Short-clause-told g c k at = let h = c.requires.holder in let p = c.args.done.place in let sights = c.args.sights in let most = c.args.most in let t = c.finish_on_core-came.ensures.came h.kept h.slot in let n = c.finish_on_core-came.new.seat.me in
+    let f = subst (λ (x : Came). CameAs sights most h.kept.0 p x t.0.0) c.in-Short.is t.2 in
+    inr (fell_short c.args.seat.now.me n h t.0 p sights most c.in-Short.made c.requires.can t.1 t.4 t.5 f c.place-place.result c.finish_on_core-came.result.1 c.place-place.ensures t.3 c.give_short.new.seat.me c.give_short.ensures.gave k at)
 
 pub returns-in-Lost-clause-told : goal.returns-in-Lost-clause-told
-returns-in-Lost-clause-told g c k at = let h = c.requires.holder in let p = c.args.done.place in let most = c.args.most in let t = c.finish_on_core-came.ensures.came h.kept h.slot in let n = c.finish_on_core-came.new.seat.me in let w = c.give_lost.new.seat.me in
-    let f = subst (λ (x : Came). CameAs most h.kept.0 p x t.0.0) c.in-Lost.is t.2 in
+returns-in-Lost-clause-told g c k at = let h = c.requires.holder in let p = c.args.done.place in let sights = c.args.sights in let most = c.args.most in let t = c.finish_on_core-came.ensures.came h.kept h.slot in let n = c.finish_on_core-came.new.seat.me in let w = c.give_lost.new.seat.me in
+    let f = subst (λ (x : Came). CameAs sights most h.kept.0 p x t.0.0) c.in-Lost.is t.2 in
     inl (lost_told c.args.seat.now.me n h t.0 p c.requires.can t.1 t.4 w f (subst (λ (z : ℕ). GaveBack [] (z ∷ []) n w) c.place-place.ensures c.give_lost.ensures.gave) k at)
