@@ -1,5 +1,5 @@
 -- What a turn and a finish leave of a worker's pass.
-use Rattle.std.proofs.Common.{◌≡◌, ℕ, ◌+◌, ◌-◌, List, [], ◌∷◌, ◌++◌, length, sym, refl, ap, ◌∙◌, subst, arith, None}
+use Rattle.std.proofs.Common.{◌≡◌, ℕ, Bool, ◌+◌, ◌-◌, List, [], ◌∷◌, ◌++◌, length, sym, refl, ap, ◌∙◌, subst, arith, None}
 use Rattle.pipe_model.specs.declared.net.Strand.{Strand}
 use Rattle.pipe_model.specs.Event.{Event}
 use Rattle.core_machine.specs.declared.job.RunEnd.TheVariants as Run
@@ -36,8 +36,8 @@ pub lost_settled : (v w : View) (p : ℕ) → Owes v p → w.mine ≡ v.mine →
 lost_settled v w p owes mine home lost q = let a = owes q in let b = ap (times q) mine in let c = ap (times q) home in let d = ap (times q) lost in let e = times-append q v.lost (p ∷ []) in omega arith
 
 -- the job came home and further steps were made, which are home too
-pub went_settled : (v w : View) (m : Machine) (place most : ℕ) → Owes v place → WentOn (less_one_try v) m place most w → IsSettled w
-went_settled v w m place most owes t q =
+pub went_settled : (v w : View) (m : Machine) (place : ℕ) (sights : Bool) (most : ℕ) → Owes v place → WentOn (less_one_try v) m place sights most w → IsSettled w
+went_settled v w m place sights most owes t q =
     let new : List ℕ = places_after (length m.journal) (length w.seen) in
     let a = owes q in let b = ap (times q) t.mine ∙ times-append q v.mine new in let c = ap (times q) t.home ∙ times-append q v.home (place ∷ new) in
     let d = times-cons q place new in let e = times-one q place in let f = ap (times q) t.lost in omega arith

@@ -16,8 +16,8 @@ use std::thread::Threads;
 /// Runs a core with so many workers, 1 to 64, until no strand may have an event or the journal has as many entries as
 /// the budget allows. One worker makes the least event that may be, each time. More work in threads of their own, each
 /// on whatever strand may go on, and what they leave is done by the caller's thread. Without memory for them, or without
-/// threads, the caller's thread does all. The gate is entered before the work on each record that a strand saw. The error
-/// is that a stage or the core wanted memory.
+/// threads, the caller's thread does all. A gate that isn't always open is entered before the work on each record that a
+/// strand saw. The error is that a stage or the core wanted memory.
 pub fn drive<S: Stage + Send, R: Threads + Wait + Sync, G: Gate + Sync>(
     rt: &R,
     alloc: Global,

@@ -46,7 +46,7 @@ pub(crate) fn take_turn<S: Stage, R: Wait, G: Gate>(
     match board.any(rt, pass, room) {
         TryAny::Work(job, _) => {
             let done = run_job(alloc, job, room.as_slice(), gate);
-            bring_home(rt, alloc, board, pass, done)
+            bring_home(rt, alloc, board, pass, done, gate.is_open())
         }
         TryAny::Idle { out: 0 } => AfterTurn::Ended(WorkEnd::Complete),
         TryAny::Idle { .. } => AfterTurn::Idle,
@@ -70,8 +70,8 @@ fn run_job<S: Stage, G: Gate>(alloc: Global, job: Job<S>, bytes: &[u8], gate: &G
     job.run(alloc, bytes)
 }
 
-// After a job is home, so many steps at most are made at once that need neither a gate nor a look at a record.
-const MOST_AT_ONCE: u64 = 16;
+// After a job is home, so many steps on records at most are made at once.
+const MOST_AT_ONCE: u64 = 256;
 
 // Brings home what the pass had out.
 fn bring_home<S: Stage, R: Wait>(
@@ -80,6 +80,7 @@ fn bring_home<S: Stage, R: Wait>(
     board: &Board<S>,
     pass: &mut Pass,
     done: Finished<S>,
+    sights: bool,
 ) -> AfterTurn
     requires board { board_of pass.old ≡ board_id board.now }
     requires tries { 2 ≤ (view pass.old).tries }
@@ -92,7 +93,7 @@ fn bring_home<S: Stage, R: Wait>(
     ensures worked { HasWorked (view pass.old) (view pass.new) }
     ensures turns { TurnsSo result (view pass.new) }
 {
-    match board.finish_and_go_on(rt, alloc, pass, done, MOST_AT_ONCE) {
+    match board.finish_and_go_on(rt, alloc, pass, done, sights, MOST_AT_ONCE) {
         TryFinish::Home => AfterTurn::Done,
         TryFinish::NoMemory => AfterTurn::Ended(WorkEnd::NoMemory),
         TryFinish::Busy(_) => unreachable!(),

@@ -12,7 +12,7 @@ const LONGEST_REST: u64 = 16_000;
 const JOBS_IN_A_ROW: u32 = 64;
 
 /// For how many microseconds a worker sleeps next, where it comes to that, how many jobs it had in a row, and whether it
-/// looks for a job since it saw that those of others take long.
+/// looks for a job since it was told that one may be left.
 #[derive(Clone, Copy, Debug, PartialEq, Eq)]
 pub(crate) struct Waits {
     micros: u64,
@@ -38,13 +38,12 @@ impl Waits {
         self.hopes = false;
     }
 
-    /// It had none, and waits. Where the jobs of others take long it looks again at once; where that was in vain it sleeps,
-    /// twice as long each time, so that it doesn't get in the way of those who work.
+    /// It had none, and waits: till it is told that one may be left, or, where it isn't told for some time, for a sleep that
+    /// is twice as long each time, so that it doesn't get in the way of those who work.
     pub(crate) fn wait<S: Stage, R: Wait>(&mut self, rt: &R, board: &Board<S>) {
         self.jobs = 0;
-        self.hopes = !self.hopes && board.sees_long_jobs();
+        self.hopes = board.rest(rt, self.micros);
         if !self.hopes {
-            board.rest(rt, self.micros);
             self.micros = self.micros.saturating_mul(2).min(LONGEST_REST);
         }
     }

@@ -29,8 +29,9 @@ pub enum WorkEnd {
 const FEWEST_TRIES: u64 = 3;
 
 /// Makes the least event that may be, enters the gate where a record was seen, goes on with the coroutine and brings it
-/// home, again and again, until there is nothing left to do for anyone. While others have what is left, it waits. The
-/// room is for the records that are looked at, and grows where one is longer.
+/// home, with the steps on records that follow and are short, again and again, until there is nothing left to do for anyone.
+/// Where the gate isn't always open, no record is seen by these. While others have what is left, it waits. The room is for
+/// the records that are looked at, and grows where one is longer.
 pub fn work<S: Stage + Send, R: Wait, G: Gate + Sync>(
     rt: &R,
     alloc: Global,
