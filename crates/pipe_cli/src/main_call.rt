@@ -26,7 +26,7 @@ use std::thread::Threads;
 /// their stages, then the input, where a CONSOLE reads it, runs, makes all texts, then writes the output, replaces the files in the order of
 /// the bytes of their names and the journal's last, and tells the status. After a fault of the output no file is replaced; after one of the
 /// shelf the files before are. A check fetches the journal before the files, plays it instead of a run, and writes what it is. The sample
-/// reads nothing. The gate is entered before the work on each record that a stage saw.
+/// reads nothing. A gate that isn't always open is entered before the work on each record that a stage saw.
 pub fn pipe_main<Rt: Threads + Wait + Sync, I: Source, O: Sink, E: Sink, F: Shelf, G: Gate + Sync>(
     rt: &Rt,
     alloc: Global,
