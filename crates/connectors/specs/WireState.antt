@@ -1,5 +1,5 @@
 -- What a connector stands for, and what each call makes of it.
-use Rattle.std.specs.Prelude.{◌≡◌, ◌⊎◌, ◌<◌, ℕ, ◌+◌, ◌-◌, ◌^◌, ◌==◌, List, [], ◌∷◌, ◌++◌, length, drop, slice_get, Option, Some, None, IsSome, is_some, Bool, true, false, if◌then◌else◌}
+use Rattle.std.specs.Prelude.{◌≡◌, ◌⊎◌, ◌<◌, ℕ, ◌+◌, ◌-◌, ◌^◌, ◌==◌, List, [], ◌∷◌, ◌++◌, length, drop, slice_get, Option, Some, None, IsSome, is_some, Bool, true, false, not, ◌&&◌, if◌then◌else◌}
 use Rattle.std.specs.Option.{option_map}
 use Rattle.record_pool.specs.PoolState.{PoolState, with_node, without_node}
 use Rattle.record_pool.specs.Places.{IsHeld, given}
@@ -14,6 +14,10 @@ pub record WireState : Type 0 where
   pub in_closed : Bool
   pub queue : Option (List ℕ)
   pub reserved : Bool
+
+-- a record is offered at a rendezvous, and was neither taken nor refused
+abbrev pub waits : WireState → Bool
+waits wire = not (is_some wire.queue) && ((wire.puts == wire.tooks) && (is_some wire.offer && not wire.in_closed))
 
 -- of a rendezvous as many records were taken as were put, or one more, whose offer still stands; of a queue as many more were put as wait
 abbrev pub IsPaced : Option ℕ → ℕ → ℕ → Option (List ℕ) → Type 0

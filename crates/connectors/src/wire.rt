@@ -2,7 +2,7 @@ ghost use Rattle.std.specs.Prelude.{◌≡◌, ◌-◌, ◌<◌, ◌^◌, Some, 
 ghost use Rattle.std.specs.Option.{option_map};
 ghost use Rattle.record_pool.specs.PoolState.{without_node};
 ghost use Rattle.connectors.specs.Rooms.{HasRoom};
-ghost use Rattle.connectors.specs.WireState.{at_hand, new_wire, with_room, offered, taken, settled, lined_up, cleared, noded_in, pool_taken, pool_settled, unreserved, drained, emptied, IsHeldIn, given_in, IsPaced, CanTake, CanSettle, CanUnreserve, CanEmpty, CanDrain};
+ghost use Rattle.connectors.specs.WireState.{at_hand, waits, new_wire, with_room, offered, taken, settled, lined_up, cleared, noded_in, pool_taken, pool_settled, unreserved, drained, emptied, IsHeldIn, given_in, IsPaced, CanTake, CanSettle, CanUnreserve, CanEmpty, CanDrain};
 
 use pipe_model::NoMemory;
 use record_pool::{Grip, Node, Pool, Queue};
@@ -58,6 +58,14 @@ impl Wire {
             queue: if queue { Some(Queue::new(alloc)) } else { None },
             node: None,
         }
+    }
+
+    /// Whether a record is offered at a rendezvous that may be seen, and was neither taken nor refused.
+    #[inline(always)]
+    pub fn waits(&self) -> bool
+        ensures { result ≡ waits self.now }
+    {
+        self.queue.is_none() && self.puts == self.tooks && self.offer.is_some() && !self.in_closed
     }
 
     /// Whether it is a queue.

@@ -1,16 +1,16 @@
 -- How the list of the empty places follows the places.
-use Rattle.std.proofs.Common.{◌≡◌, ◌≢◌, ℕ, ◌+◌, ◌<◌, ◌≤◌, ◌==◌, zero, suc, List, [], ◌∷◌, ◌++◌, length, get_or, refl, ap, sym, ◌∙◌, subst, arith, cond, length-append, ◌⊎◌, inl, inr, ◌-◌, nat_lt, Bool, true, false, if◌then◌else◌}
+use Rattle.std.proofs.Common.{◌≡◌, ◌≢◌, ℕ, ◌+◌, ◌<◌, ◌≤◌, ◌==◌, zero, suc, List, [], ◌∷◌, ◌++◌, length, get_or, refl, ap, sym, ◌∙◌, subst, arith, cond, length-append, ◌⊎◌, inl, inr, ◌-◌}
 use Rattle.std.specs.Prelude.{Option, Some, None, is_some, IsSome}
 use Rattle.std.specs.List.{sum_by}
 use Rattle.std.proofs.Math.ListN.{set, length-set}
 use Rattle.std.proofs.lemmas.List.Sums.{sum_by_push}
 use Rattle.std.proofs.lemmas.Grind.{common_steps}
 use Rattle.record_pool.specs.PoolState.{Held, PoolState}
-use Rattle.record_pool.specs.Places.{place_at, record_at, with_place, IsHeld, one_more, one_less}
-use Rattle.record_pool.specs.Blocks.{blocks_at, blocks_of_all, blocks_in}
+use Rattle.record_pool.specs.Places.{place_at, record_at, with_place, IsHeld, holders_of, holders_at, given, one_more, one_less}
+use Rattle.record_pool.specs.Blocks.{blocks_at, blocks_of_all}
 use Rattle.record_pool.specs.Kept.{IsKept, vacancy, vacancy_at, times}
 use Rattle.record_pool.proofs.Places.{place_at-within, place_at-end, read_held, with_place-set, with_place-end, sum_by-with_place}
-use Rattle.record_pool.proofs.Records.{pool_of}
+use Rattle.record_pool.proofs.Records.{pool_of, written_held}
 
 -- 1 for a record
 abbrev pub held_one : Option Held → ℕ
@@ -52,6 +52,11 @@ vacancy_at-none [] p empty = absurd (omega arith)
 vacancy_at-none (None ∷ rest) zero empty = refl
 vacancy_at-none (Some held ∷ rest) zero empty = absurd (omega arith)
 vacancy_at-none (place ∷ rest) (suc p) empty = vacancy_at-none rest p empty
+
+-- past the last place none is empty
+vacancy_at-end : (places : List (Option Held)) → vacancy_at places (length places) ≡ 0
+vacancy_at-end [] = refl
+vacancy_at-end (place ∷ rest) = vacancy_at-end rest
 
 vacancy_at-le : (places : List (Option Held)) (p : ℕ) → vacancy_at places p ≤ 1
 vacancy_at-le [] p = omega arith
@@ -119,13 +124,13 @@ kept_filled places free next room p held kept e =
     (omega arith) (omega (arith, kept.room)))
 
 -- a place is added
-pub kept_added : (places : List (Option Held)) (free next : List ℕ) (room more : ℕ) (held : Held) → IsKept places free room → free ≡ [] → next ≡ free → length places + 1 ≤ more → IsKept (places ++ Some held ∷ []) next more
-kept_added places free next room more held kept e same fits =
+pub kept_added : (places : List (Option Held)) (free next : List ℕ) (room more : ℕ) (held : Held) → IsKept places free room → next ≡ free → length places + 1 ≤ more → IsKept (places ++ Some held ∷ []) next more
+kept_added places free next room more held kept same fits =
     let long : length (with_place places (length places) (Some held)) ≡ length places + 1 = ap length (with_place-end places (Some held)) ∙ length-append places (Some held ∷ []) in
     let none : held_one (place_at places (length places)) ≡ 0 = ap held_one (place_at-end places) in
     subst (λ (xs : List ℕ). IsKept (places ++ Some held ∷ []) xs more) (sym same)
     (subst (λ (xs : List (Option Held)). IsKept xs free more) (with_place-end places (Some held))
-    (kept_changed places free free room more (length places) (Some held) kept (omega arith) (ap (times (length places)) e) (λ q apart. refl) (omega arith) (omega arith)))
+    (kept_changed places free free room more (length places) (Some held) kept (omega arith) (kept.vacant (length places) ∙ vacancy_at-end places) (λ q apart. refl) (omega arith) (omega arith)))
 
 -- a record is changed, and stays
 pub kept_held : (places : List (Option Held)) (free : List ℕ) (room p : ℕ) (now : Option Held) → IsKept places free room → IsSome (place_at places p) → IsSome now → IsKept (set places p now) free room
@@ -150,21 +155,14 @@ kept_emptied places free room p kept held =
     (λ q apart. omega (arith, times-push p q free, only-other q p apart))
     (omega arith) (omega (arith, kept.room)))
 
-same_blocks : (b : Bool) (k : ℕ) (now was : Held) → Some now ≡ (if b then Some (record was { holders = k }) else None) → blocks_at (Some now) ≡ blocks_at (Some was)
-same_blocks true k now was e = ap blocks_at e
-same_blocks false k now was e = cc
+-- of more than one holder one less stays
+pub one_stays : (held : Held) → 1 < held.holders → one_less (Some held) ≡ Some (record held { holders = held.holders - 1 })
+one_stays held more = grind (arith, common_steps, more)
 
--- where blocks are freed, the record went
-pub freed_is_empty : (was now : Option Held) (freed : ℕ) → now ≡ one_less was → freed + blocks_at now ≡ blocks_at was → 0 < freed → now ≡ None
-freed_is_empty was None freed less counts some_freed = refl
-freed_is_empty None (Some now) freed less counts some_freed = cc
-freed_is_empty (Some was) (Some now) freed less counts some_freed = absurd (omega (arith, same_blocks (nat_lt 1 was.holders) (was.holders - 1) now was less))
-
--- where none are freed, it stayed
-pub kept_is_held : (was now : Option Held) (freed : ℕ) → IsSome was → freed + blocks_at now ≡ blocks_at was → freed ≤ 0 → IsSome now
-kept_is_held None now freed held counts none_freed = cc
-kept_is_held (Some was) None freed held counts none_freed = absurd (omega arith)
-kept_is_held (Some was) (Some now) freed held counts none_freed = refl
+-- one holder less of one at most leaves nothing
+pub last_goes : (place : Option Held) → holders_of place < 2 → one_less place ≡ None
+last_goes None few = refl
+last_goes (Some held) few = grind (arith, common_steps, few)
 
 -- the blocks after a record was changed
 pub blocks_changed : (places : List (Option Held)) (p : ℕ) (now : Option Held) → IsSome (place_at places p) → blocks_of_all (set places p now) + blocks_at (place_at places p) ≡ blocks_of_all places + blocks_at now
@@ -193,28 +191,37 @@ keeps_shared places nodes value free room blocks p q was now kept same_places sa
     let stays : IsSome now = subst IsSome (sym more) (one_more-held was (subst IsSome (sym is) here)) in
     (kept_held places free room p now kept.0 here stays, omega (arith, kept.1, blocks_changed places p now here, ap blocks_at is, ap blocks_at more, one_more-blocks was))
 
--- a held place was read, one holder less counted, and the place written: no blocks were freed
-pub keeps_given : (places : List (Option Held)) (nodes : ℕ) (value : PoolState) (free : List ℕ) (room blocks p q freed : ℕ) (was now : Option Held) → IsKept places free room × (blocks ≡ blocks_of_all places + nodes) → pool_of places nodes ≡ value → p ≡ q → IsHeld value q
-    → was ≡ get_or places p was → freed + blocks_at now ≡ blocks_at was → freed ≤ 0 → IsKept (set places p now) free room × (blocks ≡ blocks_of_all (set places p now) + nodes)
-keeps_given places nodes value free room blocks p q freed was now kept same_places same_place held read counts none_freed =
-    let here : IsSome (place_at places p) = held_here places nodes value p q same_places same_place held in
+-- a held place was read, one holder less of more than one counted, and the place written
+pub keeps_given : (places : List (Option Held)) (nodes : ℕ) (value : PoolState) (free : List ℕ) (room blocks p q : ℕ) (was now : Option Held) (held : Held) → IsKept places free room × (blocks ≡ blocks_of_all places + nodes) → pool_of places nodes ≡ value → p ≡ q → IsHeld value q
+    → was ≡ get_or places p was → was ≡ Some held → now ≡ Some (record held { holders = held.holders - 1 }) → IsKept (set places p now) free room × (blocks ≡ blocks_of_all (set places p now) + nodes)
+keeps_given places nodes value free room blocks p q was now held kept same_places same_place there read found less =
+    let here : IsSome (place_at places p) = held_here places nodes value p q same_places same_place there in
     let is : was ≡ place_at places p = read_held places p was here read in
-    let stays : IsSome now = kept_is_held was now freed (subst IsSome (sym is) here) counts none_freed in
-    (kept_held places free room p now kept.0 here stays, omega (arith, kept.1, blocks_changed places p now here, ap blocks_at is))
+    let stays : IsSome now = subst IsSome (sym less) refl in
+    (kept_held places free room p now kept.0 here stays, omega (arith, kept.1, blocks_changed places p now here, ap blocks_at is, ap blocks_at found, ap blocks_at less))
 
--- the same, where blocks were freed and the place was listed
-pub keeps_freed : (places : List (Option Held)) (nodes : ℕ) (value : PoolState) (free next : List ℕ) (room more blocks p q freed : ℕ) (was now : Option Held) → IsKept places free room × (blocks ≡ blocks_of_all places + nodes) → pool_of places nodes ≡ value → p ≡ q → IsHeld value q
-    → was ≡ get_or places p was → now ≡ one_less was → freed + blocks_at now ≡ blocks_at was → 0 < freed → next ≡ free ++ p ∷ [] → more ≡ room
+-- a held place was read and emptied, its blocks were freed, and the place was listed
+pub keeps_emptied : (places : List (Option Held)) (nodes : ℕ) (value : PoolState) (free next : List ℕ) (room more blocks p freed : ℕ) (was now : Option Held) → IsKept places free room × (blocks ≡ blocks_of_all places + nodes) → pool_of places nodes ≡ value → IsHeld value p
+    → was ≡ get_or places p was → now ≡ None → freed ≡ blocks_at was → next ≡ free ++ p ∷ [] → more ≡ room
     → IsKept (set places p now) next more × (blocks - freed ≡ blocks_of_all (set places p now) + nodes)
-keeps_freed places nodes value free next room more blocks p q freed was now kept same_places same_place held read less counts some_freed listed same_room =
-    let here : IsSome (place_at places p) = held_here places nodes value p q same_places same_place held in
+keeps_emptied places nodes value free next room more blocks p freed was now kept same_places held read empty counts listed same_room =
+    let here : IsSome (place_at places p) = held_here places nodes value p p same_places refl held in
     let is : was ≡ place_at places p = read_held places p was here read in
-    let empty : now ≡ None = freed_is_empty was now freed less counts some_freed in
     let kept_so : IsKept (set places p now) next room = subst (λ (xs : List ℕ). IsKept (set places p now) xs room) (sym listed)
     (subst (λ (x : Option Held). IsKept (set places p x) (free ++ p ∷ []) room) (sym empty) (kept_emptied places free room p kept.0 here)) in (
       subst (λ (n : ℕ). IsKept (set places p now) next n) (sym same_room) kept_so,
-      omega (arith, kept.1, blocks_changed places p now here, ap blocks_at is),
+      omega (arith, kept.1, blocks_changed places p now here, ap blocks_at is, ap blocks_at empty),
     )
+
+-- and of a record with one holder at most one holder is less then
+pub emptied_held : (places : List (Option Held)) (nodes : ℕ) (value : PoolState) (p : ℕ) (was now : Option Held) → pool_of places nodes ≡ value → IsHeld value p → holders_at value p < 2 → was ≡ get_or places p was → now ≡ None
+    → pool_of (set places p now) nodes ≡ given value p
+emptied_held places nodes value p was now same_places held few read empty =
+    let here : IsSome (place_at places p) = held_here places nodes value p p same_places refl held in
+    let is : was ≡ place_at places p = read_held places p was here read in
+    let same : place_at places p ≡ record_at value p = ap (λ (pool : PoolState). record_at pool p) same_places in
+    let less : now ≡ one_less was = empty ∙ sym (ap one_less (is ∙ same) ∙ last_goes (record_at value p) few) in
+    written_held one_less places nodes value p p was now same_places refl held read less
 
 -- the blocks after a record was put at an empty place
 pub blocks_put : (places after : List (Option Held)) (p : ℕ) (held : Held) → place_at places p ≡ None → after ≡ with_place places p (Some held) → blocks_of_all after ≡ blocks_of_all places + blocks_at (Some held)

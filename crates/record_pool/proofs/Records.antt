@@ -1,8 +1,7 @@
 -- What a change of one record does to the pool.
-use Rattle.std.proofs.Common.{◌≡◌, ◌≢◌, ℕ, zero, suc, List, [], ◌∷◌, get_or, refl, ap, sym, ◌∙◌, subst, arith, ◌+◌}
+use Rattle.std.proofs.Common.{◌≡◌, ◌≢◌, ℕ, zero, suc, List, [], ◌∷◌, get_or, refl, ap, sym, ◌∙◌, subst, arith}
 use Rattle.std.proofs.Math.ListN.{set}
-use Rattle.std.specs.Prelude.{Option, Some, None, IsSome}
-use Rattle.std.specs.List.{sum_by}
+use Rattle.std.specs.Prelude.{Option, None, IsSome}
 use Rattle.std.proofs.lemmas.List.Sums.{sum_by-cons}
 use Rattle.record_pool.specs.PoolState.{Held, PoolState}
 use Rattle.record_pool.specs.Places.{place_at, record_at, with_record, IsHeld, OthersStay}

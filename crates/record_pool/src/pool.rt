@@ -1,13 +1,13 @@
 ghost use Rattle.std.specs.Prelude.{◌≡◌, ◌+◌, ◌<◌, ◌≤◌, [], Some, None, IsSome, IfOk, OnErr, length, vec_capacity};
 ghost use Rattle.record_pool.specs.PoolState.{empty_pool};
 ghost use Rattle.record_pool.specs.Places.{place_at, record_at, IsHeld, holders_of, holders_at, bytes_at, with_place, with_record, shared, given, one_more, one_less, fresh, OthersStay};
-ghost use Rattle.record_pool.specs.Blocks.{blocks_of, blocks_at, blocks_in};
+ghost use Rattle.record_pool.specs.Blocks.{blocks_of, blocks_in};
 ghost use Rattle.record_pool.specs.Kept.{IsKept};
 
 use pipe_model::{NoMemory, Rec};
 use std::alloc::Global;
 use std::marker::Model;
-use std::mem;
+use std::mem::{self, ManuallyDrop};
 
 /// One hold on a record, seen as the number of the record's place. It is used only with the pool that made it, and
 /// is given back to it.
@@ -92,6 +92,7 @@ impl Pool {
 
     /// Takes a record into the pool, at a place that was empty, and doesn't copy it: an empty one is left for it, after
     /// want of memory too. It wants memory too where the count of blocks would pass 64 bits.
+    #[inline(always)]
     pub fn take_in(&mut self, rec: &mut Rec) -> Result<Grip, NoMemory>
         ensures vacant { IfOk result (λ grip. record_at self.old grip ≡ None) }
         ensures held { IfOk result (λ grip. record_at self.new grip ≡ Some (fresh rec.old)) }
@@ -128,6 +129,7 @@ impl Pool {
 
     /// Gives a hold back. With the last one the record goes, its place is empty, and its memory is freed. It takes no
     /// memory.
+    #[inline(always)]
     pub fn give(&mut self, grip: Grip)
         requires { IsHeld self.old grip }
         ensures less { record_at self.new grip ≡ one_less (record_at self.old grip) }
@@ -135,11 +137,24 @@ impl Pool {
         ensures given { self.new ≡ given self.old grip }
     {
         let Grip { place } = grip;
-        let freed = let_go(&mut self.places[place]);
-        if freed > 0 {
-            self.blocks -= freed;
-            self.free.push_reserved(place);
+        match &mut self.places[place] {
+            Some(held) if held.holders > 1 => held.holders -= 1,
+            _ => self.empty(place),
         }
+    }
+
+    // Empties a place whose record has one holder at most, which gives it back.
+    #[inline(never)]
+    fn empty(&mut self, place: usize)
+        requires held { IsHeld self.old place }
+        requires last { holders_at self.old place < 2 }
+        ensures { self.new ≡ given self.old place }
+    {
+        let Some(held) = mem::replace(&mut self.places[place], None) else {
+            return;
+        };
+        self.blocks -= count_blocks(held.bytes.bytes().len());
+        self.free.push_reserved(place);
     }
 
     /// The number of bytes of the record.
@@ -197,10 +212,15 @@ impl Pool {
 fn count_blocks(len: usize) -> u64
     ensures { result ≡ blocks_of len }
 {
-    len.div_ceil(256).max(1) as u64
+    if len <= 256 {
+        1
+    } else {
+        len.div_ceil(256) as u64
+    }
 }
 
 // Puts the record at an empty place, or at a new one where none is empty.
+#[inline(always)]
 fn fill(
     places: &mut Vec<Option<Stored>>,
     free: &mut Vec<usize>,
@@ -213,9 +233,27 @@ fn fill(
     ensures err { OnErr result (places.new.items ≡ places.old.items) }
 {
     if let Some(place) = free.pop() {
-        places[place] = Some(held);
+        // Nothing was there that might be let go.
+        ManuallyDrop::new(mem::replace(&mut places[place], Some(held)));
         return Ok(place);
     }
+    fill_new(places, free, held)
+}
+
+// Puts the record at a new place.
+#[cold]
+#[inline(never)]
+fn fill_new(
+    places: &mut Vec<Option<Stored>>,
+    free: &mut Vec<usize>,
+    held: Stored,
+) -> Result<usize, NoMemory>
+    requires { IsKept places.old.items free.old.items (vec_capacity free.old) }
+    ensures kept { IsKept places.new.items free.new.items (vec_capacity free.new) }
+    ensures vacant { IfOk result (λ place. place_at places.old.items place ≡ None) }
+    ensures put { IfOk result (λ place. places.new.items ≡ with_place places.old.items place (Some held)) }
+    ensures err { OnErr result (places.new.items ≡ places.old.items) }
+{
     let place = places.len();
     free.reserve(place + 1)?;
     places.push(Some(held))?;
@@ -231,21 +269,4 @@ fn add_holder(place: &mut Option<Stored>)
     if let Some(held) = place {
         held.holders += 1;
     }
-}
-
-// Counts one holder less, and empties the place where it was the last. Answers how many blocks that freed.
-fn let_go(place: &mut Option<Stored>) -> u64
-    ensures after { place.new ≡ one_less place.old }
-    ensures freed { result + blocks_at place.new ≡ blocks_at place.old }
-{
-    let Some(held) = place else {
-        return 0;
-    };
-    if held.holders > 1 {
-        held.holders -= 1;
-        return 0;
-    }
-    let freed = count_blocks(held.bytes.bytes().len());
-    *place = None;
-    freed
 }

@@ -1,7 +1,10 @@
-use Rattle.std.proofs.Common.{◌≡◌, ◌+◌, ◌<◌, ◌≤◌, [], length, vec_capacity, arith, sym, rules}
-use Rattle.std.proofs.lemmas.Grind.{common_steps}
-use Rattle.record_pool.proofs.Places.{with_place-set, with_place-end}
-use Rattle.record_pool.proofs.Keeps.{last_is_vacant, kept_filled, kept_added, vacancy_at-within, vacancy_at-none}
+use Rattle.std.proofs.Common.{◌<◌, length, vec_capacity, sym, ◌∙◌, ap, subst, rules, ℕ}
+use Rattle.std.proofs.Math.ListN.{set}
+use Rattle.std.specs.Prelude.{Option}
+use Rattle.record_pool.specs.PoolState.{Held}
+use Rattle.record_pool.specs.Kept.{IsKept}
+use Rattle.record_pool.proofs.Places.{with_place-set}
+use Rattle.record_pool.proofs.Keeps.{last_is_vacant, kept_filled, vacancy_at-within, vacancy_at-none}
 use Rattle.record_pool.proofs.pool.fill.Goals as goal
 
 pub index_mut-requires : goal.index_mut-requires
@@ -10,22 +13,18 @@ index_mut-requires c =
     search (rules, within)
 
 pub returns-in-Some-clause-kept : goal.returns-in-Some-clause-kept
-returns-in-Some-clause-kept c = rw c.in-Some.ensures.capacity (kept_filled _ _ _ _ _ _ c.requires c.in-Some.ensures.items)
+returns-in-Some-clause-kept c =
+    let places = c.args.places.now.items in
+    let place = c.in-Some.place in
+    let filled = kept_filled _ _ _ _ _ c.args.held c.requires c.in-Some.ensures.items in
+    subst (λ (room : ℕ). IsKept (set places place c.replace.new.dest) c.pop.new.self.items room) (sym c.in-Some.ensures.capacity)
+    (subst (λ (now : Option Held). IsKept (set places place now) c.pop.new.self.items (vec_capacity c.args.free.now)) (sym c.replace.ensures.after) filled)
 
 pub returns-in-Some-clause-vacant : goal.returns-in-Some-clause-vacant
 returns-in-Some-clause-vacant c = vacancy_at-none c.args.places.now.items c.in-Some.place (last_is_vacant _ _ _ _ _ c.requires c.in-Some.ensures.items)
 
 pub returns-in-Some-clause-put : goal.returns-in-Some-clause-put
-returns-in-Some-clause-put c = sym (with_place-set _ _ _ (vacancy_at-within _ _ (last_is_vacant _ _ _ _ _ c.requires c.in-Some.ensures.items)))
-
-pub returns-clause-kept : goal.returns-clause-kept
-returns-clause-kept c =
-    let none : c.args.free.now.items ≡ [] = grind (arith, common_steps) in
-    let same : c.reserve.new.self.items ≡ c.args.free.now.items = grind (arith, common_steps) in
-    let fits : length c.args.places.now.items + 1 ≤ vec_capacity c.reserve.new.self = search rules in
-    rw c.in_ok-push.ensures.items (kept_added _ _ _ _ _ _ c.requires none same fits)
-
-pub returns-clause-put : goal.returns-clause-put
-returns-clause-put c =
-    let at : c.len-place.result ≡ length c.args.places.now.items = search rules in
-    rw (c.in_ok-push.ensures.items, at) (sym (with_place-end _ _))
+returns-in-Some-clause-put c =
+    let places = c.args.places.now.items in
+    let place = c.in-Some.place in
+    ap (set places place) c.replace.ensures.after ∙ sym (with_place-set _ _ _ (vacancy_at-within _ _ (last_is_vacant _ _ _ _ _ c.requires c.in-Some.ensures.items)))
