@@ -45,13 +45,6 @@ module _ {L : Type 0} (stands : L → Bool → Stream → Records → List Act �
       (record { stood = told.stood; answer = told.answer; seen_is = told.seen_is; bytes_are = told.bytes_are; room = told.room })
       refl refl refl (heard _ can can.0) (refl, refl, refl, refl)
 
-  told_so : (v : Walk) → IsGoingOn stands x w v true → Resumed v
-  told_so v on = subst Resumed (sym on.1) (resumed on.0)
-
-  -- where it says so, it did what it does when it is told that the record was taken
-  pub goes : (v : Walk) (b : Bool) → IsGoingOn stands x w v b → b ≡ true → Resumed v
-  goes v b on says = told_so v (subst (IsGoingOn stands x w v) says on)
-
-  -- else nothing changed
-  pub stays : (v : Walk) (b : Bool) → IsGoingOn stands x w v b → b ≡ false → with_walk v ≡ with_walk w
-  stays v b on says = ap with_walk (subst (IsGoingOn stands x w v) says on)
+  -- where it goes on, it did what it does when it is told that the record was taken
+  pub goes : (v : Walk) → IsGoingOn stands x w v true → Resumed v
+  goes v on = subst Resumed (sym on.1) (resumed on.0)

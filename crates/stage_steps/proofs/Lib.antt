@@ -6,12 +6,16 @@ pub mod Fitting
 pub mod Flags
 pub mod GoingOn
 pub mod Groups
+pub mod HandingOn
 pub mod Lanes
 pub mod Lasts
 pub mod Passing
 pub mod PassingOn
 pub mod Planning
+pub mod Replying
 pub mod Searching
+pub mod Sifting
+pub mod SiftingEach
 pub mod Sources
 pub mod Starts
 pub mod Steps

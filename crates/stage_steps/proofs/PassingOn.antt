@@ -177,7 +177,7 @@ module _ {L : Type 0} (stands : L → Bool → Stream → Records → List Act �
   )
 
   -- where it says so, it passes the record on
-  told_so : (v : Walk) → IsPassing stands x w v true → PassesOn Stood (with_walk v)
+  pub told_so : (v : Walk) → IsPassing stands x w v true → PassesOn Stood (with_walk v)
   told_so v on = subst (λ u. PassesOn Stood (with_walk u)) (sym on.1) (passes_all on.0)
 
   pub passes_on : (v : Walk) (b : Bool) → IsPassing stands x w v b → b ≡ true → PassesOn Stood (with_walk v)

@@ -14,6 +14,7 @@ pub mod Places
 pub mod Planned
 pub mod Planning
 pub mod Plans
+pub mod Replies
 pub mod SharedLists
 pub mod Strings
 pub mod Waiting

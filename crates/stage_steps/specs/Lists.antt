@@ -4,7 +4,11 @@ use Rattle.std.specs.declared.option.Option.{Option}
 use Rattle.std.specs.declared.option.Option.TheVariants.{Some, None}
 use Rattle.pipe_model.specs.Row.{Act}
 use Rattle.pipe_model.specs.Shape.{Records, Outs, Stream, each_record, writes, acts_of, last_pairs, at_hand_of}
+use Rattle.pipe_model.specs.declared.kind.Times.TheVariants.{Only}
 use Rattle.stage_steps.specs.declared.group.Group.{Group}
+use Rattle.stage_steps.specs.declared.group.Group.TheVariants.{AtHand}
+use Rattle.stage_steps.specs.declared.sifted.Sifted.{Sifted}
+use Rattle.stage_steps.specs.declared.sifted.Sifted.TheVariants.{Drops, Passes, Gives}
 use Rattle.stage_steps.specs.Group.{group_acts, IsHeld, IsOfRecord}
 
 -- it gives the pairs at the start
@@ -46,6 +50,20 @@ Tells stands x a f = (over : Bool) (t : Stream) (recs : Records) (acts : List Ac
 abbrev pub TellsAtEnd : {L A : Type 0} → (L → Bool → Stream → Records → List Act → Type 0) → L → A → (Stream → Records → A) → Type 0
 TellsAtEnd stands x a f = (over : Bool) (t : Stream) (recs : Records) (acts : List Act) → stands x over t recs acts → (over || (t.stops recs || t.halts recs)) ≡ true → a ≡ f t recs
 
+-- nothing is left to write, and the stream goes on after the records so far
+abbrev pub GoesOn : {L : Type 0} → (L → Bool → Stream → Records → List Act → Type 0) → L → Type 0
+GoesOn stands x = IsSpent stands x × Tells stands x false (λ t recs. t.halts recs)
+
+-- the record at hand, once
+abbrev pub once : ℕ → Group
+once output = AtHand (record { output = output; times = Only 1 })
+
+-- it gives the pairs of one more record, and has given them where they are none, or the record itself, once
+abbrev pub Sifts : {L : Type 0} → (L → Bool → Stream → Records → List Act → Type 0) → (L → Option (List ℕ)) → Bool → L → L → List ℕ → Sifted → Type 0
+Sifts {L} stands made looks x y bytes Drops = (between : L) × Sees stands looks x between bytes × GivesNext stands made between y None × GoesOn stands y
+Sifts {L} stands made looks x y bytes (Passes output) = (between : L) × Sees stands looks x between bytes × GivesNext stands made between y (Some (once output)) × GoesOn stands y
+Sifts stands made looks x y bytes Gives = Sees stands looks x y bytes
+
 -- Where pairs are written for each record alone, and nothing ends the stage
 
 abbrev pub of_each : Outs → Stream
@@ -59,3 +77,13 @@ always stands x over t recs acts = stands x t recs acts
 abbrev pub SeesEach : {E : Type 0} → (E → Outs → Records → List Act → Type 0) → Bool → E → E → List ℕ → Type 0
 SeesEach stands looks x y bytes = (outs : Outs) (recs : Records) (rec : List ℕ) →
     stands x outs recs [] → length recs < 50000000 → (looks ≡ true → bytes ≡ rec) → stands y outs (recs ++ rec ∷ []) (acts_of outs (recs ++ rec ∷ []))
+
+-- nothing is left to write
+abbrev pub IsEmpty : {E : Type 0} → (E → Outs → Records → List Act → Type 0) → E → Type 0
+IsEmpty stands x = (outs : Outs) (recs : Records) (acts : List Act) → stands x outs recs acts → acts ≡ []
+
+-- the same as Sifts for such a stage
+abbrev pub SiftsEach : {E : Type 0} → (E → Outs → Records → List Act → Type 0) → (E → Option (List ℕ)) → Bool → E → E → List ℕ → Sifted → Type 0
+SiftsEach {E} stands made looks x y bytes Drops = (between : E) × SeesEach stands looks x between bytes × GivesNext (always stands) made between y None × IsEmpty stands y
+SiftsEach {E} stands made looks x y bytes (Passes output) = (between : E) × SeesEach stands looks x between bytes × GivesNext (always stands) made between y (Some (once output)) × IsEmpty stands y
+SiftsEach stands made looks x y bytes Gives = SeesEach stands looks x y bytes

@@ -8,6 +8,7 @@ use Rattle.pipe_model.specs.declared.step.Seen.{Seen}
 use Rattle.pipe_model.specs.declared.step.Seen.TheVariants.{Up, Saw, SawEnd, Took, Put, Refused, Ended}
 use Rattle.pipe_model.specs.declared.step.Want.{Want}
 use Rattle.pipe_model.specs.declared.step.Want.TheVariants.{Write}
+use Rattle.pipe_model.specs.declared.step.Want.TheVariants.{Take as Consumes}
 use Rattle.pipe_model.specs.Row.{Act}
 use Rattle.pipe_model.specs.Shape.{Records, Stream, at_hand_of}
 use Rattle.stage_steps.specs.declared.group.Group.{Group}
@@ -19,6 +20,8 @@ use Rattle.stage_steps.specs.declared.place.Follow.{Follow}
 use Rattle.stage_steps.specs.declared.place.Follow.TheVariants.{Take, Look, End}
 use Rattle.stage_steps.specs.declared.place.Place.{Place}
 use Rattle.stage_steps.specs.declared.place.Place.TheVariants.{Starting, Committing, Looking, Writing, Taking, Passing, Ending}
+use Rattle.stage_steps.specs.declared.reply.Reply.{Reply}
+use Rattle.stage_steps.specs.declared.reply.Reply.TheVariants as Reply
 use Rattle.stage_steps.specs.declared.walk.Walk.{Walk}
 use Rattle.stage_steps.specs.Group.{group_acts, held_acts, is_due, less_one, IsHeld, IsOfRecord, IsLeftOfRecord}
 use Rattle.stage_steps.specs.Kept.{kept_after}
@@ -92,3 +95,20 @@ Turns stands made follow y None z hand place asked = (z ≡ y) × (hand ≡ None
 abbrev pub Asks : {L : Type 0} → (L → Bool → Stream → Records → List Act → Type 0) → (L → Option (List ℕ)) → List Bool → L → Option Repeat → Place → L → Option Repeat → Place → Want → Type 0
 Asks {L} stands made flags x hand (Writing follow) z hand' place asked = (y : L) × (given : Option Group) × Fetches stands made flags x hand y given × Turns stands made follow y given z hand' place asked
 Asks stands made flags x hand from z hand' place asked = (z ≡ x) × (hand' ≡ hand) × (place ≡ from) × (asked ≡ want_at from)
+
+-- it looks at the next record, writes the pairs of a record before it takes that, and has nothing in hand
+abbrev pub LooksPlainly : Walk → Type 0
+LooksPlainly w = ((w.place ≡ Looking) ⊎ (w.place ≡ Passing)) × (w.hand ≡ None) × (w.order ≡ WritesFirst)
+
+-- the answer where it wants this after the sight of a record: where it takes that, and goes on, it has done both; else it left what it wants
+abbrev pub IsReply : {L : Type 0} → (L → Bool → Stream → Records → List Act → Type 0) → L → Walk → Want → Walk → Want → Reply → Type 0
+IsReply stands x w want v asked Reply.Takes = (want ≡ Consumes 0) × IsGoingOn stands x w v true
+IsReply stands x w want v asked Reply.Passes = (asked ≡ want) × IsPassing stands x w v true
+IsReply stands x w want v asked Reply.Asks = (asked ≡ want) × (v ≡ w)
+
+-- the answer to the sight of a record, where it looks plainly at it: the lists give its pairs, the first of them is asked for, or the record is taken
+abbrev pub SiftsOn : {L : Type 0} → (L → Bool → Stream → Records → List Act → Type 0) → (L → Option (List ℕ)) → Bool → L → Walk → List ℕ → L → Walk → Want → Reply → Type 0
+SiftsOn {L} stands made looks x w bytes y v asked reply =
+    (between : L) × (from : Place) × (hand : Option Repeat) × (place : Place) × (want : Want)
+    × Sees stands looks x between bytes × Tells stands between from (sight_place w.order) × Asks stands made w.outputs.flags.items between w.hand from y hand place want
+    × IsReply stands y (record w { place = place; hand = hand }) want v asked reply

@@ -1,3 +1,4 @@
+use crate::reply::Reply;
 use crate::stage::Stage;
 use pipe_model::{NoMemory, Seen, Want};
 use std::alloc::Global;
@@ -15,8 +16,14 @@ impl<T: Stage> Stage for Box<T> {
         (**self).resume(alloc, seen, bytes)
     }
 
-    fn goes_on(&mut self) -> bool {
-        (**self).goes_on()
+    #[inline(always)]
+    fn see(&mut self, alloc: Global, bytes: &[u8], asked: &mut Want) -> Result<Reply, NoMemory> {
+        (**self).see(alloc, bytes, asked)
+    }
+
+    #[inline(always)]
+    fn put(&mut self, alloc: Global, o: u16, asked: &mut Want) -> Result<(), NoMemory> {
+        (**self).put(alloc, o, asked)
     }
 
     fn passes(&mut self) -> bool {

@@ -1,5 +1,6 @@
 use crate::each::{Each, EachRecord};
 use crate::group::Group;
+use crate::sifted::Sifted;
 use crate::waiting::take_waiting;
 use pipe_model::{NoMemory, Rec};
 use std::alloc::Global;
@@ -43,6 +44,12 @@ impl EachRecord for Copies {
     fn see(&mut self, _alloc: Global, _bytes: &[u8]) -> Result<(), NoMemory> {
         self.waiting = Some(0);
         Ok(())
+    }
+
+    #[inline(always)]
+    fn sift(&mut self, _alloc: Global, _bytes: &[u8]) -> Result<Sifted, NoMemory> {
+        self.waiting = None;
+        Ok(Sifted::Passes(0))
     }
 
     #[inline(always)]

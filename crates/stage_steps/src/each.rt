@@ -1,10 +1,11 @@
 ghost use Rattle.std.specs.Prelude.{◌≡◌, ◌<◌, ℕ, List, [], Bool, true, IfOk, IfSome, Option, None};
 ghost use Rattle.pipe_model.specs.Row.{Act};
 ghost use Rattle.pipe_model.specs.Shape.{Records, Outs};
-ghost use Rattle.stage_steps.specs.Lists.{SeesEach, GivesNext, HandsOver, always};
+ghost use Rattle.stage_steps.specs.Lists.{SeesEach, SiftsEach, IsEmpty, GivesNext, HandsOver, always};
 
 use crate::group::Group;
 use crate::lists::Lists;
+use crate::sifted::Sifted;
 use pipe_model::{NoMemory, Rec};
 use std::alloc::Global;
 
@@ -29,6 +30,17 @@ pub trait EachRecord: Sized + Drop {
         ensures looks_same { is_looking self.new ≡ is_looking self.old }
         ensures sees { IfOk result (λ _. SeesEach stands (is_looking self.old) self.old self.new bytes.now) };
 
+    /// Gives the pairs of one more record as `see` does. Where they are the record itself, once, or none, it may say so, and
+    /// has given them. The answer may always be `Gives`.
+    #[inline(always)]
+    fn sift(&mut self, alloc: Global, bytes: &[u8]) -> Result<Sifted, NoMemory>
+        ensures looks_same { is_looking self.new ≡ is_looking self.old }
+        ensures sifts { IfOk result (λ sifted. SiftsEach stands made (is_looking self.old) self.old self.new bytes.now sifted) }
+    {
+        self.see(alloc, bytes)?;
+        Ok(Sifted::Gives)
+    }
+
     /// The next group of the list, or None where nothing is left.
     fn next(&mut self) -> Option<Group>
         ensures looks_same { is_looking self.new ≡ is_looking self.old }
@@ -42,7 +54,7 @@ pub trait EachRecord: Sized + Drop {
 
     /// Whether nothing is left of the list. The answer may always be `false`.
     fn is_spent(&self) -> bool
-        ensures { result ≡ true → (outs : Outs) (recs : Records) (acts : List Act) → stands self.now outs recs acts → acts ≡ [] }
+        ensures { result ≡ true → IsEmpty stands self.now }
     {
         false
     }
@@ -74,6 +86,11 @@ impl<E: EachRecord> Lists for Each<E> {
     #[inline(always)]
     fn see(&mut self, alloc: Global, bytes: &[u8]) -> Result<(), NoMemory> {
         self.each.see(alloc, bytes)
+    }
+
+    #[inline(always)]
+    fn sift(&mut self, alloc: Global, bytes: &[u8]) -> Result<Sifted, NoMemory> {
+        self.each.sift(alloc, bytes)
     }
 
     fn end(&mut self, _alloc: Global) -> Result<(), NoMemory> {

@@ -76,16 +76,24 @@ pub(crate) fn note_taken(kept: &mut Option<Kept>)
     }
 }
 
+// What is kept when a record is seen, where something is.
+#[inline(always)]
+pub(crate) fn note_seen(kept: &mut Option<Kept>, bytes: &[u8]) -> Result<(), NoMemory>
+    ensures { IfOk result (λ _. kept.new ≡ option_map (kept_after (Seen.Saw 0) bytes.now) kept.old) }
+{
+    match kept {
+        Some(kept) => kept.add(bytes),
+        None => Ok(()),
+    }
+}
+
 // What is kept after an event, where something is.
 #[inline(always)]
 pub(crate) fn note_kept(kept: &mut Option<Kept>, seen: Seen, bytes: &[u8]) -> Result<(), NoMemory>
     ensures { IfOk result (λ _. kept.new ≡ option_map (kept_after seen bytes.now) kept.old) }
 {
     match seen {
-        Seen::Saw(_) => match kept {
-            Some(kept) => kept.add(bytes),
-            None => Ok(()),
-        },
+        Seen::Saw(_) => note_seen(kept, bytes),
         Seen::Took(_) => {
             note_taken(kept);
             Ok(())

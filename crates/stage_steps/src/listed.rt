@@ -1,10 +1,11 @@
-use crate::kept::{kept_if, note_kept};
+use crate::kept::{kept_if, note_kept, note_seen};
 use crate::lists::Lists;
 use crate::order::Order;
 use crate::outputs::Outputs;
 use crate::place::Place;
+use crate::reply::Reply;
 use crate::stage::Stage;
-use crate::walk::{Walk, ask, goes_on, hear, passes};
+use crate::walk::{Walk, ask, hear, looks_plainly, passes, reply, sift};
 use pipe_model::{NoMemory, Seen, Want};
 use std::alloc::Global;
 
@@ -67,8 +68,13 @@ impl<L: Lists> Stage for Listed<L> {
     }
 
     #[inline(always)]
-    fn goes_on(&mut self) -> bool {
-        goes_on(&self.lists, &mut self.walk)
+    fn see(&mut self, alloc: Global, bytes: &[u8], asked: &mut Want) -> Result<Reply, NoMemory> {
+        if !looks_plainly(&self.walk) {
+            let want = self.resume(alloc, Seen::Saw(0), bytes)?;
+            return Ok(reply(&self.lists, &mut self.walk, want, asked));
+        }
+        note_seen(&mut self.walk.kept, bytes)?;
+        sift(&mut self.lists, &mut self.walk, alloc, bytes, asked)
     }
 
     #[inline(always)]

@@ -1,9 +1,10 @@
 ghost use Rattle.std.specs.Prelude.{◌≡◌, ◌<◌, ℕ, List, [], Bool, true, IfOk, IfSome, Option};
 ghost use Rattle.pipe_model.specs.Row.{Act};
 ghost use Rattle.pipe_model.specs.Shape.{Records, Stream};
-ghost use Rattle.stage_steps.specs.Lists.{Begins, Sees, Finishes, GivesNext, HandsOver, IsSpent, Tells, TellsAtEnd};
+ghost use Rattle.stage_steps.specs.Lists.{Begins, Sees, Finishes, GivesNext, HandsOver, IsSpent, Tells, TellsAtEnd, Sifts};
 
 use crate::group::Group;
+use crate::sifted::Sifted;
 use pipe_model::{NoMemory, Rec};
 use std::alloc::Global;
 
@@ -32,6 +33,17 @@ pub trait Lists: Sized + Drop {
     fn see(&mut self, alloc: Global, bytes: &[u8]) -> Result<(), NoMemory>
         ensures looks_same { is_looking self.new ≡ is_looking self.old }
         ensures sees { IfOk result (λ _. Sees stands (is_looking self.old) self.old self.new bytes.now) };
+
+    /// Sees one more record as `see` does. Where all that it gives for it is the record itself, once, or nothing, it may say
+    /// so, and has given it. The answer may always be `Gives`.
+    #[inline(always)]
+    fn sift(&mut self, alloc: Global, bytes: &[u8]) -> Result<Sifted, NoMemory>
+        ensures looks_same { is_looking self.new ≡ is_looking self.old }
+        ensures sifts { IfOk result (λ sifted. Sifts stands made (is_looking self.old) self.old self.new bytes.now sifted) }
+    {
+        self.see(alloc, bytes)?;
+        Ok(Sifted::Gives)
+    }
 
     /// Gives the pairs at the end of input. It is told of no record from then on.
     fn end(&mut self, alloc: Global) -> Result<(), NoMemory>

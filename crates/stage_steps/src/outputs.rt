@@ -36,7 +36,7 @@ impl Outputs {
 
     // Whether this output is open.
     #[inline(always)]
-    fn is_open(&self, output: u16) -> bool
+    pub(crate) fn is_open(&self, output: u16) -> bool
         ensures { result ≡ flag_at self.now.flags.items output }
     {
         match self.flags.get(output as usize) {

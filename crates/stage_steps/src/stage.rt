@@ -5,7 +5,9 @@ ghost use Rattle.pipe_model.specs.Next.{next};
 ghost use Rattle.pipe_model.specs.Table.{form};
 ghost use Rattle.stage_steps.specs.Coroutine.{meaning, last_seen, kept_by, CanResume, Resumes};
 ghost use Rattle.stage_steps.specs.PassesOn.{PassesOn};
+ghost use Rattle.stage_steps.specs.Replies.{CanSee, Replies};
 
+use crate::reply::{Reply, leave};
 use pipe_model::{NoMemory, Seen, Want};
 use std::alloc::Global;
 
@@ -25,15 +27,32 @@ pub trait Stage: Sized + Drop {
         requires { CanResume stands self.old seen bytes.now }
         ensures { IfOk result (λ asked. Resumes stands self.old self.new seen bytes.now asked) };
 
-    /// Tells it that the record of input 0, which it asked to take, was taken, where all that it does then is to look at
-    /// the next one there: the answer is whether it does. Else nothing changes, and `resume` has to tell it. The answer may
-    /// always be `false`.
-    fn goes_on(&mut self) -> bool
-        requires { CanResume stands self.old (Seen.Took 0) [] }
-        ensures goes { result ≡ true → Resumes stands self.old self.new (Seen.Took 0) [] (Want.Read 0) }
-        ensures stays { result ≡ false → self.new ≡ self.old }
+    /// Tells it that it saw a record on input 0, as `resume` by `Saw(0)` does, and where it takes that, all at once, that the
+    /// record was taken. Otherwise what it wants is left in `asked`, which may hold anything else, and after want of memory.
+    #[inline(always)]
+    fn see(&mut self, alloc: Global, bytes: &[u8], asked: &mut Want) -> Result<Reply, NoMemory>
+        requires { CanSee stands self.old 0 bytes.now }
+        ensures { IfOk result (λ reply. Replies stands self.old self.new bytes.now asked.new reply) }
     {
-        false
+        let want = self.resume(alloc, Seen::Saw(0), bytes)?;
+        leave(asked, want);
+        if self.passes() {
+            Ok(Reply::Passes)
+        } else {
+            Ok(Reply::Asks)
+        }
+    }
+
+    /// Tells it that the record which it wrote on an output was put, as `resume` by `Put(o)` does, and leaves what it wants
+    /// then in `asked`, which may hold anything after want of memory.
+    #[inline(always)]
+    fn put(&mut self, alloc: Global, o: u16, asked: &mut Want) -> Result<(), NoMemory>
+        requires { CanResume stands self.old (Seen.Put o) [] }
+        ensures { IfOk result (λ _. Resumes stands self.old self.new (Seen.Put o) [] asked.new) }
+    {
+        let want = self.resume(alloc, Seen::Put(o), &[])?;
+        leave(asked, want);
+        Ok(())
     }
 
     /// Whether it passes on the record that it saw last: once it has put one it takes the record of input 0, and once it took

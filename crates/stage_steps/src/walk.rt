@@ -1,11 +1,14 @@
-ghost use Rattle.std.specs.Prelude.{◌≡◌, ◌&&◌, true, None, IfOk, is_none, pos};
+ghost use Rattle.std.specs.Prelude.{◌≡◌, ◌&&◌, [], true, None, IfOk, is_none, option_map, pos};
 ghost use Rattle.std.specs.Ordering.{int_eq};
 ghost use Rattle.stage_steps.specs.declared.place.Place.TheVariants.{Writing};
 ghost use Rattle.stage_steps.specs.Outputs.{none_left};
 ghost use Rattle.stage_steps.specs.Group.{less, less_one, IsHeld};
 ghost use Rattle.stage_steps.specs.Places.{look_place, sight_place, taken_place};
 ghost use Rattle.stage_steps.specs.Lists.{Tells};
-ghost use Rattle.stage_steps.specs.Walk.{IsBegun, Hears, CanPass, IsPassing, CanGoOn, IsGoingOn, Fetches, Puts, Asks, TellsBehind};
+ghost use Rattle.stage_steps.specs.Walk.{IsBegun, Hears, CanPass, IsPassing, CanGoOn, IsGoingOn, Fetches, Puts, Asks, TellsBehind, LooksPlainly, IsReply, SiftsOn};
+ghost use Rattle.stage_steps.specs.Kept.{kept_after};
+ghost use Rattle.stage_steps.specs.declared.place.Place.TheVariants.{Looking};
+ghost use Rattle.stage_steps.specs.declared.reply.Reply.TheVariants.{Takes};
 
 use crate::group::{Group, Repeat};
 use crate::kept::{Kept, note_taken};
@@ -13,6 +16,8 @@ use crate::lists::Lists;
 use crate::order::Order;
 use crate::outputs::Outputs;
 use crate::place::{Follow, Place, want_at};
+use crate::reply::{Reply, leave};
+use crate::sifted::Sifted;
 use pipe_model::{NoMemory, Out, Seen, Times, Want};
 use std::alloc::Global;
 
@@ -336,6 +341,78 @@ pub(crate) fn ask<L: Lists>(
         _ => {
             walk.place = place;
             Ok(want_at(place))
+        }
+    }
+}
+
+// Whether it looks at the next record, writes the pairs of a record before it takes that, and has nothing in hand.
+#[inline(always)]
+pub(crate) fn looks_plainly(walk: &Walk) -> bool
+    ensures { result ≡ true → LooksPlainly walk.now }
+{
+    matches!(walk.place, Place::Looking | Place::Passing)
+        && matches!(walk.order, Order::WritesFirst)
+        && walk.hand.is_none()
+}
+
+// The answer to the sight of a record, after which it wants this.
+#[inline(always)]
+pub(crate) fn reply<L: Lists>(lists: &L, walk: &mut Walk, want: Want, asked: &mut Want) -> Reply
+    ensures { IsReply L.stands lists.now walk.old want walk.new asked.new result }
+{
+    if matches!(want, Want::Take(0)) && goes_on(lists, walk) {
+        return Reply::Takes;
+    }
+    leave(asked, want);
+    if passes(lists, walk) {
+        Reply::Passes
+    } else {
+        Reply::Asks
+    }
+}
+
+// The record at hand is taken at once, as nothing is left to write.
+#[inline(always)]
+fn take_on(walk: &mut Walk) -> Reply
+    ensures takes { result ≡ Takes }
+    ensures walk { walk.new ≡ record walk.old { place = Looking; kept = option_map (kept_after (Seen.Took 0) []) walk.old.kept } }
+{
+    note_taken(&mut walk.kept);
+    walk.place = Place::Looking;
+    Reply::Takes
+}
+
+// It sees a record, where it looks plainly at it, and what it keeps of that is kept.
+#[inline(always)]
+pub(crate) fn sift<L: Lists>(
+    lists: &mut L,
+    walk: &mut Walk,
+    alloc: Global,
+    bytes: &[u8],
+    asked: &mut Want,
+) -> Result<Reply, NoMemory>
+    requires plain { LooksPlainly walk.old }
+    ensures looks_same { L.is_looking lists.new ≡ L.is_looking lists.old }
+    ensures sifts { IfOk result (λ reply. SiftsOn L.stands L.made (L.is_looking lists.old) lists.old walk.old bytes.now lists.new walk.new asked.new reply) }
+{
+    match lists.sift(alloc, bytes)? {
+        Sifted::Drops => Ok(take_on(walk)),
+        Sifted::Passes(output) => if !walk.outputs.is_open(output) {
+            Ok(take_on(walk))
+        } else {
+            leave(asked, Want::Write(output, Out::Same(0)));
+            if walk.kept.is_none() {
+                walk.place = Place::Passing;
+                Ok(Reply::Passes)
+            } else {
+                walk.place = Place::Writing(Follow::Take);
+                Ok(Reply::Asks)
+            }
+        },
+        Sifted::Gives => {
+            let place = sight_place(lists, walk.order);
+            let want = ask(lists, walk, place, alloc)?;
+            Ok(reply(lists, walk, want, asked))
         }
     }
 }

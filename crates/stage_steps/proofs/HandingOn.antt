@@ -1,0 +1,38 @@
+-- What holds of a stage holds of a value that stands for it: a box of it, or an enum of stages.
+use Rattle.std.proofs.Common.{◌≡◌, ℕ, List, ◌∷◌, [], IfOk, sym, subst}
+use Rattle.std.proofs.lemmas.Result.{IfOk-weaker}
+use Rattle.std.specs.declared.result.Result.{Result}
+use Rattle.pipe_model.specs.declared.net.Strand.{Strand}
+use Rattle.pipe_model.specs.declared.step.Seen.{Seen}
+use Rattle.pipe_model.specs.declared.step.Seen.TheVariants.{Saw, Took}
+use Rattle.pipe_model.specs.declared.step.Want.{Want}
+use Rattle.pipe_model.specs.declared.step.Want.TheVariants.{Read, Take}
+use Rattle.pipe_model.specs.Event.{Event}
+use Rattle.stage_steps.specs.Coroutine.{Resumes}
+use Rattle.stage_steps.specs.Replies.{Replies}
+use Rattle.stage_steps.specs.declared.reply.Reply.{Reply}
+use Rattle.stage_steps.specs.declared.reply.Reply.TheVariants.{Takes, Passes, Asks}
+
+-- the value that holds a stage stands for what the stage stands for
+module _ {S T : Type 0} (stands : S → Strand → List Event → Type 0) (hold : S → T) (holds : T → Strand → List Event → Type 0)
+    (into : (x : S) (s : Strand) (h : List Event) → stands x s h → holds (hold x) s h) (out : (x : S) (s : Strand) (h : List Event) → holds (hold x) s h → stands x s h) where
+  pub resumes_held : (x y : S) (seen : Seen) (bytes : List ℕ) (asked : Want) → Resumes stands x y seen bytes asked → Resumes holds (hold x) (hold y) seen bytes asked
+  resumes_held x y seen bytes asked resumes = λ s h e told.
+      let done = resumes s h e (record { stood = out x s h told.stood; answer = told.answer; seen_is = told.seen_is; bytes_are = told.bytes_are; room = told.room }) in
+      (into y s (e ∷ h) done.0, done.1, done.2)
+
+  pub replies_held : (x y : S) (bytes : List ℕ) (asked : Want) (reply : Reply) → Replies stands x y bytes asked reply → Replies holds (hold x) (hold y) bytes asked reply
+  replies_held x y bytes asked Takes replies =
+      (hold replies.0, resumes_held x replies.0 (Saw 0) bytes (Take 0) replies.1, resumes_held replies.0 y (Took 0) [] (Read 0) replies.2)
+  replies_held x y bytes asked Passes replies = (
+    resumes_held x y (Saw 0) bytes asked replies.0,
+    (
+      λ s h o rec is fits. let done = replies.1.0 s h o rec (out y s h is) fits in (into y s _ done.0, done.1),
+      λ s h i is fits. let done = replies.1.1 s h i (out y s h is) fits in (into y s _ done.0, done.1),
+    ),
+  )
+  replies_held x y bytes asked Asks replies = resumes_held x y (Saw 0) bytes asked replies
+
+  -- what it answers is the stage's answer
+  pub handed_on : {Err : Type 0} (self : T) (x y : S) (bytes : List ℕ) (asked : Want) (result : Result Reply Err) → self ≡ hold x → IfOk result (λ reply. Replies stands x y bytes asked reply) → IfOk result (λ reply. Replies holds self (hold y) bytes asked reply)
+  handed_on self x y bytes asked result is replies = IfOk-weaker result _ _ (λ reply r. subst (λ z. Replies holds z (hold y) bytes asked reply) (sym is) (replies_held x y bytes asked reply r)) replies
