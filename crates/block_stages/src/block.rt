@@ -5,7 +5,7 @@ use crate::blocks::Blocks;
 use crate::deblock::deblock;
 use crate::fblock::{block, fblock};
 use pipe_model::{Kind, NoMemory, Seen, Strand, Want};
-use stage_steps::{Listed, Order, Stage};
+use stage_steps::{Listed, Order, Reply, Stage};
 use std::alloc::Global;
 
 /// A stage of Blocks.
@@ -78,6 +78,16 @@ impl Stage for BlockStage {
         ensures { IfOk result (λ asked. Resumes BlockStands self.old self.new seen bytes.now asked) }
     {
         self.stage.resume(alloc, seen, bytes)
+    }
+
+    #[inline(always)]
+    fn see(&mut self, alloc: Global, bytes: &[u8], asked: &mut Want) -> Result<Reply, NoMemory> {
+        self.stage.see(alloc, bytes, asked)
+    }
+
+    #[inline(never)]
+    fn put(&mut self, alloc: Global, o: u16, asked: &mut Want) -> Result<(), NoMemory> {
+        self.stage.put(alloc, o, asked)
     }
 
     fn looks(&self) -> bool {

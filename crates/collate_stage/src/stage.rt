@@ -3,7 +3,7 @@ ghost use Rattle.collate_stage.specs.Plans.{is_collate};
 
 use crate::collating::Collating;
 use pipe_model::{Kind, NoMemory, Seen, Strand, Want};
-use stage_steps::{Planned, Stage};
+use stage_steps::{Planned, Reply, Stage};
 use std::alloc::Global;
 
 /// A stage COLLATE or MERGE.
@@ -53,6 +53,16 @@ impl Stage for CollateStage {
         ensures { IfOk result (λ asked. Resumes CollateStands self.old self.new seen bytes.now asked) }
     {
         self.stage.resume(alloc, seen, bytes)
+    }
+
+    #[inline(always)]
+    fn see(&mut self, alloc: Global, bytes: &[u8], asked: &mut Want) -> Result<Reply, NoMemory> {
+        self.stage.see(alloc, bytes, asked)
+    }
+
+    #[inline(never)]
+    fn put(&mut self, alloc: Global, o: u16, asked: &mut Want) -> Result<(), NoMemory> {
+        self.stage.put(alloc, o, asked)
     }
 
     fn looks(&self) -> bool {

@@ -4,7 +4,7 @@ use crate::literal::Literals;
 use crate::sink::sink;
 use crate::source::source;
 use pipe_model::{Kind, NoMemory, Seen, Strand, Want};
-use stage_steps::{Copies, Each, Listed, Stage, TextLines};
+use stage_steps::{Copies, Each, Listed, Reply, Stage, TextLines};
 use std::alloc::Global;
 
 /// A stage of a device.
@@ -78,12 +78,25 @@ impl Stage for DeviceStage {
         }
     }
 
-    // The others take no record, or pass it on.
     #[inline(always)]
-    fn goes_on(&mut self) -> bool {
+    fn see(&mut self, alloc: Global, bytes: &[u8], asked: &mut Want) -> Result<Reply, NoMemory> {
         match self {
-            DeviceStage::Sink(stage) => stage.goes_on(),
-            _ => false,
+            DeviceStage::Source(stage) => stage.see(alloc, bytes, asked),
+            DeviceStage::Absent(stage) => stage.see(alloc, bytes, asked),
+            DeviceStage::Sink(stage) => stage.see(alloc, bytes, asked),
+            DeviceStage::Literal(stage) => stage.see(alloc, bytes, asked),
+            DeviceStage::Hole(stage) => stage.see(alloc, bytes, asked),
+        }
+    }
+
+    #[inline(never)]
+    fn put(&mut self, alloc: Global, o: u16, asked: &mut Want) -> Result<(), NoMemory> {
+        match self {
+            DeviceStage::Source(stage) => stage.put(alloc, o, asked),
+            DeviceStage::Absent(stage) => stage.put(alloc, o, asked),
+            DeviceStage::Sink(stage) => stage.put(alloc, o, asked),
+            DeviceStage::Literal(stage) => stage.put(alloc, o, asked),
+            DeviceStage::Hole(stage) => stage.put(alloc, o, asked),
         }
     }
 

@@ -1,5 +1,5 @@
 use pipe_model::{NoMemory, Rec};
-use stage_steps::{Each, EachRecord, Group, Listed, Order};
+use stage_steps::{Each, EachRecord, Group, Listed, Order, Sifted};
 use std::alloc::Global;
 
 /// HOLE: nothing for any record.
@@ -33,6 +33,11 @@ impl EachRecord for Holes {
 
     fn see(&mut self, _alloc: Global, _bytes: &[u8]) -> Result<(), NoMemory> {
         Ok(())
+    }
+
+    #[inline(always)]
+    fn sift(&mut self, _alloc: Global, _bytes: &[u8]) -> Result<Sifted, NoMemory> {
+        Ok(Sifted::Drops)
     }
 
     fn next(&mut self) -> Option<Group> {

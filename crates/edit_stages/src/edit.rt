@@ -3,7 +3,7 @@ ghost use Rattle.edit_stages.specs.Edit.{is_edit};
 
 use crate::any_lists::AnyLists;
 use pipe_model::{Kind, NoMemory, Seen, Strand, Want};
-use stage_steps::{Listed, Stage};
+use stage_steps::{Listed, Reply, Stage};
 use std::alloc::Global;
 
 /// A stage of Editing.
@@ -72,6 +72,16 @@ impl Stage for EditStage {
         ensures { IfOk result (λ asked. Resumes EditStands self.old self.new seen bytes.now asked) }
     {
         self.stage.resume(alloc, seen, bytes)
+    }
+
+    #[inline(always)]
+    fn see(&mut self, alloc: Global, bytes: &[u8], asked: &mut Want) -> Result<Reply, NoMemory> {
+        self.stage.see(alloc, bytes, asked)
+    }
+
+    #[inline(never)]
+    fn put(&mut self, alloc: Global, o: u16, asked: &mut Want) -> Result<(), NoMemory> {
+        self.stage.put(alloc, o, asked)
     }
 
     #[inline(always)]

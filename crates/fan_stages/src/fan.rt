@@ -10,7 +10,7 @@ use crate::gather::Gather;
 use crate::overlay::Overlays;
 use crate::synchronise::Synchronises;
 use pipe_model::{Kind, NoMemory, Seen, Strand, Want};
-use stage_steps::{Each, Listed, Order, Planned, Stage};
+use stage_steps::{Each, Listed, Order, Planned, Reply, Stage};
 use std::alloc::Global;
 
 /// A stage that parts a stream or brings streams together.
@@ -138,6 +138,22 @@ impl Stage for FanStage {
         match self {
             FanStage::Parts(stage) => stage.resume(alloc, seen, bytes),
             FanStage::Joins(stage) => stage.resume(alloc, seen, bytes),
+        }
+    }
+
+    #[inline(always)]
+    fn see(&mut self, alloc: Global, bytes: &[u8], asked: &mut Want) -> Result<Reply, NoMemory> {
+        match self {
+            FanStage::Parts(stage) => stage.see(alloc, bytes, asked),
+            FanStage::Joins(stage) => stage.see(alloc, bytes, asked),
+        }
+    }
+
+    #[inline(never)]
+    fn put(&mut self, alloc: Global, o: u16, asked: &mut Want) -> Result<(), NoMemory> {
+        match self {
+            FanStage::Parts(stage) => stage.put(alloc, o, asked),
+            FanStage::Joins(stage) => stage.put(alloc, o, asked),
         }
     }
 

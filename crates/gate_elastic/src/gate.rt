@@ -3,7 +3,7 @@ use crate::dam_plan::Dams;
 use crate::gate_lists::GateLists;
 use crate::gate_plan::Gates;
 use pipe_model::{Kind, NoMemory, Seen, Strand, Want};
-use stage_steps::{Copies, Listed, Order, Planned, Stage};
+use stage_steps::{Copies, Listed, Order, Planned, Reply, Stage};
 use std::alloc::Global;
 
 /// A stage that passes on what it reads.
@@ -104,6 +104,24 @@ impl Stage for GateStage {
             GateStage::Lists(stage) => stage.resume(alloc, seen, bytes),
             GateStage::Gate(stage) => stage.resume(alloc, seen, bytes),
             GateStage::Dam(stage) => stage.resume(alloc, seen, bytes),
+        }
+    }
+
+    #[inline(always)]
+    fn see(&mut self, alloc: Global, bytes: &[u8], asked: &mut Want) -> Result<Reply, NoMemory> {
+        match self {
+            GateStage::Lists(stage) => stage.see(alloc, bytes, asked),
+            GateStage::Gate(stage) => stage.see(alloc, bytes, asked),
+            GateStage::Dam(stage) => stage.see(alloc, bytes, asked),
+        }
+    }
+
+    #[inline(never)]
+    fn put(&mut self, alloc: Global, o: u16, asked: &mut Want) -> Result<(), NoMemory> {
+        match self {
+            GateStage::Lists(stage) => stage.put(alloc, o, asked),
+            GateStage::Gate(stage) => stage.put(alloc, o, asked),
+            GateStage::Dam(stage) => stage.put(alloc, o, asked),
         }
     }
 

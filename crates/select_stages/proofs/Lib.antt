@@ -1,4 +1,6 @@
 pub mod FirstRecords
 pub mod LastRecords
 pub mod Parts
+pub mod PickSifts
+pub mod Whole
 pub mod WindowSteps

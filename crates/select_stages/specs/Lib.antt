@@ -1,5 +1,6 @@
 pub mod AnyPick
 pub mod Choices
+pub mod Located
 pub mod PickLists
 pub mod Picks
 pub mod Select

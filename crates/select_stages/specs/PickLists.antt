@@ -13,11 +13,11 @@ use Rattle.stage_steps.specs.Waiting.{waiting_act, IsWaiting}
 use Rattle.select_stages.specs.declared.between.Encloses.{Encloses}
 use Rattle.select_stages.specs.declared.find.Finds.{Finds}
 use Rattle.select_stages.specs.declared.label.Meets.{Meets}
-use Rattle.select_stages.specs.declared.locate.Locates.{Locates}
 use Rattle.select_stages.specs.declared.picks.Picked.{Picked}
 use Rattle.select_stages.specs.declared.picks.Rejects.{Rejects}
 use Rattle.select_stages.specs.declared.take.Takes.{Takes}
 use Rattle.select_stages.specs.Choices.{taking, left_behind, enclosing, meeting}
+use Rattle.select_stages.specs.Located.{LocatesState}
 use Rattle.select_stages.specs.Picks.{Choice, choice_by, rejected, chosen}
 
 -- each record goes on the output that is picked, where it may wait for it
@@ -40,11 +40,11 @@ abbrev pub rejects_look : {P : Type 0} → (P → Bool) → Rejects P → Bool
 rejects_look looks x = looks x.picks
 
 -- LOCATE: each record by its range
-abbrev pub LocatesStand : Locates → Choice → Records → Type 0
+abbrev pub LocatesStand : LocatesState → Choice → Records → Type 0
 LocatesStand x choice recs = choice ≡ choice_by (locates x.range x.sought)
 
 -- LOCATE looks at records
-abbrev pub locates_look : Locates → Bool
+abbrev pub locates_look : LocatesState → Bool
 locates_look x = true
 
 -- FIND: each record by its agreement with the text

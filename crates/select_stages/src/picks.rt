@@ -3,7 +3,7 @@ ghost use Rattle.pipe_model.specs.Shape.{Records};
 ghost use Rattle.select_stages.specs.Picks.{Choice, PicksNext, Says};
 
 use pipe_model::{NoMemory, Rec};
-use stage_steps::{Group, Lists, take_waiting};
+use stage_steps::{Group, Lists, Sifted, take_waiting};
 use std::alloc::Global;
 
 /// What a stage does that writes each record on output 0, where it selects it, or else on output 1: a value that has
@@ -101,6 +101,17 @@ impl<P: Picks> Lists for Picked<P> {
     fn see(&mut self, _alloc: Global, bytes: &[u8]) -> Result<(), NoMemory> {
         self.waiting = Some(output(self.picks.pick(bytes)));
         Ok(())
+    }
+
+    #[inline(always)]
+    fn sift(&mut self, _alloc: Global, bytes: &[u8]) -> Result<Sifted, NoMemory> {
+        let output = output(self.picks.pick(bytes));
+        if self.picks.halts() || self.picks.stops() {
+            self.waiting = Some(output);
+            return Ok(Sifted::Gives);
+        }
+        self.waiting = None;
+        Ok(Sifted::Passes(output))
     }
 
     fn end(&mut self, _alloc: Global) -> Result<(), NoMemory> {

@@ -6,7 +6,7 @@ use crate::picks::Picked;
 use crate::select_lists::SelectLists;
 use crate::window::Window;
 use pipe_model::{Kind, NoMemory, Seen, Strand, Want};
-use stage_steps::{Listed, Order, Stage};
+use stage_steps::{Listed, Order, Reply, Stage};
 use std::alloc::Global;
 
 /// A stage of Selection.
@@ -103,6 +103,16 @@ impl Stage for SelectStage {
         ensures { IfOk result (λ asked. Resumes SelectStands self.old self.new seen bytes.now asked) }
     {
         self.stage.resume(alloc, seen, bytes)
+    }
+
+    #[inline(always)]
+    fn see(&mut self, alloc: Global, bytes: &[u8], asked: &mut Want) -> Result<Reply, NoMemory> {
+        self.stage.see(alloc, bytes, asked)
+    }
+
+    #[inline(never)]
+    fn put(&mut self, alloc: Global, o: u16, asked: &mut Want) -> Result<(), NoMemory> {
+        self.stage.put(alloc, o, asked)
     }
 
     #[inline(always)]

@@ -2,7 +2,7 @@ use crate::any_pick::AnyPick;
 use crate::picks::Picked;
 use crate::window::Window;
 use pipe_model::{NoMemory, Rec};
-use stage_steps::{Group, Lists};
+use stage_steps::{Group, Lists, Sifted};
 use std::alloc::Global;
 
 /// The lists of a stage of Selection. They have one driver, so that neither form adds one to the loop that runs them.
@@ -37,6 +37,14 @@ impl Lists for SelectLists {
         match self {
             SelectLists::Pick(lists) => lists.see(alloc, bytes),
             SelectLists::Hold(lists) => lists.see(alloc, bytes),
+        }
+    }
+
+    #[inline(always)]
+    fn sift(&mut self, alloc: Global, bytes: &[u8]) -> Result<Sifted, NoMemory> {
+        match self {
+            SelectLists::Pick(lists) => lists.sift(alloc, bytes),
+            SelectLists::Hold(lists) => lists.sift(alloc, bytes),
         }
     }
 

@@ -4,7 +4,7 @@ ghost use Rattle.specs_stage.specs.SpecsStage.{is_specs};
 use crate::copies::copied;
 use crate::specs_lists::SpecsLists;
 use pipe_model::{Items, Kind, NoMemory, Seen, Strand, Want};
-use stage_steps::{Listed, Stage};
+use stage_steps::{Listed, Reply, Stage};
 use std::alloc::Global;
 
 /// A stage of SPECS.
@@ -87,6 +87,16 @@ impl Stage for SpecsStage {
         ensures { IfOk result (λ asked. Resumes SpecsStageStands self.old self.new seen bytes.now asked) }
     {
         self.stage.resume(alloc, seen, bytes)
+    }
+
+    #[inline(always)]
+    fn see(&mut self, alloc: Global, bytes: &[u8], asked: &mut Want) -> Result<Reply, NoMemory> {
+        self.stage.see(alloc, bytes, asked)
+    }
+
+    #[inline(never)]
+    fn put(&mut self, alloc: Global, o: u16, asked: &mut Want) -> Result<(), NoMemory> {
+        self.stage.put(alloc, o, asked)
     }
 
     #[inline(always)]

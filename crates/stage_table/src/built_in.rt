@@ -8,7 +8,7 @@ use lookup_stage::LookupStage;
 use pipe_model::{NoMemory, Seen, Want};
 use select_stages::SelectStage;
 use specs_stage::SpecsStage;
-use stage_steps::Stage;
+use stage_steps::{Reply, Stage};
 use std::alloc::Global;
 use unique_sort::UniqueStage;
 
@@ -50,8 +50,8 @@ impl Stage for BuiltIn {
         }
     }
 
-    // It may be told any event; what isn't answered ends it. It is a call of its own: three of them stand in the loop that runs the stages,
-    // and that loop has few registers.
+    // It may be told any event; what isn't answered ends it. It is a call of its own, as `see`, `passes` and each family's `put` are:
+    // they stand in the loop that runs the stages, and that loop has few registers.
     #[inline(never)]
     fn resume(&mut self, alloc: Global, seen: Seen, bytes: &[u8]) -> Result<Want, NoMemory>
         ensures { IfOk result (λ asked. Resumes BuiltInStands self.old self.new seen bytes.now asked) }
@@ -70,15 +70,39 @@ impl Stage for BuiltIn {
         }
     }
 
-    #[inline(always)]
-    fn goes_on(&mut self) -> bool {
+    #[inline(never)]
+    fn see(&mut self, alloc: Global, bytes: &[u8], asked: &mut Want) -> Result<Reply, NoMemory> {
         match self {
-            BuiltIn::Device(stage) => (**stage).goes_on(),
-            _ => false,
+            BuiltIn::Device(stage) => (**stage).see(alloc, bytes, asked),
+            BuiltIn::Select(stage) => (**stage).see(alloc, bytes, asked),
+            BuiltIn::Edit(stage) => (**stage).see(alloc, bytes, asked),
+            BuiltIn::Order(stage) => (**stage).see(alloc, bytes, asked),
+            BuiltIn::Block(stage) => (**stage).see(alloc, bytes, asked),
+            BuiltIn::Specs(stage) => (**stage).see(alloc, bytes, asked),
+            BuiltIn::Gate(stage) => (**stage).see(alloc, bytes, asked),
+            BuiltIn::Fan(stage) => (**stage).see(alloc, bytes, asked),
+            BuiltIn::Lookup(stage) => (**stage).see(alloc, bytes, asked),
+            BuiltIn::Collate(stage) => (**stage).see(alloc, bytes, asked),
         }
     }
 
     #[inline(always)]
+    fn put(&mut self, alloc: Global, o: u16, asked: &mut Want) -> Result<(), NoMemory> {
+        match self {
+            BuiltIn::Device(stage) => (**stage).put(alloc, o, asked),
+            BuiltIn::Select(stage) => (**stage).put(alloc, o, asked),
+            BuiltIn::Edit(stage) => (**stage).put(alloc, o, asked),
+            BuiltIn::Order(stage) => (**stage).put(alloc, o, asked),
+            BuiltIn::Block(stage) => (**stage).put(alloc, o, asked),
+            BuiltIn::Specs(stage) => (**stage).put(alloc, o, asked),
+            BuiltIn::Gate(stage) => (**stage).put(alloc, o, asked),
+            BuiltIn::Fan(stage) => (**stage).put(alloc, o, asked),
+            BuiltIn::Lookup(stage) => (**stage).put(alloc, o, asked),
+            BuiltIn::Collate(stage) => (**stage).put(alloc, o, asked),
+        }
+    }
+
+    #[inline(never)]
     fn passes(&mut self) -> bool {
         match self {
             BuiltIn::Device(stage) => (**stage).passes(),

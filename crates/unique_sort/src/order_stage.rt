@@ -3,7 +3,7 @@ ghost use Rattle.unique_sort.specs.OrderStage.{is_order};
 
 use crate::order_lists::OrderLists;
 use pipe_model::{Kind, NoMemory, Seen, Strand, Want};
-use stage_steps::{Listed, Stage};
+use stage_steps::{Listed, Reply, Stage};
 use std::alloc::Global;
 
 /// UNIQUE, SORT or COUNT.
@@ -61,6 +61,16 @@ impl Stage for UniqueStage {
         ensures { IfOk result (λ asked. Resumes UniqueStands self.old self.new seen bytes.now asked) }
     {
         self.stage.resume(alloc, seen, bytes)
+    }
+
+    #[inline(always)]
+    fn see(&mut self, alloc: Global, bytes: &[u8], asked: &mut Want) -> Result<Reply, NoMemory> {
+        self.stage.see(alloc, bytes, asked)
+    }
+
+    #[inline(never)]
+    fn put(&mut self, alloc: Global, o: u16, asked: &mut Want) -> Result<(), NoMemory> {
+        self.stage.put(alloc, o, asked)
     }
 
     #[inline(always)]

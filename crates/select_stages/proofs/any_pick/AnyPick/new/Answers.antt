@@ -6,10 +6,10 @@ use Rattle.select_stages.specs.declared.any_pick.AnyPick.TheVariants.{Locate, Nl
 use Rattle.select_stages.specs.declared.between.Encloses.{Encloses}
 use Rattle.select_stages.specs.declared.find.Finds.{Finds}
 use Rattle.select_stages.specs.declared.label.Meets.{Meets}
-use Rattle.select_stages.specs.declared.locate.Locates.{Locates}
 use Rattle.select_stages.specs.declared.take.Takes.{Takes}
 use Rattle.select_stages.specs.AnyPick.{IsPickOf}
 use Rattle.select_stages.specs.Choices.{taking, enclosing, meeting}
+use Rattle.select_stages.specs.Located.{LocatesState}
 use Rattle.select_stages.specs.PickLists.{TakesStand, EnclosesStand, MeetsStand}
 use Rattle.select_stages.specs.Picks.{choice_by, rejected}
 use Rattle.select_stages.proofs.FirstRecords.{left_behind-zero}
@@ -20,14 +20,14 @@ returns-in_ok-picks-in-Locate c =
     let a = c.in-Locate in
     let it = c.in_ok-picks-in-Locate in
     subst (λ kind. IsPickOf (Locate it.picks) kind c.args.outputs.now) (sym a.is)
-    (λ outputs. choice_by (locates a.range a.text), (refl, refl), ap (λ (x : Locates). choice_by (locates x.range x.sought)) (sym it.ensures))
+    (λ outputs. choice_by (locates a.range a.text), (refl, refl), ap (λ (x : LocatesState). choice_by (locates x.range x.sought)) (sym it.ensures))
 
 pub returns-in_ok-picks-in-Nlocate : goal.returns-in_ok-picks-in-Nlocate
 returns-in_ok-picks-in-Nlocate c =
     let a = c.in-Nlocate in
     let it = c.in_ok-picks-in-Nlocate in
     subst (λ kind. IsPickOf (Nlocate (record { picks = it.picks })) kind c.args.outputs.now) (sym a.is)
-    (λ outputs. rejected (choice_by (locates a.range a.text)), (refl, refl), (choice_by (locates a.range a.text), refl, ap (λ (x : Locates). choice_by (locates x.range x.sought)) (sym it.ensures)))
+    (λ outputs. rejected (choice_by (locates a.range a.text)), (refl, refl), (choice_by (locates a.range a.text), refl, ap (λ (x : LocatesState). choice_by (locates x.range x.sought)) (sym it.ensures)))
 
 pub returns-in_ok-picks-in-Find : goal.returns-in_ok-picks-in-Find
 returns-in_ok-picks-in-Find c =
