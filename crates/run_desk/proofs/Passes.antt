@@ -1,5 +1,5 @@
 -- Two events of a strand that passes records on, as one call makes them.
-use Rattle.std.proofs.Common.{◌≡◌, ℕ, ◌<◌, Bool, false, ◌||◌, List, length, refl, sym, ◌∙◌, ap, subst, Option, Some, None, is_some, slice_get, slice_set}
+use Rattle.std.proofs.Common.{◌≡◌, ℕ, ◌<◌, Bool, true, false, ◌||◌, List, length, refl, sym, ◌∙◌, ap, subst, Option, Some, None, is_some, slice_get, slice_set}
 use Rattle.std.specs.Prelude.{IsSome}
 use Rattle.std.specs.Option.{option_map}
 use Rattle.std.proofs.Math.Bool.{or-false}
@@ -9,13 +9,13 @@ use Rattle.pipe_model.specs.declared.step.Seen.{Seen}
 use Rattle.pipe_model.specs.declared.step.Seen.TheVariants.{Up, Saw, Took, Put, Refused, Ended}
 use Rattle.record_pool.specs.PoolState.{PoolState}
 use Rattle.record_pool.specs.Places.{shared}
-use Rattle.connectors.specs.WireState.{WireState, taken, offered, noded_in, given_in}
+use Rattle.connectors.specs.WireState.{WireState, taken, settled, offered, noded_in, given_in}
 use Rattle.run_desk.specs.declared.seat.Ask.TheVariants.{Read, Take, Write}
 use Rattle.run_desk.specs.declared.seat.Seat.{Seat}
 use Rattle.run_desk.specs.Desk.{DeskState}
-use Rattle.run_desk.specs.Telling.{joined, in_door, out_door, sight_door, sight_through, through, wire_in, wire_out}
+use Rattle.run_desk.specs.Telling.{joined, inputs_of, shows, in_door, out_door, sight_door, sight_through, through, wire_in, wire_out}
 use Rattle.run_desk.specs.Turns.{list_changed_at, list_changed_behind, hand_on, pool_with_room, sights_seen, pool_seen, ends, sees, seat_after, asking, rest_after_turn, desk_after_turn, pool_after_turn, HasSight, Behind, offers, CanShare, CanHold, HasWritten}
-use Rattle.run_desk.specs.Passing.{desk_passed}
+use Rattle.run_desk.specs.Passing.{desk_passed, IsBy}
 use Rattle.run_desk.proofs.Lists.{changed_here}
 use Rattle.run_desk.proofs.Reserves.{changed_twice}
 
@@ -84,6 +84,46 @@ passed_in_one d rest s seen i is = ap (λ (r : DeskState). rest_passed r s seen 
         ≡ list_changed_behind (list_changed_behind d.seats (seat_after seen) (Some s)) (asking (Read i)) (Some s)
     seats_are = ap (λ z. list_changed_behind (list_changed_behind z (seat_after seen) (Some s)) (asking (Read i)) (Some s)) (rest_seats d s seen)
 
+-- nor the doors
+rest_doors : (d : DeskState) (s : ℕ) (seen : Seen) → (rest_after_turn d s seen).doors ≡ d.doors
+rest_doors d s (Up level code) = refl
+rest_doors d s (Saw i) = refl
+rest_doors d s (Took i) = refl
+rest_doors d s (Put o) = refl
+rest_doors d s (Refused o) = refl
+rest_doors d s (Ended code) = refl
+rest_doors d s _ = refl
+
+-- who put a record settled the wire behind this door
+pub told_put : (d : DeskState) (s : ℕ) (seen : Seen) (i link : ℕ) (put : Option ℕ) → put ≡ Some link → IsBy d s seen i put →
+    record d { wires = list_changed_behind d.wires settled (Some link) } ≡ rest_after_turn d s seen
+told_put d s (Saw k) i link put is by = let none : None ≡ Some link = sym by.1 ∙ is in cc none
+told_put d s (Put o) i link put is by = ap (λ z. record d { wires = list_changed_behind d.wires settled z }) (sym is ∙ by.1 ∙ sym by.2)
+told_put d s _ i link put is by = absurd by
+
+-- who put none saw the record of the input
+pub told_saw : (d : DeskState) (s : ℕ) (seen : Seen) (i from : ℕ) (put : Option ℕ) → put ≡ None → IsBy d s seen i put → in_door d s i ≡ Some from →
+    record d { sights = sights_seen d.sights (sight_door d s i) (hand_on (through d.wires (Some from))) } ≡ rest_after_turn d s seen
+told_saw d s (Saw k) i from put is by door =
+    ap (λ z. record d { sights = sights_seen d.sights (sight_door d s i) (hand_on (through d.wires z)) }) (sym door) ∙ ap (λ z. rest_after_turn d s (Saw z)) (sym by.0)
+told_saw d s (Put o) i from put is by door = let none : None ≡ Some by.0 = sym is ∙ by.1 in cc none
+told_saw d s _ i from put is by door = absurd by
+
+-- and where this link leads to the input, the desk is that after both events
+pub passed_behind : (d rest : DeskState) (s i from : ℕ) (seen : Seen) → rest ≡ rest_after_turn d s seen → in_door d s i ≡ Some from →
+    record rest { seats = list_changed_behind (list_changed_behind rest.seats (seat_after seen) (Some s)) (asking (Read i)) (Some s); wires = list_changed_behind rest.wires taken (Some from) }
+    ≡ desk_passed d s seen i
+passed_behind d rest s i from seen is door = ap with_door (sym here) ∙ passed_in_one d rest s seen i is
+  where
+    here : in_door rest s i ≡ Some from
+    here = ap (λ (r : DeskState). in_door r s i) is ∙ ap (λ z. joined (slice_get (inputs_of (slice_get z s)) i)) (rest_doors d s seen) ∙ door
+
+    with_door : Option ℕ → DeskState
+    with_door door = record rest {
+      seats = list_changed_behind (list_changed_behind rest.seats (seat_after seen) (Some s)) (asking (Read i)) (Some s);
+      wires = list_changed_behind rest.wires taken door;
+    }
+
 -- A record is seen and written on
 
 -- the sight of this number is there
@@ -97,6 +137,11 @@ wire_within wires door link is some = go (slice_get wires link) refl (subst (λ 
     go : (x : Option WireState) → slice_get wires link ≡ x → IsSome x → link < length wires
     go None at some = cc
     go (Some wire) at some = slice_get_within wires link wire at
+
+-- where a record shows there is a wire
+pub some_shown : (x : Option WireState) → shows x ≡ true → IsSome x
+some_shown None is = cc
+some_shown (Some wire) is = refl
 
 -- the desk after a strand saw this record, in the sight of this number, and came home to write it on an output that leads to this wire
 abbrev pub desk_passing : DeskState → ℕ → ℕ → ℕ → ℕ → ℕ → ℕ → DeskState

@@ -55,6 +55,17 @@ pub(crate) fn change_seat(seats: &mut Vec<Seat>, strand: u32, seen: Seen)
     seats[strand as usize].note(seen);
 }
 
+// Both, one after the other.
+#[inline(always)]
+pub(crate) fn change_and_ask(seats: &mut Vec<Seat>, strand: u32, seen: Seen, ask: Ask)
+    requires { strand < length seats.old.items }
+    ensures { seats.new.items ≡ list_changed_behind (list_changed_behind seats.old.items (seat_after seen) (Some strand)) (asking ask) (Some strand) }
+{
+    let seat = &mut seats[strand as usize];
+    seat.note(seen);
+    seat.ask = ask;
+}
+
 impl Seat {
     ghost use Rattle.std.specs.Prelude.{◌≡◌};
     ghost use Rattle.run_desk.specs.Turns.{seat_after};

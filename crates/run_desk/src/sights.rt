@@ -35,6 +35,7 @@ pub(crate) fn see_at(
     }
 }
 
+#[inline(always)]
 #[tactic(auto, using(crate::proofs::Holds::held_still))]
 fn look(sight: &mut Option<Grip>, pool: &mut Pool, grip: &Grip)
     requires held { IsHeld pool.old grip.now }

@@ -22,6 +22,7 @@ pub(crate) fn take_at(wires: &mut Vec<Wire>, pool: &mut Pool, door: Option<u32>)
 }
 
 // The record that is offered behind a door is put.
+#[inline(always)]
 pub(crate) fn settle_at(wires: &mut Vec<Wire>, pool: &mut Pool, door: Option<u32>)
     requires there { LeadsBelow (length wires.old.items) door }
     requires can { (wire : WireState) → through wires.old.items door ≡ Some wire → CanSettle pool.old wire wire.queue }
