@@ -6,6 +6,7 @@ use Rattle.pipe_model.specs.declared.net.Net.{Net}
 use Rattle.pipe_model.specs.declared.net.Strand.{Strand}
 use Rattle.pipe_model.specs.declared.step.Entry.{Entry}
 use Rattle.pipe_model.specs.declared.step.Seen.{Seen}
+use Rattle.pipe_model.specs.declared.step.Seen.TheVariants.{Saw as Sees}
 use Rattle.pipe_model.specs.declared.step.Want.{Want as Asked}
 use Rattle.pipe_model.specs.Event.{Event, has_ended}
 use Rattle.pipe_model.specs.Event.Event.{Up, Saw, SawEnd, SawAllEnd, Took, Put, Refused, Primed, Opened, Joined, Severed, Ended}
@@ -18,6 +19,7 @@ use Rattle.pipe_model.proofs.Lists.{get_set_same}
 use Rattle.record_pool.specs.PoolState.{PoolState}
 use Rattle.stage_steps.specs.Coroutine.{told, bytes_with, CanResume, Resumes}
 use Rattle.stage_steps.specs.PassesOn.{PassesOn}
+use Rattle.stage_steps.specs.Replies.{CanSee}
 use Rattle.run_desk.specs.Desk.{DeskState}
 use Rattle.run_desk.specs.Telling.{sight_through}
 use Rattle.run_desk.specs.Turns.{desk_after_turn, pool_after_turn, CanCome, bare, ends, sees}
@@ -31,7 +33,7 @@ use Rattle.core_machine.specs.Jobs.{JobState, JobStands, HasGoneOn}
 use Rattle.core_machine.specs.Machine.{left_by, without, is_among, looks_at}
 use Rattle.core_machine.specs.Sound.{AreLast, IsSound}
 use Rattle.core_machine.specs.Woken.{HasReturned, LeastEventAwake, may_settle}
-use Rattle.core_machine.proofs.Jobs.{can_run, done_take}
+use Rattle.core_machine.proofs.Jobs.{can_run, can_see, done_take}
 use Rattle.core_machine.proofs.Sounds.{can_make, sight_held, told_are, can_home, ended_is, came_early, in_use, sound_home, turned_past, goes_on, sound_turned, job_turned, job_event}
 
 -- what is set twice is set once
@@ -112,6 +114,10 @@ module _ {S : Type 0} (stands : S → Strand → List Event → Type 0) (net : N
 
   pub can_go : (bytes : List ℕ) → bytes ≡ bytes_told (looks_at net s) d' pool' s seen → CanResume stands stage seen bytes
   can_go bytes is = can_run stands net longer its (job (gone_out seen a) refl refl refl) bytes (job_bytes (gone_out seen a) refl refl refl bytes is)
+
+  -- and told of a record that it sees, with room for one event more
+  pub can_look : (i : ℕ) → seen ≡ Sees i → length longer < 50000000 → (bytes : List ℕ) → bytes ≡ bytes_told (looks_at net s) d' pool' s seen → CanSee stands stage i bytes
+  can_look i sees few bytes is = can_see stands net longer its (job (gone_out seen a) refl refl refl) i sees few bytes (job_bytes (gone_out seen a) refl refl refl bytes is)
 
   -- After the coroutine went on
 

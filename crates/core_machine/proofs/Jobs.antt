@@ -1,11 +1,12 @@
 -- A job that is run on its bytes may be finished.
-use Rattle.std.proofs.Common.{◌≡◌, ℕ, true, false, ◌==◌, List, [], ◌∷◌, length, refl, sym, ◌∙◌, ap, subst, Option, Some, None, slice_get}
+use Rattle.std.proofs.Common.{◌≡◌, ℕ, ◌<◌, ◌+◌, arith, true, false, ◌==◌, List, [], ◌∷◌, ◌++◌, length, refl, sym, ◌∙◌, ap, subst, Option, Some, None, slice_get}
 use Rattle.std.proofs.Math.Seq.{take-length}
 use Rattle.std.specs.Prelude.{take, Result, Ok, Err, IfOk}
 use Rattle.std.specs.Option.{option_map_or}
 use Rattle.pipe_model.specs.declared.net.Net.{Net}
 use Rattle.pipe_model.specs.declared.net.Strand.{Strand}
 use Rattle.pipe_model.specs.declared.step.Entry.{Entry}
+use Rattle.pipe_model.specs.declared.step.Seen.TheVariants.{Saw as Sees}
 use Rattle.pipe_model.specs.declared.step.Want.{Want as Asked}
 use Rattle.pipe_model.specs.Event.{Event, answers, has_ended}
 use Rattle.pipe_model.specs.Event.Event.{Up, Saw, SawEnd, SawAllEnd, Took, Put, Refused, Primed, Opened, Joined, Severed, Ended}
@@ -17,11 +18,13 @@ use Rattle.pipe_model.specs.Play.{play}
 use Rattle.pipe_model.proofs.Numbers.{test_same}
 use Rattle.pipe_model.proofs.Lists.{get_seam, length_more}
 use Rattle.stage_steps.specs.Coroutine.{bytes_with, meaning, last_seen, owed, IsSeenBefore, IsTold, CanResume, Resumes}
+use Rattle.stage_steps.specs.Replies.{CanSee}
 use Rattle.confluence_laws.proofs.Basics.{at_same}
 use Rattle.confluence_laws.proofs.Owns.{answers_it}
 use Rattle.confluence_laws.proofs.Lengths.{play_last}
 use Rattle.core_machine.specs.Jobs.{JobState, JobStands, HasGoneOn}
 use Rattle.core_machine.specs.Machine.{is_of, is_at, looks_at}
+use Rattle.core_machine.proofs.Plays.{play_length}
 
 module _ {S : Type 0} (stands : S → Strand → List Event → Type 0) (net : Net) (journal : List Entry) (job : JobState S) (given : JobStands stands net journal job) where
   abbrev s : Who
@@ -53,6 +56,15 @@ module _ {S : Type 0} (stands : S → Strand → List Event → Type 0) (net : N
 
   pub can_run : (bytes : List ℕ) → bytes_with (looks_at net s) given.event ≡ bytes → CanResume stands job.stage job.seen bytes
   can_run bytes right = (job_strand.0, past (play net given.before) s, given.event, told_it bytes right job_strand.0 job_strand.1)
+
+  -- where it sees a record, and the journal is shorter than any may be, its coroutine has room for one event more
+  pub can_see : (i : ℕ) → job.seen ≡ Sees i → length journal < 50000000 → (bytes : List ℕ) → bytes_with (looks_at net s) given.event ≡ bytes → CanSee stands job.stage i bytes
+  can_see i sees few bytes right =
+      let h = past (play net given.before) s in
+      let no_longer = play_length net nothing_yet given.before s in
+      let longer : length journal ≡ length (given.before ++ given.entry ∷ []) = ap length given.journal_is in
+      let one = length_more given.before given.entry in
+      (job_strand.0, h, given.event, subst (λ z. IsTold stands job.stage z bytes job_strand.0 h given.event) sees (told_it bytes right job_strand.0 job_strand.1), omega (arith, no_longer, longer, one, few))
 
   its_place : is_at journal s job.place ≡ true
   its_place = subst (λ z. is_at journal s z ≡ true) (sym (given.place_is ∙ ap length given.journal_is ∙ length_more given.before given.entry))

@@ -9,6 +9,7 @@ pub mod Fulls
 pub mod Ghosts
 pub mod GoesOn
 pub mod Homes
+pub mod InPlace
 pub mod Jobs
 pub mod LeastTurns
 pub mod Lows
@@ -16,8 +17,8 @@ pub mod Outs
 pub mod Plays
 pub mod PutsOn
 pub mod Quiet
-pub mod RecordRuns
 pub mod Relays
+pub mod Runs
 pub mod Sounds
 pub mod Starts
 pub mod Steps

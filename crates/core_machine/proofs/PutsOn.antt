@@ -22,10 +22,10 @@ use Rattle.core_machine.specs.Sound.{IsSound}
 use Rattle.core_machine.specs.Woken.{LeastEventAwake}
 use Rattle.core_machine.proofs.Advanced.{gone_on_kept, resumes_put, resumes_took}
 use Rattle.core_machine.proofs.TakesOn as Two
-use Rattle.core_machine.proofs.Tellings.{IsTelling, makes, used_out, does}
+use Rattle.core_machine.proofs.Tellings.{IsTelling, used_out, does}
 
 -- no bytes go with a record that was put
-no_bytes_put : (looks : Bool) (d : DeskState) (pool : PoolState) (s o : ℕ) → [] ≡ bytes_told looks d pool s (Put o)
+pub no_bytes_put : (looks : Bool) (d : DeskState) (pool : PoolState) (s o : ℕ) → [] ≡ bytes_told looks d pool s (Put o)
 no_bytes_put true d pool s o = refl
 no_bytes_put false d pool s o = refl
 
@@ -47,10 +47,6 @@ module _ {S : Type 0} {stands : S → Strand → List Event → Type 0} {net : N
 
   bytes_are : [] ≡ bytes_told a.looks (desk_after_turn d s (Put o)) (pool_after_turn d pool s (Put o)) s (Put o)
   bytes_are = no_bytes_put a.looks (desk_after_turn d s (Put o)) (pool_after_turn d pool s (Put o)) s o
-
-  -- the first event can be made
-  pub can : CanMake net d pool s (Put o)
-  can = makes t
 
   -- the desk after it stands for a state
   pub used : IsInUse net (desk_after_turn d s (Put o))

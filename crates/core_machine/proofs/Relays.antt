@@ -5,8 +5,7 @@ use Rattle.std.proofs.lemmas.Option.{slice_get_within, slice_get-get_or}
 use Rattle.pipe_model.specs.declared.net.Net.{Net}
 use Rattle.pipe_model.specs.declared.net.Link.{Link}
 use Rattle.pipe_model.specs.declared.step.Seen.{Seen}
-use Rattle.pipe_model.specs.declared.step.Seen.TheVariants.{Saw, Took, Cut, Ended}
-use Rattle.pipe_model.specs.declared.step.Out.{Out}
+use Rattle.pipe_model.specs.declared.step.Seen.TheVariants.{Saw, Took, Put, Cut, Ended}
 use Rattle.pipe_model.specs.declared.step.Want.{Want}
 use Rattle.pipe_model.specs.declared.step.Want.TheVariants as want
 use Rattle.pipe_model.specs.WellFormed.{IsWellFormed}
@@ -20,18 +19,18 @@ use Rattle.run_desk.specs.declared.seat.Ask.{Ask}
 use Rattle.run_desk.specs.declared.seat.Ask.TheVariants as Now
 use Rattle.run_desk.specs.Desk.{DeskState}
 use Rattle.run_desk.specs.Standing.{link_through}
-use Rattle.run_desk.specs.Turns.{Behind, CanTurn, HasCome, offers, seat_after, hand_on, list_changed_behind, sights_seen, pool_seen, desk_after_turn, pool_after_turn, ends, sees}
+use Rattle.run_desk.specs.Turns.{Behind, CanTurn, HasCome, seat_after, hand_on, list_changed_behind, sights_seen, pool_seen, desk_after_turn, pool_after_turn, ends, sees}
 use Rattle.run_desk.specs.Passing.{desk_taking, desk_passed, pool_passed}
 use Rattle.run_desk.specs.Telling as Telling
 use Rattle.run_desk.proofs.Gives.{bytes_given, bytes_shared}
-use Rattle.run_desk.proofs.Lists.{changed_here, changed_length}
+use Rattle.run_desk.proofs.Lists.{changed_here}
 use Rattle.run_desk.proofs.Queues.{queues_as}
-use Rattle.core_machine.specs.Actors.{bytes_told}
+use Rattle.core_machine.specs.Actors.{bytes_ahead, bytes_told}
 use Rattle.core_machine.specs.Ahead.{HasGoneQuietly, HasSeenOrPut}
 use Rattle.core_machine.specs.Floor.{IsInUse, CanMake, StaysEarly}
 use Rattle.core_machine.specs.Members.{Members, is_member}
 use Rattle.core_machine.specs.Woken.{IsCovering, AsksEarly, HasReturned, IsProducerIn, IsReaderIn, AreEndsIn, LeastEventAwake, commits, may_settle}
-use Rattle.core_machine.proofs.Homes.{covers_home, seats_home}
+use Rattle.core_machine.proofs.Homes.{covers_home}
 use Rattle.core_machine.proofs.Lows.{ended_seat, ends_still}
 use Rattle.core_machine.proofs.Outs.{covers_out, no_waiting, was_settled}
 
@@ -82,6 +81,23 @@ module _ (d : DeskState) (pool : PoolState) (s i : ℕ) (can : CanTurn d pool s 
   -- the bytes of the record at hand are those that the strand sees of it
   pub bytes_shown : option_map_or (bytes_at pool) (hand_on (Telling.wire_in d s i)) [] ≡ bytes_told true (desk_after_turn d s (Saw i)) seen_in s (Saw i)
   bytes_shown = ap (λ z. option_map_or (bytes_at pool) z []) at_hand_now.1 ∙ same_bytes ∙ sym (ap (λ z. option_map_or (bytes_at seen_in) z []) sight_is)
+
+-- so are those of the link at the input, where it looks
+pub bytes_ahead_told : (d : DeskState) (pool : PoolState) (s i link : ℕ) → CanTurn d pool s (Saw i) → Telling.shows (Telling.wire_in d s i) ≡ true →
+    IsHeldIn (pool_after_turn d pool s (Saw i)) (Telling.sight_through (desk_after_turn d s (Saw i)).sights (Telling.sight_door (desk_after_turn d s (Saw i)) s i)) →
+    Telling.in_door d s i ≡ Some link → (looks : Bool) →
+    bytes_ahead looks d pool link ≡ bytes_told looks (desk_after_turn d s (Saw i)) (pool_after_turn d pool s (Saw i)) s (Saw i)
+bytes_ahead_told d pool s i link can shows held door true =
+    ap (λ z. option_map_or (bytes_at pool) (hand_on (Telling.through d.wires z)) []) (sym door) ∙ bytes_shown d pool s i can shows held
+bytes_ahead_told d pool s i link can shows held door false = refl
+
+-- the record at hand there is held
+pub held_ahead : (d : DeskState) (pool : PoolState) (s i link : ℕ) → CanTurn d pool s (Saw i) → Telling.in_door d s i ≡ Some link → IsHeldIn pool (hand_on (Telling.through d.wires (Some link)))
+held_ahead d pool s i link can door = subst (λ z. IsHeldIn pool (hand_on (Telling.through d.wires z))) door (by_hand (hand_on (Telling.wire_in d s i)) can.1)
+  where
+    by_hand : (x : Option ℕ) → ((grip : ℕ) → x ≡ Some grip → IsHeld pool grip) → IsHeldIn pool x
+    by_hand None each = tt
+    by_hand (Some grip) each = each grip refl
 
 -- who reads on an input and is told of a record sees that of the input
 read_shown : (j i : ℕ) (hand over : Bool) → Telling.read_seen j hand over ≡ Some (Saw i) → (hand ≡ true) × (j ≡ i)
@@ -138,21 +154,21 @@ shown_at d s k i is = shown_by d s k i (Telling.ask_at d s) is
 
 -- Links
 
--- a link that is there is found at its number
-pub link_at : (links slice : List Link) (j : ℕ) (one : Link) → slice ≡ links → slice_get links j ≡ Some one →
-    slice_get links j ≡ Some (slice_index_or slice j (record { from = 0; output = 0; to = 0; input = 0; queue = false }))
-link_at links slice j one same at =
-    slice_get-get_or links j (record { from = 0; output = 0; to = 0; input = 0; queue = false }) (slice_get_within links j one at)
-    ∙ ap (λ z. Some (slice_index_or z j (record { from = 0; output = 0; to = 0; input = 0; queue = false }))) (sym same)
+-- no link
+abbrev pub none : Link
+none = record { from = 0; output = 0; to = 0; input = 0; queue = false }
+
+-- a link of a number that is one of the links' is found there
+pub link_of : (links slice : List Link) (j : ℕ) → slice ≡ links → j < length links → slice_get links j ≡ Some (slice_index_or slice j none)
+link_of links slice j same inside = slice_get-get_or links j none inside ∙ ap (λ z. Some (slice_index_or z j none)) (sym same)
+
+-- so is a link that is there
+pub link_at : (links slice : List Link) (j : ℕ) (one : Link) → slice ≡ links → slice_get links j ≡ Some one → slice_get links j ≡ Some (slice_index_or slice j none)
+link_at links slice j one same at = link_of links slice j same (slice_get_within links j one at)
 
 -- behind a door there is but one link
 pub same_link : (links : List Link) (door : Option ℕ) (j : ℕ) (one link : Link) → door ≡ Some j → slice_get links j ≡ Some one → link_through links door ≡ Some link → link ≡ one
 same_link links door j one link is at there = let same : Some link ≡ Some one = sym there ∙ (ap (link_through links) is ∙ at) in cc
-
--- and behind a door that leads nowhere there is none
-pub no_link : {A : Type 0} (links : List Link) (door : Option ℕ) (link : Link) → ((j : ℕ) → door ≡ Some j → ⊥) → link_through links door ≡ Some link → A
-no_link links None link off there = cc
-no_link links (Some j) link off there = absurd (off j refl)
 
 -- a set is larger with one strand more
 pub larger_with : (old new : Members) (one : ℕ) → is_member new one ≡ true → ((t : ℕ) → t ≢ one → is_member new t ≡ is_member old t) → (t : ℕ) → is_member old t ≡ true → is_member new t ≡ true
@@ -167,7 +183,19 @@ no_queue net d used j link at plain = λ wire there. no_waiting wire.queue link.
 
 -- The set
 
--- the set that covers the strands that may go on, and has whom both changes concern, covers them after a turn that settles nothing and a coming home that commits nothing
+-- the set that covers the strands that may go on, and has whom a turn concerns that settles nothing, covers them after it
+pub covers_told : (net : Net) (d : DeskState) → IsWellFormed net → IsInUse net d → (pool : PoolState) (s : ℕ) (seen : Seen) (set : Members) →
+    set.size ≡ length net.strands → CanTurn d pool s seen → Telling.ended_at d s ≡ false → may_settle d s seen ≡ false → AreEndsIn d net.links s seen set →
+    IsCovering d set → IsCovering (desk_after_turn d s seen) set
+covers_told net d formed used pool s seen set size can live quiet woken covers =
+    covers_out net d formed used pool s seen set set set true true size can live (refl, λ u held. held) woken (refl, λ u held. held)
+    (sym (ap (λ z. not z || is_some (Telling.level_code d (negsuc 0))) no_end)) (sym (ap (λ z. not z || is_some (Telling.level_code d (pos 0))) no_end))
+    (λ now. inl (was_settled d s seen quiet now)) (λ no held. absurd (let q : ⊥ = cc in q)) (λ no held. absurd (let q : ⊥ = cc in q)) covers
+  where
+    no_end : ends seen ≡ false
+    no_end = (neither (ends seen) (sees seen && not (is_some (Telling.primed_of (slice_get d.seats s)))) quiet).0
+
+-- and after the strand came home and committed nothing, where the set has whom that concerns
 pub covers_both : (net : Net) (d : DeskState) → IsWellFormed net → IsInUse net d → (pool : PoolState) (s : ℕ) (seen : Seen) (asked : Want) (n : DeskState) (after : PoolState) (set : Members) →
     set.size ≡ length net.strands → CanTurn d pool s seen → Telling.ended_at d s ≡ false → may_settle d s seen ≡ false → AreEndsIn d net.links s seen set →
     IsInUse net (desk_after_turn d s seen) → AsksEarly n → HasCome (desk_after_turn d s seen) (pool_after_turn d pool s seen) s asked n after → commits asked ≡ false →
@@ -176,15 +204,7 @@ covers_both net d formed used pool s seen asked n after set size can live quiet 
     covers_home net (desk_after_turn d s seen) n formed used_out early (pool_after_turn d pool s seen) after s asked set set set true true size come
     (refl, λ t held. held) here reader (refl, λ t held. held)
     (sym (ap (λ z. not z || is_some (Telling.level_code (desk_after_turn d s seen) (negsuc 0))) plain)) (sym (ap (λ z. not z || is_some (Telling.level_code (desk_after_turn d s seen) (pos 0))) plain))
-    (λ no held. absurd (let q : ⊥ = cc in q)) (λ no held. absurd (let q : ⊥ = cc in q)) covered_out
-  where
-    no_end : ends seen ≡ false
-    no_end = (neither (ends seen) (sees seen && not (is_some (Telling.primed_of (slice_get d.seats s)))) quiet).0
-
-    covered_out : IsCovering (desk_after_turn d s seen) set
-    covered_out = covers_out net d formed used pool s seen set set set true true size can live (refl, λ u held. held) woken (refl, λ u held. held)
-        (sym (ap (λ z. not z || is_some (Telling.level_code d (negsuc 0))) no_end)) (sym (ap (λ z. not z || is_some (Telling.level_code d (pos 0))) no_end))
-        (λ now. inl (was_settled d s seen quiet now)) (λ no held. absurd (let q : ⊥ = cc in q)) (λ no held. absurd (let q : ⊥ = cc in q)) covers
+    (λ no held. absurd (let q : ⊥ = cc in q)) (λ no held. absurd (let q : ⊥ = cc in q)) (covers_told net d formed used pool s seen set size can live quiet woken covers)
 
 -- a strand that is told nothing of its end goes on
 live_after : (d : DeskState) (s : ℕ) (seen : Seen) → ends seen ≡ false → Telling.ended_at d s ≡ false → Telling.ended_at (desk_after_turn d s seen) s ≡ false
@@ -231,24 +251,20 @@ module _ (net : Net) (d : DeskState) (formed : IsWellFormed net) (pool : PoolSta
     returned = inr (live_after (desk_taking d s seen i) s (Took i) refl takes.live, (refl, refl));
   }
 
--- A record that is passed on
+-- A record that is passed on, or follows one that was put
 
--- the strand saw a record, and came home with a want, which asks for no commit level
-module _ (net : Net) (d : DeskState) (formed : IsWellFormed net) (pool : PoolState) (s i : ℕ) (asked : Want) (can : CanMake net d pool s (Saw i)) (quiet : may_settle d s (Saw i) ≡ false)
-    (used : IsInUse net (desk_after_turn d s (Saw i))) (early : StaysEarly (desk_after_turn d s (Saw i)) (pool_after_turn d pool s (Saw i)) s asked) (n : DeskState) (after : PoolState)
-    (come : HasCome (desk_after_turn d s (Saw i)) (pool_after_turn d pool s (Saw i)) s asked n after) where
+-- the strand saw a record, or put one and not into a queue, and came home with a want, which asks for no commit level
+module _ (net : Net) (d : DeskState) (formed : IsWellFormed net) (pool : PoolState) (s : ℕ) (seen : Seen) (asked : Want) (can : CanMake net d pool s seen) (quiet : may_settle d s seen ≡ false)
+    (told : HasSeenOrPut net d s seen) (used : IsInUse net (desk_after_turn d s seen)) (early : StaysEarly (desk_after_turn d s seen) (pool_after_turn d pool s seen) s asked)
+    (n : DeskState) (after : PoolState) (come : HasCome (desk_after_turn d s seen) (pool_after_turn d pool s seen) s asked n after) where
   -- the set that has the strand and who reads what it writes covers those that may go on
-  pub covers_passing : commits asked ≡ false → (set : Members) → set.size ≡ length net.strands → is_member set s ≡ true → IsReaderIn (desk_after_turn d s (Saw i)) net.links s asked set →
+  pub covers_passing : commits asked ≡ false → (set : Members) → set.size ≡ length net.strands → is_member set s ≡ true → IsReaderIn (desk_after_turn d s seen) net.links s asked set →
       IsCovering d set → IsCovering n set
   covers_passing plain set size here reader covers =
-      covers_both net d formed can.used pool s (Saw i) asked n after set size can.can can.live quiet tt used (early n after come) come plain here reader covers
+      covers_both net d formed can.used pool s seen asked n after set size can.can can.live quiet (ends_still net d s seen set told) used (early n after come) come plain here reader covers
 
-  -- and it has returned
-  pub returned_passing : HasReturned (desk_after_turn d s (Saw i)) (pool_after_turn d pool s (Saw i)) s asked n after
-  returned_passing = inr (live_after d s (Saw i) refl can.live, come)
-
-  -- the sight was the least event that might be
-  pub gone_passing : (k : ℕ) → LeastEventAwake d (Some (s, k, Saw i)) → HasGoneQuietly net d pool s k (Saw i) asked n after
+  -- what it was told was the least event that might be
+  pub gone_passing : (k : ℕ) → LeastEventAwake d (Some (s, k, seen)) → HasGoneQuietly net d pool s k seen asked n after
   gone_passing k least = record {
     formed = formed;
     used = can.used;
@@ -259,14 +275,9 @@ module _ (net : Net) (d : DeskState) (formed : IsWellFormed net) (pool : PoolSta
     quiet = quiet;
     used_out = used;
     early = early;
-    returned = returned_passing;
+    returned = inr (live_after d s seen (neither (ends seen) (sees seen && not (is_some (Telling.primed_of (slice_get d.seats s)))) quiet).0 can.live, come);
   }
 
--- there are as many seats and wires after it came home as before
-pub seats_passing : (net : Net) (d : DeskState) (pool : PoolState) (s : ℕ) (asked : Want) (n : DeskState) (after : PoolState) →
-    IsInUse net d → HasCome d pool s asked n after → length n.seats ≡ length net.strands
-seats_passing net d pool s asked n after used come = seats_home d pool s asked n after come ∙ used.kept.laid.seat_count
-
-pub wires_passing : (net : Net) (d : DeskState) (pool : PoolState) (s o : ℕ) (out : Out) (n : DeskState) (after : PoolState) →
-    IsInUse net d → HasCome d pool s (want.Write o out) n after → length n.wires ≡ length net.links
-wires_passing net d pool s o out n after used come = ap (λ (z : DeskState). length z.wires) come.home ∙ changed_length d.wires (offers come.grip) (Telling.out_door d s o) ∙ used.kept.laid.wire_count
+-- a record that was put on a rendezvous was put into no queue
+pub put_on : (net : Net) (d : DeskState) (s o j : ℕ) (one : Link) → Telling.out_door d s o ≡ Some j → slice_get net.links j ≡ Some one → one.queue ≡ false → HasSeenOrPut net d s (Put o)
+put_on net d s o j one door at plain = λ link there. ap (λ (z : Link). z.queue) (same_link net.links (Telling.out_door d s o) j one link door at there) ∙ plain

@@ -1,18 +1,21 @@
 -- A strand that is home is told the least event: what that asks of its coroutine, of the floor and of the core, where the desk isn't turned yet.
-use Rattle.std.proofs.Common.{◌≡◌, Bool, ℕ, ◌<◌, suc, true, false, inr, List, [], ◌∷◌, ◌++◌, length, refl, sym, ◌∙◌, ap, subst, Some, slice_get, slice_set}
+use Rattle.std.proofs.Common.{◌≡◌, Bool, ℕ, ◌+◌, ◌<◌, arith, suc, true, false, inr, List, [], ◌∷◌, ◌++◌, length, refl, sym, ◌∙◌, ap, subst, Some, slice_get, slice_set}
 use Rattle.std.specs.Prelude.{slice_index_or}
 use Rattle.pipe_model.specs.declared.net.Net.{Net}
 use Rattle.pipe_model.specs.declared.net.Strand.{Strand}
 use Rattle.pipe_model.specs.declared.step.Entry.{Entry}
 use Rattle.pipe_model.specs.declared.step.Seen.{Seen}
+use Rattle.pipe_model.specs.declared.step.Seen.TheVariants.{Saw as Sees}
 use Rattle.pipe_model.specs.declared.step.Want.{Want as Asked}
 use Rattle.pipe_model.specs.Event.{Event}
 use Rattle.pipe_model.specs.State.{Who}
 use Rattle.pipe_model.specs.Licence.{licence}
 use Rattle.pipe_model.specs.Play.{play}
+use Rattle.pipe_model.proofs.Lists.{length_more}
 use Rattle.record_pool.specs.PoolState.{PoolState}
 use Rattle.stage_steps.specs.Coroutine.{told, CanResume, Resumes}
 use Rattle.stage_steps.specs.PassesOn.{PassesOn}
+use Rattle.stage_steps.specs.Replies.{CanSee}
 use Rattle.run_desk.specs.Desk.{DeskState}
 use Rattle.run_desk.specs.Telling as Telling
 use Rattle.connectors.specs.WireState.{IsHeldIn}
@@ -26,7 +29,7 @@ use Rattle.core_machine.specs.Floor.{IsInUse, CanMake, StaysEarly}
 use Rattle.core_machine.specs.Machine.{left_by, looks_at, IsLawful}
 use Rattle.core_machine.specs.Sound.{IsSound}
 use Rattle.core_machine.specs.Woken.{HasReturned, LeastEventAwake}
-use Rattle.core_machine.proofs.GoesOn.{sights, can_go, lost, went_out, home_ended, home_can, home_early, went_home}
+use Rattle.core_machine.proofs.GoesOn.{sights, can_go, can_look, lost, went_out, home_ended, home_can, home_early, went_home}
 use Rattle.core_machine.proofs.Sounds.{actor_at, can_make, does_pass, event_back, in_range, in_use, its_looks, lawful_turned, out_room, stage_at}
 
 -- the core is sound and has room for an entry, the strand is home, and the least event that may be is its own
@@ -113,6 +116,15 @@ module _ {S : Type 0} {stands : S → Strand → List Event → Type 0} {net : N
   -- its coroutine may be told it, with the bytes at hand after the turn
   pub resumes_it : (bytes : List ℕ) → bytes ≡ bytes_told a.looks d' pool' s seen → CanResume stands t.stage seen bytes
   resumes_it bytes is = can_go stands net budget journal out actors d pool t.sound s k t.event t.may a t.stage t.there t.was seen t.seen_is t.space d' pool' refl refl bytes (right bytes is)
+
+  -- and told of a record that it sees, with room for one event more
+  pub looks_it : (i : ℕ) → seen ≡ Sees i → length journal + 1 < budget → (bytes : List ℕ) → bytes ≡ bytes_told a.looks d' pool' s seen → CanSee stands t.stage i bytes
+  looks_it i sees space bytes is =
+      let e : Entry = record { strand = s; stream = k } in
+      let one = length_more journal e in
+      let most = t.sound.bounded in
+      can_look stands net budget journal out actors d pool t.sound s k t.event t.may a t.stage t.there t.was seen t.seen_is t.space d' pool' refl refl
+      i sees (omega (arith, one, most, space)) bytes (right bytes is)
 
   -- The coroutine went on
   module _ (next : S) (asked : Asked) (passes : Bool) where

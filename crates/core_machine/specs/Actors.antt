@@ -5,12 +5,18 @@ use Rattle.pipe_model.specs.declared.net.Strand.{Strand}
 use Rattle.pipe_model.specs.declared.step.Seen.{Seen}
 use Rattle.pipe_model.specs.declared.step.Seen.TheVariants.{Saw, SawEnd}
 use Rattle.pipe_model.specs.declared.step.Want.{Want}
+use Rattle.pipe_model.specs.declared.step.Want.TheVariants.{Read}
 use Rattle.pipe_model.specs.Event.{Event}
+use Rattle.stage_steps.specs.Coroutine.{Resumes}
 use Rattle.stage_steps.specs.PassesOn.{PassesOn}
+use Rattle.stage_steps.specs.Replies.{Replies}
+use Rattle.stage_steps.specs.declared.reply.Reply.{Reply}
+use Rattle.stage_steps.specs.declared.reply.Reply.TheVariants.{Takes, Passes, Asks}
 use Rattle.record_pool.specs.PoolState.{PoolState}
 use Rattle.record_pool.specs.Places.{bytes_at}
 use Rattle.run_desk.specs.Desk.{DeskState}
-use Rattle.run_desk.specs.Telling.{sight_door, sight_through}
+use Rattle.run_desk.specs.Telling.{sight_door, sight_through, through}
+use Rattle.run_desk.specs.Turns.{hand_on}
 use Rattle.core_machine.specs.declared.actor.Actor.{Actor}
 
 -- it is told that input 0 has ended
@@ -32,6 +38,12 @@ gone_on seen stage asked passes actor = record { stage = Some stage; asked = ask
 abbrev pub DoesPass : {S : Type 0} → (S → Strand → List Event → Type 0) → Actor S → Type 0
 DoesPass {S} stands actor = (stage : S) → actor.passes ≡ true → actor.stage ≡ Some stage → PassesOn stands stage
 
+-- what its coroutine answered to the sight of a record on an input: it took the record of input 0 and looks at the next one there, or it asks for this, and may pass on the record that it saw
+abbrev pub HasSeen : {S : Type 0} → (S → Strand → List Event → Type 0) → S → S → ℕ → List ℕ → Want → Bool → Reply → Type 0
+HasSeen stands x y i bytes asked passes Takes = (i ≡ 0) × (asked ≡ Read 0) × (passes ≡ false) × Replies stands x y bytes asked Takes
+HasSeen stands x y i bytes asked passes Passes = (passes ≡ true) × Resumes stands x y (Saw i) bytes asked × PassesOn stands y
+HasSeen stands x y i bytes asked passes Asks = (passes ≡ false) × Resumes stands x y (Saw i) bytes asked
+
 -- its coroutine is given up
 abbrev pub given_up : {S : Type 0} → Actor S → Actor S
 given_up actor = record { stage = None; asked = actor.asked; looks = actor.looks; saw_end = actor.saw_end; passes = actor.passes }
@@ -43,6 +55,11 @@ asking_for asked actor = record { stage = actor.stage; asked = asked; looks = ac
 -- the strand of these is given the bytes of what it sees
 abbrev pub looks_in : {S : Type 0} → List (Actor S) → ℕ → Bool
 looks_in {S} actors s = slice_index_or (map (λ (actor : Actor S). actor.looks) actors) s false
+
+-- the bytes of the record at hand on a link, where the strand that sees it looks
+abbrev pub bytes_ahead : Bool → DeskState → PoolState → ℕ → List ℕ
+bytes_ahead true d pool link = option_map_or (bytes_at pool) (hand_on (through d.wires (Some link))) []
+bytes_ahead false d pool link = []
 
 -- the bytes that go with what a strand was told last: those of the record that it saw, where it looks
 abbrev pub bytes_told : Bool → DeskState → PoolState → ℕ → Seen → List ℕ

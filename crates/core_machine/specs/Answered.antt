@@ -84,11 +84,6 @@ pub record HasRun (m n : Machine) : Type 0 where
   pub least : AreLeast m more
   pub after : n ≡ record m { journal = m.journal ++ more }
 
--- one step of a run: the least event that may be, or none as there is none
-abbrev pub Stepped : Machine → Bool → Machine → Type 0
-Stepped m true n = (e : Entry) × LeastReady m (Some (e.strand, e.stream)) × (n ≡ record m { journal = m.journal ++ e ∷ [] })
-Stepped m false n = (n ≡ m) × ((s k : ℕ) → licence_of m s k ≡ None)
-
 -- it broke on the way, with the entries made so far: the job of the last one is out, beside those that were
 pub record HasBroken (m n : Machine) : Type 0 where
   pub broken : n.is_broken ≡ true

@@ -6,5 +6,6 @@ pub mod Jobs
 pub mod Machine
 pub mod Members
 pub mod Sound
+pub mod Runs
 pub mod Start
 pub mod Woken

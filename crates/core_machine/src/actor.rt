@@ -1,16 +1,16 @@
 ghost use Rattle.std.specs.Prelude.{◌≡◌, Bool, true, false, ◌<◌, ◌||◌, ◌∷◌, ◌++◌, [], Some, None, length, slice_get, slice_set, vec_capacity, IfOk};
 ghost use Rattle.pipe_model.specs.declared.step.Seen.TheVariants as Told;
 ghost use Rattle.pipe_model.specs.declared.step.Want.{Want as Asked};
-ghost use Rattle.pipe_model.specs.declared.step.Want.TheVariants as Asks;
 ghost use Rattle.stage_steps.specs.Coroutine.{CanResume, Resumes};
 ghost use Rattle.stage_steps.specs.PassesOn.{PassesOn};
-ghost use Rattle.core_machine.specs.Actors.{is_end, gone_out, come_back, gone_on, given_up, asking_for, looks_in, DoesPass};
+ghost use Rattle.stage_steps.specs.Replies.{CanSee};
+ghost use Rattle.core_machine.specs.Actors.{is_end, gone_out, come_back, gone_on, given_up, asking_for, looks_in, DoesPass, HasSeen};
 ghost use Rattle.core_machine.specs.declared.actor.Actor.{Actor as ActorIs};
 
 use pipe_model::{NoMemory, Seen, Want};
-use stage_steps::Stage;
+use stage_steps::{Reply, Stage, leave};
 use std::alloc::Global;
-use std::mem::{self, ManuallyDrop};
+use std::mem;
 
 /// What a core keeps of a strand, besides the desk.
 #[derive(Drop)]
@@ -81,27 +81,68 @@ pub(crate) fn advance<S: Stage>(
     Ok(())
 }
 
-/// Whether all that the strand does, once it took the record of input 0 that it asked to take, is to look at the next one
-/// there. Then it asks for that, and its coroutine is told, or needn't be.
+/// The strand is told that it sees a record on an input, and goes on in place. Where the answer is `Takes` it took the record,
+/// too.
 #[inline(always)]
-pub(crate) fn take_on<S: Stage>(actor: &mut Actor<S>) -> bool
-    requires can { (x : S) × (actor.old.stage ≡ Some x) × CanResume S.stands x (Told.Took 0) [] }
-    requires passes { DoesPass S.stands actor.old }
-    ensures goes { result ≡ true → (x : S) × (y : S) × (actor.old.stage ≡ Some x) × (actor.new ≡ gone_on (Told.Took 0) y (Asks.Read 0) actor.old.passes actor.old) × Resumes S.stands x y (Told.Took 0) [] (Asks.Read 0) × (actor.old.passes ≡ true → PassesOn S.stands y) }
-    ensures stays { result ≡ false → actor.new ≡ actor.old }
+pub(crate) fn see<S: Stage>(
+    actor: &mut Actor<S>,
+    alloc: Global,
+    i: u16,
+    bytes: &[u8],
+) -> Result<Reply, NoMemory>
+    requires { (x : S) × (actor.old.stage ≡ Some x) × CanSee S.stands x i bytes.now }
+    ensures { (x : S) × (y : S) × (asked : Asked) × (passes : Bool) × (actor.old.stage ≡ Some x) × (actor.new ≡ gone_on (Told.Saw i) y asked passes actor.old) × IfOk result (HasSeen S.stands x y i bytes.now asked passes) }
 {
-    if actor.passes {
-        ask(actor, Want::Read(0));
-        return true;
+    if i != 0 {
+        return see_on(actor, alloc, i, bytes);
     }
     let Some(stage) = &mut actor.stage else {
         unreachable!()
     };
-    if !stage.goes_on() {
-        return false;
+    let reply = stage.see(alloc, bytes, &mut actor.asked)?;
+    actor.passes = matches!(reply, Reply::Passes);
+    // Most often it asked for that before, and nothing was left there.
+    if matches!(reply, Reply::Takes) && !matches!(actor.asked, Want::Read(0)) {
+        ask(actor, Want::Read(0));
     }
-    ask(actor, Want::Read(0));
-    true
+    Ok(reply)
+}
+
+// The same on another input.
+#[inline(never)]
+fn see_on<S: Stage>(
+    actor: &mut Actor<S>,
+    alloc: Global,
+    i: u16,
+    bytes: &[u8],
+) -> Result<Reply, NoMemory>
+    requires { (x : S) × (actor.old.stage ≡ Some x) × CanResume S.stands x (Told.Saw i) bytes.now }
+    ensures { (x : S) × (y : S) × (asked : Asked) × (passes : Bool) × (actor.old.stage ≡ Some x) × (actor.new ≡ gone_on (Told.Saw i) y asked passes actor.old) × IfOk result (HasSeen S.stands x y i bytes.now asked passes) }
+{
+    resume(actor, alloc, Seen::Saw(i), bytes)?;
+    if actor.passes {
+        Ok(Reply::Passes)
+    } else {
+        Ok(Reply::Asks)
+    }
+}
+
+/// The strand is told that it put a record on an output, and goes on in place. Its coroutine is told it, but where that
+/// passes a record on. What it asks for is kept.
+#[inline(always)]
+pub(crate) fn put<S: Stage>(actor: &mut Actor<S>, alloc: Global, o: u16) -> Result<(), NoMemory>
+    requires can { (x : S) × (actor.old.stage ≡ Some x) × CanResume S.stands x (Told.Put o) [] }
+    requires passes { DoesPass S.stands actor.old }
+    ensures { (x : S) × (y : S) × (asked : Asked) × (passes : Bool) × (actor.old.stage ≡ Some x) × (actor.new ≡ gone_on (Told.Put o) y asked passes actor.old) × IfOk result (λ done. Resumes S.stands x y (Told.Put o) [] asked × (passes ≡ true → PassesOn S.stands y)) }
+{
+    if actor.passes {
+        ask(actor, Want::Take(0));
+        return Ok(());
+    }
+    let Some(stage) = &mut actor.stage else {
+        unreachable!()
+    };
+    stage.put(alloc, o, &mut actor.asked)
 }
 
 /// The strand's coroutine is told this, and goes on.
@@ -130,9 +171,7 @@ pub(crate) fn resume<S: Stage>(
 pub(crate) fn ask<S: Stage>(actor: &mut Actor<S>, asked: Want)
     ensures { actor.new ≡ asking_for asked actor.old }
 {
-    let last = mem::replace(&mut actor.asked, asked);
-    // It holds no memory to let go: a record that it wrote is in the pool, and so far no stage issues a command.
-    ManuallyDrop::new(last);
+    leave(&mut actor.asked, asked);
 }
 
 // Keeps whether the strand has seen the end of input 0.

@@ -6,7 +6,7 @@ ghost use Rattle.core_machine.specs.Woken.{IsCovering};
 use crate::ready::Ready;
 use crate::settling::{ends, may_settle, settled_before, wake_settled};
 use crate::waking::{wake_consumer, wake_ends};
-use pipe_model::{Net, NoMemory, Out, Seen, Want};
+use pipe_model::{Link, Net, NoMemory, Out, Seen, Want};
 use record_pool::Pool;
 use run_desk::Desk;
 use std::alloc::Global;
@@ -23,8 +23,6 @@ pub enum Ahead {
     Took(u32, u16),
     /// A record is put on an output.
     Put(u32, u16),
-    /// Another event, which is none of a record.
-    Other(u32, u16, Seen),
 }
 
 /// A net, and what is kept of a run of it besides coroutines and journal. Every strand that may go on is in the set of
@@ -279,14 +277,20 @@ impl Floor {
     {
         match self.desk.in_door(strand, i) {
             None => Ahead::Search,
-            Some(j) => {
-                let link = self.net.links.as_slice()[j as usize];
-                if link.queue || link.from >= strand {
-                    return Ahead::Search;
-                }
-                Ahead::Put(link.from, link.output)
-            }
+            Some(link) => self.ahead_of_take_on(strand, self.net.links.as_slice()[link as usize]),
         }
+    }
+
+    /// The same by the link at the input, which is this.
+    #[inline(always)]
+    pub(crate) fn ahead_of_take_on(&self, strand: u32, its: Link) -> Ahead
+        ensures { (d : DeskState) (pool : PoolState) (stream : ℕ) (i : ℕ) (link : ℕ) (asked : Asked) → HasGoneQuietly self.now.net d pool strand stream (Seen.Took i) asked self.now.desk self.now.pool →
+            Telling.in_door self.now.desk strand i ≡ Some link → slice_get self.now.net.links link ≡ Some its → commits asked ≡ false → ((o : ℕ) → IsWriteOn o asked → ⊥) → IsAheadOn self.now.desk result }
+    {
+        if its.queue || its.from >= strand {
+            return Ahead::Search;
+        }
+        Ahead::Put(its.from, its.output)
     }
 
     // After a strand offered a record its consumer may see it: that is next where the consumer stands before the strand that writes, or right
@@ -298,14 +302,27 @@ impl Floor {
         ensures { (d : DeskState) (pool : PoolState) (stream : ℕ) (seen : SeenIs) (asked : Asked) → HasGoneQuietly self.now.net d pool strand stream seen asked self.now.desk self.now.pool →
             HasSeenOrPut self.now.net d strand seen → IsWriteOn o asked → IsAheadOn self.now.desk result }
     {
-        let door = self.desk.out_door(strand, o);
-        let Some(j) = door else {
-            return Ahead::Search;
-        };
-        let link = self.net.links.as_slice()[j as usize];
-        let is_near = link.to < strand || link.to == strand + 1 && !self.desk.may_write(door);
-        if is_near && self.desk.shows(door) && self.desk.reads(link.to, link.input) {
-            Ahead::Saw(link.to, link.input)
+        match self.desk.out_door(strand, o) {
+            None => Ahead::Search,
+            Some(link) => {
+                self.ahead_of_offer_on(strand, link, self.net.links.as_slice()[link as usize])
+            }
+        }
+    }
+
+    /// The same by the link at the output, by its number and what it is.
+    #[inline(always)]
+    pub(crate) fn ahead_of_offer_on(&self, strand: u32, link: u32, its: Link) -> Ahead
+        requires seats { length self.now.desk.seats ≡ length self.now.net.strands }
+        requires wires { length self.now.desk.wires ≡ length self.now.net.links }
+        requires strand { strand < length self.now.net.strands }
+        requires its { slice_get self.now.net.links link ≡ Some its }
+        ensures { (d : DeskState) (pool : PoolState) (stream : ℕ) (seen : SeenIs) (o : ℕ) (asked : Asked) → HasGoneQuietly self.now.net d pool strand stream seen asked self.now.desk self.now.pool →
+            HasSeenOrPut self.now.net d strand seen → IsWriteOn o asked → Telling.out_door self.now.desk strand o ≡ Some link → IsAheadOn self.now.desk result }
+    {
+        let is_near = its.to < strand || its.to - strand == 1;
+        if is_near && self.desk.waits(link) && self.desk.reads(its.to, its.input) {
+            Ahead::Saw(its.to, its.input)
         } else {
             Ahead::Search
         }

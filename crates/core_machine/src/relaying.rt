@@ -4,7 +4,7 @@ ghost use Rattle.pipe_model.specs.declared.step.Out.TheVariants as Outs;
 ghost use Rattle.pipe_model.specs.declared.step.Want.TheVariants as Asks;
 
 use crate::floor::{Ahead, Floor};
-use pipe_model::{Kind, NoMemory, Out, Seen, Want};
+use pipe_model::{Kind, NoMemory, Out, Rec, Seen, Want};
 
 // The sight of a record of more bytes is work of its own, which others needn't wait for.
 const SHORT_RECORD: usize = 1_024;
@@ -13,36 +13,44 @@ const SHORT_RECORD: usize = 1_024;
 const FEW_ITEMS: usize = 32;
 
 impl Floor {
-    ghost use Rattle.std.specs.Prelude.{◌≡◌, ◌<◌, ℕ, true, false, length, Some, None, slice_get, IfOk, OnErr, IfSome};
+    ghost use Rattle.std.specs.Prelude.{◌≡◌, ◌<◌, [], ℕ, false, length, Some, None, slice_get, IfOk, OnErr, IfSome};
     ghost use Rattle.pipe_model.specs.declared.step.Seen.TheVariants as Told;
     ghost use Rattle.pipe_model.specs.declared.step.Out.TheVariants as Outs;
     ghost use Rattle.pipe_model.specs.declared.step.Want.TheVariants as Asks;
     ghost use Rattle.pipe_model.specs.declared.net.Link.{Link as LinkIs};
     ghost use Rattle.connectors.specs.WireState.{IsHeldIn};
-    ghost use Rattle.run_desk.specs.Turns.{CanTurn, CanCome, HasCome, bare, hand_on, desk_after_turn, pool_after_turn};
-    ghost use Rattle.run_desk.specs.Passing.{desk_taking, desk_passed, pool_passed};
+    ghost use Rattle.run_desk.specs.Turns.{CanCome, HasCome, bare, hand_on, desk_after_turn, pool_after_turn};
+    ghost use Rattle.run_desk.specs.Passing.{desk_taking, desk_passed, pool_passed, IsBy};
     ghost use Rattle.run_desk.specs.Desk.{DeskState};
     ghost use Rattle.run_desk.specs.Telling as Telling;
     ghost use Rattle.record_pool.specs.PoolState.{PoolState};
-    ghost use Rattle.core_machine.specs.Actors.{bytes_told};
+    ghost use Rattle.core_machine.specs.Actors.{bytes_ahead};
     ghost use Rattle.core_machine.specs.Floor.{IsInUse, CanMake, StaysEarly};
     ghost use Rattle.core_machine.specs.Woken.{HasReturned, LeastEventAwake, may_settle};
     ghost use Rattle.core_machine.specs.Ahead.{HasSeenOrPut, IsAheadOn};
 
-    /// The bytes of the record at hand on an input, where the strand that sees it next looks.
+    /// The bytes of the record at hand on a link, where the strand that sees it next looks.
     #[inline(always)]
-    pub(crate) fn bytes_ahead(&self, looks: bool, strand: u32, i: u16) -> &[u8]
-        requires strand { strand < length self.now.desk.seats }
-        requires can { CanTurn self.now.desk self.now.pool strand (Told.Saw i) }
-        requires shows { Telling.shows (Telling.wire_in self.now.desk strand i) ≡ true }
-        requires held { IsHeldIn (pool_after_turn self.now.desk self.now.pool strand (Told.Saw i)) (Telling.sight_through (desk_after_turn self.now.desk strand (Told.Saw i)).sights (Telling.sight_door (desk_after_turn self.now.desk strand (Told.Saw i)) strand i)) }
-        ensures { result.now ≡ bytes_told looks (desk_after_turn self.now.desk strand (Told.Saw i)) (pool_after_turn self.now.desk self.now.pool strand (Told.Saw i)) strand (Told.Saw i) }
+    pub(crate) fn bytes_ahead(&self, looks: bool, link: u32) -> &[u8]
+        requires link { link < length self.now.desk.wires }
+        requires held { IsHeldIn self.now.pool (hand_on (Telling.through self.now.desk.wires (Some link))) }
+        ensures { result.now ≡ bytes_ahead looks self.now.desk self.now.pool link }
     {
         if looks {
-            self.desk.bytes_at_hand(&self.pool, strand, i)
+            self.desk.bytes_at_hand(&self.pool, link)
         } else {
             &[]
         }
+    }
+
+    /// The number of the link at a strand's input.
+    #[inline(always)]
+    pub(crate) fn link_in(&self, strand: u32, i: u16) -> Option<u32>
+        requires { strand < length self.now.desk.seats }
+        ensures door { result ≡ Telling.in_door self.now.desk strand i }
+        ensures there { Telling.LeadsBelow (length self.now.desk.wires) result }
+    {
+        self.desk.in_door(strand, i)
     }
 
     /// Whether what a strand does with the record at hand on an input may take more than some five microseconds. Nothing is
@@ -58,12 +66,19 @@ impl Floor {
         has_many || self.desk.size_at_hand(&self.pool, strand, i) > SHORT_RECORD
     }
 
-    /// A strand sees the record at hand on an input, and comes home with what it wants next, out of which a new record is
-    /// moved. Those whom that may concern are woken. The answer is what is known of the next event. Out of memory leaves the
-    /// desk and the pool as they are after the sight.
+    /// A strand sees the record at hand on an input, to which this link leads, and comes home with what it wants next, out of
+    /// which a new record is moved. Those whom that may concern are woken. The answer is what is known of the next event. Out of
+    /// memory leaves the desk and the pool as they are after the sight.
     #[inline(always)]
-    pub(crate) fn see(&mut self, strand: u32, i: u16, want: &mut Want) -> Result<Ahead, NoMemory>
+    pub(crate) fn see(
+        &mut self,
+        strand: u32,
+        i: u16,
+        from: u32,
+        want: &mut Want,
+    ) -> Result<Ahead, NoMemory>
         requires can { CanMake self.old.net self.old.desk self.old.pool strand (Told.Saw i) }
+        requires from { Telling.in_door self.old.desk strand i ≡ Some from }
         requires least { (stream : ℕ) × LeastEventAwake self.old.desk (Some (strand, stream, Told.Saw i)) }
         requires quiet { may_settle self.old.desk strand (Told.Saw i) ≡ false }
         requires used { IsInUse self.old.net (desk_after_turn self.old.desk strand (Told.Saw i)) }
@@ -80,7 +95,7 @@ impl Floor {
     {
         if let Some(o) = passed_to(want, i) {
             if let Some(link) = self.rendezvous_at(strand, o) {
-                return Ok(self.pass_on(strand, i, o, link));
+                return Ok(self.pass_on(strand, i, o, from, link));
             }
         }
         self.make(strand, Seen::Saw(i));
@@ -88,9 +103,9 @@ impl Floor {
         Ok(self.ahead(strand, Seen::Saw(i), want))
     }
 
-    // The number of the link at a strand's output, where that is a rendezvous.
+    /// The number of the link at a strand's output, where that is a rendezvous.
     #[inline(always)]
-    fn rendezvous_at(&self, strand: u32, o: u16) -> Option<u32>
+    pub(crate) fn rendezvous_at(&self, strand: u32, o: u16) -> Option<u32>
         requires used { IsInUse self.now.net self.now.desk }
         requires strand { strand < length self.now.net.strands }
         ensures { IfSome result (λ j. (Telling.out_door self.now.desk strand o ≡ Some j) × ((link : LinkIs) × (slice_get self.now.net.links j ≡ Some link) × (link.queue ≡ false))) }
@@ -103,10 +118,12 @@ impl Floor {
         }
     }
 
-    // A strand sees the record at hand on an input, and comes home to write it on an output, which leads to this rendezvous.
+    // A strand sees the record at hand on an input, to which the one link leads, and comes home to write it on an output, which
+    // leads to the other, a rendezvous.
     #[inline(always)]
-    fn pass_on(&mut self, strand: u32, i: u16, o: u16, link: u32) -> Ahead
+    fn pass_on(&mut self, strand: u32, i: u16, o: u16, from: u32, link: u32) -> Ahead
         requires can { CanMake self.old.net self.old.desk self.old.pool strand (Told.Saw i) }
+        requires from { Telling.in_door self.old.desk strand i ≡ Some from }
         requires least { (stream : ℕ) × LeastEventAwake self.old.desk (Some (strand, stream, Told.Saw i)) }
         requires quiet { may_settle self.old.desk strand (Told.Saw i) ≡ false }
         requires used { IsInUse self.old.net (desk_after_turn self.old.desk strand (Told.Saw i)) }
@@ -121,20 +138,113 @@ impl Floor {
     {
         let its = self.net.links.as_slice()[link as usize];
         self.ready.insert(its.to);
-        self.desk.pass_on(&mut self.pool, strand, i, o, link);
-        let door = Some(link);
-        let is_near = its.to < strand || its.to == strand + 1 && !self.desk.may_write(door);
-        if is_near && self.desk.shows(door) && self.desk.reads(its.to, its.input) {
-            Ahead::Saw(its.to, its.input)
-        } else {
-            Ahead::Search
-        }
+        self.desk.pass_on(&mut self.pool, strand, i, o, from, link);
+        self.ahead_of_offer_on(strand, link, its)
     }
 
-    /// A strand is told this, takes the record that it saw on an input, and comes home to look at the next one there. Those
-    /// whom that may concern are woken. The answer is what is known of the next event.
+    /// A strand sees the record at hand on an input, and stays out.
+    #[cold]
+    #[inline(never)]
+    pub(crate) fn see_in_vain(&mut self, strand: u32, i: u16)
+        requires { CanMake self.old.net self.old.desk self.old.pool strand (Told.Saw i) }
+        ensures net { self.new.net ≡ self.old.net }
+        ensures desk { self.new.desk ≡ desk_after_turn self.old.desk strand (Told.Saw i) }
+        ensures pool { self.new.pool ≡ pool_after_turn self.old.desk self.old.pool strand (Told.Saw i) }
+    {
+        self.make(strand, Seen::Saw(i));
+    }
+
+    /// A strand has put a record on an output, and stays out.
+    #[cold]
+    #[inline(never)]
+    pub(crate) fn put_in_vain(&mut self, strand: u32, o: u16)
+        requires { CanMake self.old.net self.old.desk self.old.pool strand (Told.Put o) }
+        ensures net { self.new.net ≡ self.old.net }
+        ensures desk { self.new.desk ≡ desk_after_turn self.old.desk strand (Told.Put o) }
+        ensures pool { self.new.pool ≡ pool_after_turn self.old.desk self.old.pool strand (Told.Put o) }
+    {
+        self.make(strand, Seen::Put(o));
+    }
+
+    /// A strand has put a record on an output, which leads to this rendezvous, and comes home with what it wants next, out of
+    /// which a new record is moved. Those whom that may concern are woken. The answer is what is known of the next event. Out of
+    /// memory leaves the desk and the pool as they are after the record was put.
     #[inline(always)]
-    pub(crate) fn take_after(&mut self, strand: u32, seen: Seen, i: u16) -> Ahead
+    pub(crate) fn put(
+        &mut self,
+        strand: u32,
+        o: u16,
+        link: u32,
+        want: &mut Want,
+    ) -> Result<Ahead, NoMemory>
+        requires can { CanMake self.old.net self.old.desk self.old.pool strand (Told.Put o) }
+        requires door { Telling.out_door self.old.desk strand o ≡ Some link }
+        requires rendezvous { (l : LinkIs) × (slice_get self.old.net.links link ≡ Some l) × (l.queue ≡ false) }
+        requires least { (stream : ℕ) × LeastEventAwake self.old.desk (Some (strand, stream, Told.Put o)) }
+        requires used { IsInUse self.old.net (desk_after_turn self.old.desk strand (Told.Put o)) }
+        requires live { Telling.ended_at (desk_after_turn self.old.desk strand (Told.Put o)) strand ≡ false }
+        requires home { CanCome (desk_after_turn self.old.desk strand (Told.Put o)) (pool_after_turn self.old.desk self.old.pool strand (Told.Put o)) strand want.old }
+        requires early { StaysEarly (desk_after_turn self.old.desk strand (Told.Put o)) (pool_after_turn self.old.desk self.old.pool strand (Told.Put o)) strand want.old }
+        requires used_home { (desk : DeskState) (pool : PoolState) → HasCome (desk_after_turn self.old.desk strand (Told.Put o)) (pool_after_turn self.old.desk self.old.pool strand (Told.Put o)) strand want.old desk pool → IsInUse self.old.net desk }
+        ensures net { self.new.net ≡ self.old.net }
+        ensures home { IfOk result (λ ahead. HasReturned (desk_after_turn self.old.desk strand (Told.Put o)) (pool_after_turn self.old.desk self.old.pool strand (Told.Put o)) strand want.old self.new.desk self.new.pool) }
+        ensures bare { want.new ≡ bare want.old }
+        ensures ahead { IfOk result (IsAheadOn self.new.desk) }
+        ensures err { OnErr result (self.new.desk ≡ desk_after_turn self.old.desk strand (Told.Put o)) }
+        ensures err_pool { OnErr result (self.new.pool ≡ pool_after_turn self.old.desk self.old.pool strand (Told.Put o)) }
+    {
+        if let Want::Write(k, out) = want {
+            if *k == o {
+                if let Out::Fresh(rec) = out {
+                    return self.write_on(strand, o, rec, link);
+                }
+            }
+        }
+        self.make(strand, Seen::Put(o));
+        self.come_home(strand, false, want)?;
+        Ok(self.ahead(strand, Seen::Put(o), want))
+    }
+
+    // A strand has put a record on an output, which leads to this rendezvous, and comes home to write a new one there. Out of
+    // memory leaves the desk and the pool as they are after the record was put.
+    #[inline(always)]
+    fn write_on(&mut self, strand: u32, o: u16, rec: &mut Rec, link: u32) -> Result<Ahead, NoMemory>
+        requires can { CanMake self.old.net self.old.desk self.old.pool strand (Told.Put o) }
+        requires door { Telling.out_door self.old.desk strand o ≡ Some link }
+        requires rendezvous { (l : LinkIs) × (slice_get self.old.net.links link ≡ Some l) × (l.queue ≡ false) }
+        requires least { (stream : ℕ) × LeastEventAwake self.old.desk (Some (strand, stream, Told.Put o)) }
+        requires used { IsInUse self.old.net (desk_after_turn self.old.desk strand (Told.Put o)) }
+        requires live { Telling.ended_at (desk_after_turn self.old.desk strand (Told.Put o)) strand ≡ false }
+        requires home { CanCome (desk_after_turn self.old.desk strand (Told.Put o)) (pool_after_turn self.old.desk self.old.pool strand (Told.Put o)) strand (Asks.Write o (Outs.Fresh rec.old)) }
+        requires early { StaysEarly (desk_after_turn self.old.desk strand (Told.Put o)) (pool_after_turn self.old.desk self.old.pool strand (Told.Put o)) strand (Asks.Write o (Outs.Fresh rec.old)) }
+        ensures net { self.new.net ≡ self.old.net }
+        ensures home { IfOk result (λ ahead. HasReturned (desk_after_turn self.old.desk strand (Told.Put o)) (pool_after_turn self.old.desk self.old.pool strand (Told.Put o)) strand (Asks.Write o (Outs.Fresh rec.old)) self.new.desk self.new.pool) }
+        ensures left { rec.new ≡ [] }
+        ensures ahead { IfOk result (IsAheadOn self.new.desk) }
+        ensures err { OnErr result (self.new.desk ≡ desk_after_turn self.old.desk strand (Told.Put o)) }
+        ensures err_pool { OnErr result (self.new.pool ≡ pool_after_turn self.old.desk self.old.pool strand (Told.Put o)) }
+    {
+        let its = self.net.links.as_slice()[link as usize];
+        self.ready.insert(its.to);
+        self.desk.write_on(&mut self.pool, strand, o, rec, link)?;
+        Ok(self.ahead_of_offer_on(strand, link, its))
+    }
+
+    /// A strand is told this: that it saw the record of an input, or put one through a door. It takes the record of the input,
+    /// to which this link leads, and comes home to look at the next one there. Those whom that may concern are woken. The answer
+    /// is what is known of the next event.
+    #[inline(always)]
+    pub(crate) fn take_after(
+        &mut self,
+        strand: u32,
+        seen: Seen,
+        put: Option<u32>,
+        i: u16,
+        from: u32,
+    ) -> Ahead
+        requires by { IsBy self.old.desk strand seen i put }
+        requires from { Telling.in_door self.old.desk strand i ≡ Some from }
+        requires there { from < length self.old.desk.wires }
         requires can { CanMake self.old.net self.old.desk self.old.pool strand seen }
         requires quiet { may_settle self.old.desk strand seen ≡ false }
         requires awake { (stream : ℕ) × LeastEventAwake self.old.desk (Some (strand, stream, seen)) }
@@ -150,16 +260,11 @@ impl Floor {
         ensures pool { self.new.pool ≡ pool_passed self.old.desk self.old.pool strand seen i }
         ensures ahead { IsAheadOn self.new.desk result }
     {
-        self.desk.take_after(&mut self.pool, strand, seen, i);
-        let Some(j) = self.desk.in_door(strand, i) else {
-            return Ahead::Search;
-        };
-        let link = self.net.links.as_slice()[j as usize];
-        self.ready.insert(link.from);
-        if link.queue || link.from >= strand {
-            return Ahead::Search;
-        }
-        Ahead::Put(link.from, link.output)
+        self.desk
+            .take_after(&mut self.pool, strand, seen, put, i, from);
+        let its = self.net.links.as_slice()[from as usize];
+        self.ready.insert(its.from);
+        self.ahead_of_take_on(strand, its)
     }
 }
 

@@ -1,25 +1,51 @@
-ghost use Rattle.std.specs.Prelude.{◌≡◌, false};
+ghost use Rattle.std.specs.Prelude.{◌≡◌, ℕ, Some, false};
+ghost use Rattle.core_machine.specs.Ahead.{event_ahead};
 ghost use Rattle.core_machine.specs.Answered.{is_of_record};
+ghost use Rattle.pipe_model.specs.declared.step.Seen.{Seen as Told};
 
-use crate::actor::{advance, ask, give_up, resume, take_on};
+use crate::actor::{advance, ask, give_up, put, see};
 use crate::core_state::Core;
 use crate::floor::Ahead;
 use crate::job::RunEnd;
 use crate::settling::ends;
 use outside::{Gate, OpenGate};
 use pipe_model::{Entry, NoMemory, Seen, Want};
-use stage_steps::Stage;
+use stage_steps::{Reply, Stage};
 use std::alloc::Global;
+
+// Which of the least events a run makes.
+#[derive(Clone, Copy)]
+pub(crate) enum Which {
+    All,
+    /// Those by which a record is seen, taken or put.
+    OfRecords,
+    /// Those by which a record is taken or put.
+    Quiet,
+}
+
+impl Which {
+    ghost use Rattle.std.specs.Prelude.{◌≡◌, true};
+    ghost use Rattle.core_machine.specs.Runs.{is_made, may_end};
+    ghost use Rattle.pipe_model.specs.declared.step.Seen.TheVariants as Told;
+
+    // Whether an event is made.
+    fn makes(self, seen: Seen) -> bool
+        ensures makes { result ≡ true → is_made self seen ≡ true }
+        ensures ends { result ≡ false → may_end self seen ≡ true }
+    {
+        matches!(self, Which::All) || is_quiet(seen)
+    }
+}
 
 impl<S: Stage> Core<S> {
     ghost use Rattle.std.specs.Prelude.{◌≡◌, ◌<◌, ◌≤◌, ◌+◌, [], Some, false, true, ◌++◌, ◌∷◌, length, IfOk, OnOk, OnErr};
     ghost use Rattle.pipe_model.specs.Event.{Event};
     ghost use Rattle.pipe_model.specs.declared.step.Seen.TheVariants as Told;
     ghost use Rattle.stage_steps.specs.Coroutine.{told};
-    ghost use Rattle.core_machine.specs.Ahead.{IsAhead, event_ahead};
-    ghost use Rattle.core_machine.specs.declared.floor.Ahead.TheVariants as AheadIs;
+    ghost use Rattle.core_machine.specs.Ahead.{IsAhead};
     ghost use Rattle.core_machine.specs.Machine.{licence_of, IsLawful};
     ghost use Rattle.core_machine.specs.Answered.{LeastEvent, HasRun, HasRunOnRecords, HasBroken, HasMade, Ends, IsEndOnRecords};
+    ghost use Rattle.core_machine.specs.Runs.{is_made, may_end, HasRunBy, IsEndBy};
 
     /// Makes the least event that may be, of the least strand on its least stream, until there is none or the journal
     /// has as many entries as the budget allows. The gate is entered before the work on each record that a strand saw.
@@ -31,19 +57,7 @@ impl<S: Stage> Core<S> {
         ensures lacks { OnErr result (HasBroken self.old self.new) }
         ensures lawful { IsLawful self.new }
     {
-        let mut ahead = Ahead::Search;
-        let limit = self.budget;
-        while (self.journal.len() as u64) < limit {
-            ahead = match self.next(ahead) {
-                Ahead::Search => return Ok(RunEnd::Complete),
-                Ahead::Saw(strand, i) => self.see(alloc, gate, strand, i, limit)?,
-                Ahead::Took(strand, i) => self.go_on(alloc, gate, strand, i, Seen::Took(i))?,
-                Ahead::Put(strand, o) => self.put(alloc, gate, strand, o, limit)?,
-                Ahead::Other(strand, stream, seen) => {
-                    self.go_on_otherwise(alloc, gate, strand, stream, seen)?
-                }
-            };
-        }
+        self.run(alloc, gate, Which::All, self.budget)?;
         match self.least_event() {
             None => Ok(RunEnd::Complete),
             Some(_) => Ok(RunEnd::Spent),
@@ -68,59 +82,65 @@ impl<S: Stage> Core<S> {
     {
         let start = self.len();
         let limit = self.budget.min(start.saturating_add(most));
-        let mut ahead = Ahead::Search;
-        while self.len() < limit {
-            ahead = match self.next(ahead) {
-                Ahead::Search => return Ok(self.len() - start),
-                Ahead::Saw(strand, i) => {
-                    if !sights || self.takes_long(strand, i) {
-                        return Ok(self.len() - start);
-                    }
-                    self.see(alloc, &OpenGate, strand, i, limit)?
-                }
-                Ahead::Took(strand, i) => self.go_on(alloc, &OpenGate, strand, i, Seen::Took(i))?,
-                Ahead::Put(strand, o) => self.put(alloc, &OpenGate, strand, o, limit)?,
-                Ahead::Other(strand, stream, seen) => {
-                    if !is_quiet(seen) {
-                        return Ok(self.len() - start);
-                    }
-                    self.go_on_otherwise(alloc, &OpenGate, strand, stream, seen)?
-                }
-            };
-        }
+        let which = if sights {
+            Which::OfRecords
+        } else {
+            Which::Quiet
+        };
+        self.run(alloc, &OpenGate, which, limit)?;
         Ok(self.len() - start)
     }
 
-    // The least event that may be, which is looked for where it isn't known, or `Search` where there is none.
-    #[inline(always)]
-    fn next(&mut self, ahead: Ahead) -> Ahead
-        requires { IsAhead self.old ahead }
-        ensures same { self.new ≡ self.old }
-        ensures next { LeastEvent self.old (event_ahead result) }
-        ensures lawful { result ≡ AheadIs.Search → IsLawful self.new }
-    {
-        match ahead {
-            Ahead::Search => self.look(),
-            ahead => ahead,
-        }
-    }
-
-    // The least event that may be, which is looked for, or `Search` where there is none.
-    #[inline(always)]
-    fn look(&mut self) -> Ahead
-        ensures same { self.new ≡ self.old }
-        ensures next { LeastEvent self.old (event_ahead result) }
+    // Makes the least event that may be, again and again, as long as it is one of these and the journal has fewer entries than
+    // the limit. It is one function for all runs, so that their loop has the steps on records in it.
+    #[inline(never)]
+    fn run<G: Gate>(
+        &mut self,
+        alloc: Global,
+        gate: &G,
+        which: Which,
+        limit: u64,
+    ) -> Result<(), NoMemory>
+        requires whole { self.old.is_broken ≡ false }
+        requires limit { limit ≤ self.old.budget }
+        requires within { length self.old.journal ≤ limit }
+        ensures runs { IfOk result (λ _. HasRunBy (is_made which) self.old self.new) }
+        ensures within { IfOk result (λ _. length self.new.journal ≤ limit) }
+        ensures ends { IfOk result (λ _. IsEndBy (may_end which) limit self.new) }
+        ensures lacks { OnErr result (HasBroken self.old self.new) }
         ensures lawful { IsLawful self.new }
     {
-        match self.least_event() {
-            None => Ahead::Search,
-            Some((strand, stream, seen)) => match seen {
-                Seen::Saw(i) if i == stream => Ahead::Saw(strand, i),
-                Seen::Took(i) if i == stream => Ahead::Took(strand, i),
-                Seen::Put(o) if o == stream => Ahead::Put(strand, o),
-                seen => Ahead::Other(strand, stream, seen),
-            },
+        let mut ahead = Ahead::Search;
+        while self.len() < limit {
+            ahead = match ahead {
+                Ahead::Search => match self.least_event() {
+                    None => return Ok(()),
+                    Some((strand, stream, seen)) => match known(strand, stream, seen) {
+                        Ahead::Search => {
+                            if !which.makes(seen) {
+                                return Ok(());
+                            }
+                            self.go_on_otherwise(alloc, gate, strand, stream, seen)?
+                        }
+                        found => found,
+                    },
+                },
+                Ahead::Saw(strand, i) => {
+                    let is_made = match which {
+                        Which::All => true,
+                        Which::OfRecords => !self.takes_long(strand, i),
+                        Which::Quiet => false,
+                    };
+                    if !is_made {
+                        return Ok(());
+                    }
+                    self.see(alloc, gate, strand, i, limit)?
+                }
+                Ahead::Took(strand, i) => self.go_on(alloc, gate, strand, i, Seen::Took(i))?,
+                Ahead::Put(strand, o) => self.put(alloc, gate, strand, o, limit)?,
+            };
         }
+        Ok(())
     }
 
     // Makes an event of another kind, apart from the loop.
@@ -172,34 +192,56 @@ impl<S: Stage> Core<S> {
         ensures lacks { OnErr result (HasBroken self.old self.new) }
         ensures lawful { IsLawful self.new }
     {
-        let seen = Seen::Saw(i);
-        if self.floor.may_settle(strand, seen) {
-            return self.go_on_otherwise(alloc, gate, strand, i, seen);
+        if self.journal.len() as u64 + 1 >= limit {
+            return self.see_otherwise(alloc, gate, strand, i);
         }
+        if self.floor.may_settle(strand, Seen::Saw(i)) {
+            return self.see_otherwise(alloc, gate, strand, i);
+        }
+        let Some(from) = self.floor.link_in(strand, i) else {
+            return self.see_otherwise(alloc, gate, strand, i);
+        };
         gate.enter(strand);
         self.journal.push_reserved(Entry { strand, stream: i });
         let actor = &mut self.actors[strand as usize];
-        let bytes = self.floor.bytes_ahead(actor.looks, strand, i);
-        let Ok(()) = resume(actor, alloc, seen, bytes) else {
-            self.floor.make(strand, seen);
+        let bytes = self.floor.bytes_ahead(actor.looks, from);
+        let Ok(reply) = see(actor, alloc, i, bytes) else {
+            self.floor.see_in_vain(strand, i);
             give_up(actor, &mut self.out, self.journal.len() as u64);
             self.is_broken = true;
             return Err(NoMemory);
         };
-        if i == 0
-            && matches!(actor.asked, Want::Take(0))
-            && (self.journal.len() as u64) < limit
-            && take_on(actor)
-        {
+        if matches!(reply, Reply::Takes) {
             self.journal.push_reserved(Entry { strand, stream: 0 });
-            return Ok(self.floor.take_after(strand, seen, 0));
+            return Ok(self.floor.take_after(strand, Seen::Saw(0), None, 0, from));
         }
-        let Ok(ahead) = self.floor.see(strand, i, &mut actor.asked) else {
+        let Ok(ahead) = self.floor.see(strand, i, from, &mut actor.asked) else {
             give_up(actor, &mut self.out, self.journal.len() as u64);
             self.is_broken = true;
             return Err(NoMemory);
         };
         Ok(ahead)
+    }
+
+    // The same where the sight may settle something for many strands, or no second event has room.
+    #[cold]
+    #[inline(never)]
+    fn see_otherwise<G: Gate>(
+        &mut self,
+        alloc: Global,
+        gate: &G,
+        strand: u32,
+        i: u16,
+    ) -> Result<Ahead, NoMemory>
+        requires least { LeastEvent self.old (Some (strand, i, Told.Saw i)) }
+        requires space { length self.old.journal < self.old.budget }
+        requires whole { self.old.is_broken ≡ false }
+        ensures goes { OnOk result (self.new ≡ record self.old { journal = self.old.journal ++ (record { strand = strand; stream = i }) ∷ [] }) }
+        ensures ahead { IfOk result (IsAhead self.new) }
+        ensures lacks { OnErr result (HasBroken self.old self.new) }
+        ensures lawful { IsLawful self.new }
+    {
+        self.go_on(alloc, gate, strand, i, Seen::Saw(i))
     }
 
     // The strand puts a record on an output, which is the least event that may be, and its coroutine goes on, in place. Where
@@ -222,17 +264,53 @@ impl<S: Stage> Core<S> {
         ensures lacks { OnErr result (HasBroken self.old self.new) }
         ensures lawful { IsLawful self.new }
     {
-        let actor = &mut self.actors[strand as usize];
-        if !actor.passes
-            || self.journal.len() as u64 + 1 >= limit
-            || self.floor.writes_queue(strand, o)
-        {
-            return self.go_on(alloc, gate, strand, o, Seen::Put(o));
-        }
+        let Some(link) = self.floor.rendezvous_at(strand, o) else {
+            return self.put_otherwise(alloc, gate, strand, o);
+        };
         self.journal.push_reserved(Entry { strand, stream: o });
-        self.journal.push_reserved(Entry { strand, stream: 0 });
-        ask(actor, Want::Read(0));
-        Ok(self.floor.take_after(strand, Seen::Put(o), 0))
+        let actor = &mut self.actors[strand as usize];
+        if actor.passes && (self.journal.len() as u64) < limit {
+            if let Some(from) = self.floor.link_in(strand, 0) {
+                self.journal.push_reserved(Entry { strand, stream: 0 });
+                ask(actor, Want::Read(0));
+                return Ok(
+                    self.floor
+                        .take_after(strand, Seen::Put(o), Some(link), 0, from),
+                );
+            }
+        }
+        let Ok(()) = put(actor, alloc, o) else {
+            self.floor.put_in_vain(strand, o);
+            give_up(actor, &mut self.out, self.journal.len() as u64);
+            self.is_broken = true;
+            return Err(NoMemory);
+        };
+        let Ok(ahead) = self.floor.put(strand, o, link, &mut actor.asked) else {
+            give_up(actor, &mut self.out, self.journal.len() as u64);
+            self.is_broken = true;
+            return Err(NoMemory);
+        };
+        Ok(ahead)
+    }
+
+    // The same where the output leads to no rendezvous.
+    #[inline(never)]
+    fn put_otherwise<G: Gate>(
+        &mut self,
+        alloc: Global,
+        gate: &G,
+        strand: u32,
+        o: u16,
+    ) -> Result<Ahead, NoMemory>
+        requires least { LeastEvent self.old (Some (strand, o, Told.Put o)) }
+        requires space { length self.old.journal < self.old.budget }
+        requires whole { self.old.is_broken ≡ false }
+        ensures goes { OnOk result (self.new ≡ record self.old { journal = self.old.journal ++ (record { strand = strand; stream = o }) ∷ [] }) }
+        ensures ahead { IfOk result (IsAhead self.new) }
+        ensures lacks { OnErr result (HasBroken self.old self.new) }
+        ensures lawful { IsLawful self.new }
+    {
+        self.go_on(alloc, gate, strand, o, Seen::Put(o))
     }
 
     // Makes the least event that may be, and goes on with the strand's coroutine, in place. It answers what is known of the next event.
@@ -286,6 +364,19 @@ impl<S: Stage> Core<S> {
         ensures lawful { IsLawful self.new }
     {
         self.floor.least_event()
+    }
+}
+
+// The event, where it is one of a record, or `Search` where it is another.
+#[inline(always)]
+fn known(strand: u32, stream: u16, seen: Seen) -> Ahead
+    ensures { (r : ℕ × ℕ × Told) → event_ahead result ≡ Some r → r ≡ (strand, stream, seen) }
+{
+    match seen {
+        Seen::Saw(i) if i == stream => Ahead::Saw(strand, i),
+        Seen::Took(i) if i == stream => Ahead::Took(strand, i),
+        Seen::Put(o) if o == stream => Ahead::Put(strand, o),
+        _ => Ahead::Search,
     }
 }
 

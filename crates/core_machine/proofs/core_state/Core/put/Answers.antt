@@ -1,270 +1,306 @@
 -- The strand passes its record on and takes the one at hand, or it is told that its record was put: the core is sound after either.
-use Rattle.std.proofs.Common.{rules, ◌≡◌, ℕ, zero, suc, List, ◌<◌, ◌≤◌, ◌+◌, [], Some, true, inr, ◌++◌, ◌∷◌, length, arith, refl, slice_get, slice_set, vec_capacity, sym, ◌∙◌, ap, subst}
+use Rattle.std.proofs.Common.{rules, ◌≡◌, ◌<◌, ◌≤◌, ◌+◌, inr, [], Some, true, ◌++◌, ◌∷◌, suc, length, arith, refl, slice_set, vec_capacity, sym, ◌∙◌, ap, subst}
 use Rattle.pipe_model.specs.declared.net.Net.{Net}
+use Rattle.pipe_model.specs.declared.step.Entry.{Entry}
 use Rattle.pipe_model.specs.declared.step.Seen.TheVariants.{Took, Put}
-use Rattle.run_desk.specs.Passing.{desk_passed, pool_passed}
+use Rattle.run_desk.specs.Telling as Telling
+use Rattle.run_desk.specs.Turns.{desk_after_turn, pool_after_turn}
 use Rattle.core_machine.specs.declared.actor.Actor.{Actor}
-use Rattle.core_machine.specs.declared.core_state.Core.TheInside.{Inside}
+use Rattle.core_machine.specs.Actors.{asking_for, given_up}
 use Rattle.core_machine.specs.Answered.{LeastEvent}
 use Rattle.core_machine.specs.Machine.{Machine}
 use Rattle.core_machine.specs.Sound.{IsSound}
-use Rattle.core_machine.proofs.PutsOn.{can, used, early, takes, takes_next, takes_least, used_last, early_last, sound_after}
+use Rattle.core_machine.proofs.InPlace.{lawful_broken, sound_broken, live, home, home_early, home_used, home_sound}
+use Rattle.core_machine.proofs.Plays.{has_seat}
+use Rattle.core_machine.proofs.PutsOn.{used, early, takes, takes_next, takes_least, used_last, early_last, sound_after, no_bytes_put}
 use Rattle.core_machine.proofs.Sounds.{in_range, in_use, event_is, lawful}
-use Rattle.core_machine.proofs.Tellings.{telling}
+use Rattle.core_machine.proofs.Tellings.{makes, within, does, resumes_it, room_out, used_out, with_stage, sound_at}
+use Rattle.core_machine.proofs.core_state.Core.put.Given.{Over}
 use Rattle.core_machine.proofs.core_state.Core.put.Goals as goal
-use Rattle.core_machine.proofs.core_state.Core.put.Goals.{then-not-actor-via-then-not-actor, then-not-actor-via-else-not-actor+then-len-limit, then-not-actor-via-else-not-actor+else-len-limit+then-writes_queue}
+use Rattle.core_machine.proofs.core_state.Core.put.Goals.{In-Ok-put}
+mod Offer
+use Rattle.core_machine.proofs.core_state.Core.put.Answers.Offer.{offer, plain}
 
--- what is written back where it was found changes nothing
-set_back : {A : Type 0} (xs : List A) (k : ℕ) (x : A) → slice_get xs k ≡ Some x → slice_set xs k x ≡ xs
-set_back [] k x at = refl
-set_back (z ∷ zs) zero x at = let is : x ≡ z = cc at in ap (λ y. y ∷ zs) is
-set_back (z ∷ zs) (suc k) x at = ap (λ l. z ∷ l) (set_back zs k x at)
-
-pub writes_queue-requires-clause-used : goal.writes_queue-requires-clause-used
-writes_queue-requires-clause-used g c =
+pub rendezvous_at-requires-clause-used : goal.rendezvous_at-requires-clause-used
+rendezvous_at-requires-clause-used g c =
     let i = c.self.inside in
     in_use g.S.Stage.stands i.floor.net i.budget i.journal.items i.out.items i.actors.items i.floor.desk i.floor.pool c.self.invariant.0
 
-pub writes_queue-requires-clause-strand : goal.writes_queue-requires-clause-strand
-writes_queue-requires-clause-strand g c =
+pub rendezvous_at-requires-clause-strand : goal.rendezvous_at-requires-clause-strand
+rendezvous_at-requires-clause-strand g c =
     let i = c.self.inside in
     let v : ◌≡◌ {A = Machine} (record { net = i.floor.net; budget = i.budget; journal = i.journal.items; out = i.out.items; is_broken = i.is_broken }) c.args.self.now = c.self.view_is in
     let least = subst (λ (z : Machine). LeastEvent z (Some (c.args.strand, c.args.o, Put c.args.o))) (sym v) c.requires.least in
-    in_range g.S.Stage.stands i.floor.net i.budget i.journal.items i.out.items i.actors.items i.floor.desk i.floor.pool c.self.invariant.0 c.args.strand c.args.o least.1.0 least.1.1
+    let within = in_range g.S.Stage.stands i.floor.net i.budget i.journal.items i.out.items i.actors.items i.floor.desk i.floor.pool c.self.invariant.0 c.args.strand c.args.o least.1.0 least.1.1 in
+    within
 
-pub invariant_of-self : goal.invariant_of-self
-invariant_of-self g c =
+pub index_mut-actor-requires : goal.index_mut-actor-requires
+index_mut-actor-requires g c =
     let i = c.self.inside in
     let v : ◌≡◌ {A = Machine} (record { net = i.floor.net; budget = i.budget; journal = i.journal.items; out = i.out.items; is_broken = i.is_broken }) c.args.self.now = c.self.view_is in
     let least = subst (λ (z : Machine). LeastEvent z (Some (c.args.strand, c.args.o, Put c.args.o))) (sym v) c.requires.least in
-    let a = c.index_mut-actor.result.now in
-    let limit = subst (λ (z : Machine). c.args.limit ≤ z.budget) (sym v) c.requires.limit in
-    let few = subst (λ (z : Machine). length z.journal < c.args.limit) (sym v) c.requires.space in
-    let room : length i.journal.items < i.budget = omega (arith, limit, few) in
-    let t = telling g.S.Stage.stands i.floor.net i.budget i.journal.items i.out.items i.actors.items i.floor.desk i.floor.pool i.is_broken c.args.strand c.args.o (Put c.args.o) a c.self.invariant.0 least room c.index_mut-actor.ensures.value in
-    let same = set_back i.actors.items c.args.strand a t.there in
-    let there : IsSound g.S.Stage.stands i.floor.net i.budget i.journal.items i.out.items (slice_set i.actors.items c.args.strand a) i.floor.desk i.floor.pool × (i.budget ≤ vec_capacity i.journal) × (length i.floor.net.strands ≤ vec_capacity i.out) =
-    (subst (λ (l : List (Actor g.row.S.Denot)). IsSound g.S.Stage.stands i.floor.net i.budget i.journal.items i.out.items l i.floor.desk i.floor.pool) (sym same) c.self.invariant.0, c.self.invariant.1, c.self.invariant.2) in
-    let core = λ (z : Inside g.row.S.Denot). IsSound g.S.Stage.stands z.floor.net z.budget z.journal.items z.out.items z.actors.items z.floor.desk z.floor.pool × (z.budget ≤ vec_capacity z.journal) × (length z.floor.net.strands ≤ vec_capacity z.out) in
-    elim c.then-not-actor.branch [
-      | then-not-actor-via-then-not-actor w ↦ subst core (sym w.self-inside-is) there
-      | then-not-actor-via-else-not-actor+then-len-limit w ↦ subst core (sym w.self-inside-is) there
-      | then-not-actor-via-else-not-actor+else-len-limit+then-writes_queue w ↦ subst core (sym w.self-inside-is) there
-    ]
+    let within = in_range g.S.Stage.stands i.floor.net i.budget i.journal.items i.out.items i.actors.items i.floor.desk i.floor.pool c.self.invariant.0 c.args.strand c.args.o least.1.0 least.1.1 in
+    omega (arith, within, c.self.invariant.0.strands.count)
 
-pub go_on-requires-clause-least : goal.go_on-requires-clause-least
-go_on-requires-clause-least g c =
+pub link_in-requires : goal.link_in-requires
+link_in-requires g c =
     let i = c.self.inside in
     let v : ◌≡◌ {A = Machine} (record { net = i.floor.net; budget = i.budget; journal = i.journal.items; out = i.out.items; is_broken = i.is_broken }) c.args.self.now = c.self.view_is in
     let least = subst (λ (z : Machine). LeastEvent z (Some (c.args.strand, c.args.o, Put c.args.o))) (sym v) c.requires.least in
-    let core = λ (z : Inside g.row.S.Denot). LeastEvent (record { net = z.floor.net; budget = z.budget; journal = z.journal.items; out = z.out.items; is_broken = z.is_broken }) (Some (c.args.strand, c.args.o, Put c.args.o)) in
-    elim c.then-not-actor.branch [
-      | then-not-actor-via-then-not-actor w ↦ subst core (sym w.self-inside-is) least
-      | then-not-actor-via-else-not-actor+then-len-limit w ↦ subst core (sym w.self-inside-is) least
-      | then-not-actor-via-else-not-actor+else-len-limit+then-writes_queue w ↦ subst core (sym w.self-inside-is) least
-    ]
+    let within = in_range g.S.Stage.stands i.floor.net i.budget i.journal.items i.out.items i.actors.items i.floor.desk i.floor.pool c.self.invariant.0 c.args.strand c.args.o least.1.0 least.1.1 in
+    has_seat i.floor.net i.floor.desk c.args.strand (in_use g.S.Stage.stands i.floor.net i.budget i.journal.items i.out.items i.actors.items i.floor.desk i.floor.pool c.self.invariant.0) within
+
+-- It takes the record at hand at once
 
 pub take_after-requires-clause-can : goal.take_after-requires-clause-can
-take_after-requires-clause-can g c =
-    let i = c.self.inside in
-    let v : ◌≡◌ {A = Machine} (record { net = i.floor.net; budget = i.budget; journal = i.journal.items; out = i.out.items; is_broken = i.is_broken }) c.args.self.now = c.self.view_is in
-    let least = subst (λ (z : Machine). LeastEvent z (Some (c.args.strand, c.args.o, Put c.args.o))) (sym v) c.requires.least in
-    let a = c.index_mut-actor.result.now in
-    let limit = subst (λ (z : Machine). c.args.limit ≤ z.budget) (sym v) c.requires.limit in
-    let few = subst (λ (z : Machine). length z.journal < c.args.limit) (sym v) c.requires.space in
-    let room : length i.journal.items < i.budget = omega (arith, limit, few) in
-    let t = telling g.S.Stage.stands i.floor.net i.budget i.journal.items i.out.items i.actors.items i.floor.desk i.floor.pool i.is_broken c.args.strand c.args.o (Put c.args.o) a c.self.invariant.0 least room c.index_mut-actor.ensures.value in
-    let passes : a.passes ≡ true = search rules in
-    let space : length i.journal.items + 1 < i.budget = search (rules, limit) in
-    let plain = c.writes_queue.ensures (search rules) in
-    can t passes space plain
+take_after-requires-clause-can g c = makes (offer c.args.self.now c.self.view_is c.self.invariant.0 c.requires.least c.requires.space c.requires.limit c.index_mut-actor.ensures.value)
+
+pub take_after-requires-clause-awake : goal.take_after-requires-clause-awake
+take_after-requires-clause-awake g c = (c.args.o, (offer c.args.self.now c.self.view_is c.self.invariant.0 c.requires.least c.requires.space c.requires.limit c.index_mut-actor.ensures.value).least)
 
 pub take_after-requires-clause-used : goal.take_after-requires-clause-used
 take_after-requires-clause-used g c =
     let i = c.self.inside in
     let v : ◌≡◌ {A = Machine} (record { net = i.floor.net; budget = i.budget; journal = i.journal.items; out = i.out.items; is_broken = i.is_broken }) c.args.self.now = c.self.view_is in
-    let least = subst (λ (z : Machine). LeastEvent z (Some (c.args.strand, c.args.o, Put c.args.o))) (sym v) c.requires.least in
-    let a = c.index_mut-actor.result.now in
+    let t = (offer c.args.self.now c.self.view_is c.self.invariant.0 c.requires.least c.requires.space c.requires.limit c.index_mut-actor.ensures.value) in
     let limit = subst (λ (z : Machine). c.args.limit ≤ z.budget) (sym v) c.requires.limit in
-    let few = subst (λ (z : Machine). length z.journal < c.args.limit) (sym v) c.requires.space in
-    let room : length i.journal.items < i.budget = omega (arith, limit, few) in
-    let t = telling g.S.Stage.stands i.floor.net i.budget i.journal.items i.out.items i.actors.items i.floor.desk i.floor.pool i.is_broken c.args.strand c.args.o (Put c.args.o) a c.self.invariant.0 least room c.index_mut-actor.ensures.value in
-    let passes : a.passes ≡ true = search rules in
-    let space : length i.journal.items + 1 < i.budget = search (rules, limit) in
-    let plain = c.writes_queue.ensures (search rules) in
-    used t passes space plain
+    let passes : c.index_mut-actor.result.now.passes ≡ true = search rules in
+    let below : length i.journal.items + 1 < c.args.limit = search rules in
+    let space : length i.journal.items + 1 < i.budget = omega (arith, limit, below) in
+    let to_one = plain i.floor.net.links (Telling.out_door i.floor.desk c.args.strand c.args.o) c.in-Some.link c.in-Some.ensures.0 c.in-Some.ensures.1 in
+    used t passes space to_one
 
 pub take_after-requires-clause-early : goal.take_after-requires-clause-early
 take_after-requires-clause-early g c =
     let i = c.self.inside in
     let v : ◌≡◌ {A = Machine} (record { net = i.floor.net; budget = i.budget; journal = i.journal.items; out = i.out.items; is_broken = i.is_broken }) c.args.self.now = c.self.view_is in
-    let least = subst (λ (z : Machine). LeastEvent z (Some (c.args.strand, c.args.o, Put c.args.o))) (sym v) c.requires.least in
-    let a = c.index_mut-actor.result.now in
+    let t = (offer c.args.self.now c.self.view_is c.self.invariant.0 c.requires.least c.requires.space c.requires.limit c.index_mut-actor.ensures.value) in
     let limit = subst (λ (z : Machine). c.args.limit ≤ z.budget) (sym v) c.requires.limit in
-    let few = subst (λ (z : Machine). length z.journal < c.args.limit) (sym v) c.requires.space in
-    let room : length i.journal.items < i.budget = omega (arith, limit, few) in
-    let t = telling g.S.Stage.stands i.floor.net i.budget i.journal.items i.out.items i.actors.items i.floor.desk i.floor.pool i.is_broken c.args.strand c.args.o (Put c.args.o) a c.self.invariant.0 least room c.index_mut-actor.ensures.value in
-    let passes : a.passes ≡ true = search rules in
-    let space : length i.journal.items + 1 < i.budget = search (rules, limit) in
-    let plain = c.writes_queue.ensures (search rules) in
-    early t passes space plain
+    let passes : c.index_mut-actor.result.now.passes ≡ true = search rules in
+    let below : length i.journal.items + 1 < c.args.limit = search rules in
+    let space : length i.journal.items + 1 < i.budget = omega (arith, limit, below) in
+    let to_one = plain i.floor.net.links (Telling.out_door i.floor.desk c.args.strand c.args.o) c.in-Some.link c.in-Some.ensures.0 c.in-Some.ensures.1 in
+    early t passes space to_one
 
 pub take_after-requires-clause-takes : goal.take_after-requires-clause-takes
 take_after-requires-clause-takes g c =
     let i = c.self.inside in
     let v : ◌≡◌ {A = Machine} (record { net = i.floor.net; budget = i.budget; journal = i.journal.items; out = i.out.items; is_broken = i.is_broken }) c.args.self.now = c.self.view_is in
-    let least = subst (λ (z : Machine). LeastEvent z (Some (c.args.strand, c.args.o, Put c.args.o))) (sym v) c.requires.least in
-    let a = c.index_mut-actor.result.now in
+    let t = (offer c.args.self.now c.self.view_is c.self.invariant.0 c.requires.least c.requires.space c.requires.limit c.index_mut-actor.ensures.value) in
     let limit = subst (λ (z : Machine). c.args.limit ≤ z.budget) (sym v) c.requires.limit in
-    let few = subst (λ (z : Machine). length z.journal < c.args.limit) (sym v) c.requires.space in
-    let room : length i.journal.items < i.budget = omega (arith, limit, few) in
-    let t = telling g.S.Stage.stands i.floor.net i.budget i.journal.items i.out.items i.actors.items i.floor.desk i.floor.pool i.is_broken c.args.strand c.args.o (Put c.args.o) a c.self.invariant.0 least room c.index_mut-actor.ensures.value in
-    let passes : a.passes ≡ true = search rules in
-    let space : length i.journal.items + 1 < i.budget = search (rules, limit) in
-    let plain = c.writes_queue.ensures (search rules) in
-    takes t passes space plain
+    let passes : c.index_mut-actor.result.now.passes ≡ true = search rules in
+    let below : length i.journal.items + 1 < c.args.limit = search rules in
+    let space : length i.journal.items + 1 < i.budget = omega (arith, limit, below) in
+    let to_one = plain i.floor.net.links (Telling.out_door i.floor.desk c.args.strand c.args.o) c.in-Some.link c.in-Some.ensures.0 c.in-Some.ensures.1 in
+    takes t passes space to_one
 
 pub take_after-requires-clause-used_last : goal.take_after-requires-clause-used_last
 take_after-requires-clause-used_last g c =
     let i = c.self.inside in
     let v : ◌≡◌ {A = Machine} (record { net = i.floor.net; budget = i.budget; journal = i.journal.items; out = i.out.items; is_broken = i.is_broken }) c.args.self.now = c.self.view_is in
-    let least = subst (λ (z : Machine). LeastEvent z (Some (c.args.strand, c.args.o, Put c.args.o))) (sym v) c.requires.least in
-    let a = c.index_mut-actor.result.now in
+    let t = (offer c.args.self.now c.self.view_is c.self.invariant.0 c.requires.least c.requires.space c.requires.limit c.index_mut-actor.ensures.value) in
     let limit = subst (λ (z : Machine). c.args.limit ≤ z.budget) (sym v) c.requires.limit in
-    let few = subst (λ (z : Machine). length z.journal < c.args.limit) (sym v) c.requires.space in
-    let room : length i.journal.items < i.budget = omega (arith, limit, few) in
-    let t = telling g.S.Stage.stands i.floor.net i.budget i.journal.items i.out.items i.actors.items i.floor.desk i.floor.pool i.is_broken c.args.strand c.args.o (Put c.args.o) a c.self.invariant.0 least room c.index_mut-actor.ensures.value in
-    let passes : a.passes ≡ true = search rules in
-    let space : length i.journal.items + 1 < i.budget = search (rules, limit) in
-    let plain = c.writes_queue.ensures (search rules) in
-    used_last t passes space plain
+    let passes : c.index_mut-actor.result.now.passes ≡ true = search rules in
+    let below : length i.journal.items + 1 < c.args.limit = search rules in
+    let space : length i.journal.items + 1 < i.budget = omega (arith, limit, below) in
+    let to_one = plain i.floor.net.links (Telling.out_door i.floor.desk c.args.strand c.args.o) c.in-Some.link c.in-Some.ensures.0 c.in-Some.ensures.1 in
+    used_last t passes space to_one
 
 pub take_after-requires-clause-early_last : goal.take_after-requires-clause-early_last
 take_after-requires-clause-early_last g c =
     let i = c.self.inside in
     let v : ◌≡◌ {A = Machine} (record { net = i.floor.net; budget = i.budget; journal = i.journal.items; out = i.out.items; is_broken = i.is_broken }) c.args.self.now = c.self.view_is in
-    let least = subst (λ (z : Machine). LeastEvent z (Some (c.args.strand, c.args.o, Put c.args.o))) (sym v) c.requires.least in
-    let a = c.index_mut-actor.result.now in
+    let t = (offer c.args.self.now c.self.view_is c.self.invariant.0 c.requires.least c.requires.space c.requires.limit c.index_mut-actor.ensures.value) in
     let limit = subst (λ (z : Machine). c.args.limit ≤ z.budget) (sym v) c.requires.limit in
-    let few = subst (λ (z : Machine). length z.journal < c.args.limit) (sym v) c.requires.space in
-    let room : length i.journal.items < i.budget = omega (arith, limit, few) in
-    let t = telling g.S.Stage.stands i.floor.net i.budget i.journal.items i.out.items i.actors.items i.floor.desk i.floor.pool i.is_broken c.args.strand c.args.o (Put c.args.o) a c.self.invariant.0 least room c.index_mut-actor.ensures.value in
-    let passes : a.passes ≡ true = search rules in
-    let space : length i.journal.items + 1 < i.budget = search (rules, limit) in
-    let plain = c.writes_queue.ensures (search rules) in
-    early_last t passes space plain
-
-pub take_after-requires-clause-awake : goal.take_after-requires-clause-awake
-take_after-requires-clause-awake g c =
-    let i = c.self.inside in
-    let v : ◌≡◌ {A = Machine} (record { net = i.floor.net; budget = i.budget; journal = i.journal.items; out = i.out.items; is_broken = i.is_broken }) c.args.self.now = c.self.view_is in
-    let least = subst (λ (z : Machine). LeastEvent z (Some (c.args.strand, c.args.o, Put c.args.o))) (sym v) c.requires.least in
-    let a = c.index_mut-actor.result.now in
-    let limit = subst (λ (z : Machine). c.args.limit ≤ z.budget) (sym v) c.requires.limit in
-    let few = subst (λ (z : Machine). length z.journal < c.args.limit) (sym v) c.requires.space in
-    let room : length i.journal.items < i.budget = omega (arith, limit, few) in
-    let t = telling g.S.Stage.stands i.floor.net i.budget i.journal.items i.out.items i.actors.items i.floor.desk i.floor.pool i.is_broken c.args.strand c.args.o (Put c.args.o) a c.self.invariant.0 least room c.index_mut-actor.ensures.value in
-    (c.args.o, t.least)
+    let passes : c.index_mut-actor.result.now.passes ≡ true = search rules in
+    let below : length i.journal.items + 1 < c.args.limit = search rules in
+    let space : length i.journal.items + 1 < i.budget = omega (arith, limit, below) in
+    let to_one = plain i.floor.net.links (Telling.out_door i.floor.desk c.args.strand c.args.o) c.in-Some.link c.in-Some.ensures.0 c.in-Some.ensures.1 in
+    early_last t passes space to_one
 
 pub take_after-requires-clause-least : goal.take_after-requires-clause-least
 take_after-requires-clause-least g c =
     let i = c.self.inside in
     let v : ◌≡◌ {A = Machine} (record { net = i.floor.net; budget = i.budget; journal = i.journal.items; out = i.out.items; is_broken = i.is_broken }) c.args.self.now = c.self.view_is in
-    let least = subst (λ (z : Machine). LeastEvent z (Some (c.args.strand, c.args.o, Put c.args.o))) (sym v) c.requires.least in
-    let a = c.index_mut-actor.result.now in
+    let t = (offer c.args.self.now c.self.view_is c.self.invariant.0 c.requires.least c.requires.space c.requires.limit c.index_mut-actor.ensures.value) in
     let limit = subst (λ (z : Machine). c.args.limit ≤ z.budget) (sym v) c.requires.limit in
-    let few = subst (λ (z : Machine). length z.journal < c.args.limit) (sym v) c.requires.space in
-    let room : length i.journal.items < i.budget = omega (arith, limit, few) in
-    let t = telling g.S.Stage.stands i.floor.net i.budget i.journal.items i.out.items i.actors.items i.floor.desk i.floor.pool i.is_broken c.args.strand c.args.o (Put c.args.o) a c.self.invariant.0 least room c.index_mut-actor.ensures.value in
-    let passes : a.passes ≡ true = search rules in
-    let space : length i.journal.items + 1 < i.budget = search (rules, limit) in
-    let plain = c.writes_queue.ensures (search rules) in
-    (0, takes_next t passes space plain)
+    let passes : c.index_mut-actor.result.now.passes ≡ true = search rules in
+    let below : length i.journal.items + 1 < c.args.limit = search rules in
+    let space : length i.journal.items + 1 < i.budget = omega (arith, limit, below) in
+    let to_one = plain i.floor.net.links (Telling.out_door i.floor.desk c.args.strand c.args.o) c.in-Some.link c.in-Some.ensures.0 c.in-Some.ensures.1 in
+    (0, takes_next t passes space to_one)
 
-pub invariant_of-self-2 : goal.invariant_of-self-2
-invariant_of-self-2 g c =
+pub invariant_of-self : goal.invariant_of-self
+invariant_of-self g c =
     let i = c.self.inside in
     let v : ◌≡◌ {A = Machine} (record { net = i.floor.net; budget = i.budget; journal = i.journal.items; out = i.out.items; is_broken = i.is_broken }) c.args.self.now = c.self.view_is in
-    let least = subst (λ (z : Machine). LeastEvent z (Some (c.args.strand, c.args.o, Put c.args.o))) (sym v) c.requires.least in
-    let a = c.index_mut-actor.result.now in
+    let t = (offer c.args.self.now c.self.view_is c.self.invariant.0 c.requires.least c.requires.space c.requires.limit c.index_mut-actor.ensures.value) in
     let limit = subst (λ (z : Machine). c.args.limit ≤ z.budget) (sym v) c.requires.limit in
-    let few = subst (λ (z : Machine). length z.journal < c.args.limit) (sym v) c.requires.space in
-    let room : length i.journal.items < i.budget = omega (arith, limit, few) in
-    let t = telling g.S.Stage.stands i.floor.net i.budget i.journal.items i.out.items i.actors.items i.floor.desk i.floor.pool i.is_broken c.args.strand c.args.o (Put c.args.o) a c.self.invariant.0 least room c.index_mut-actor.ensures.value in
-    let passes : a.passes ≡ true = search rules in
-    let space : length i.journal.items + 1 < i.budget = search (rules, limit) in
-    let plain = c.writes_queue.ensures (search rules) in
-    let journal = c.push_reserved-2.ensures.items ∙ ap (λ j. j ++ (record { strand = c.args.strand; stream = 0 }) ∷ []) c.push_reserved.ensures.items in
-    let sound = subst (λ j. IsSound g.S.Stage.stands i.floor.net i.budget j i.out.items (slice_set i.actors.items c.args.strand c.ask.new.actor) (desk_passed i.floor.desk c.args.strand (Put c.args.o) 0) (pool_passed i.floor.desk i.floor.pool c.args.strand (Put c.args.o) 0)) (sym journal)
-    (sound_after t passes space plain c.ask.new.actor c.ask.ensures) in
-    let there = subst (λ n. IsSound g.S.Stage.stands n i.budget c.push_reserved-2.new.self.items i.out.items (slice_set i.actors.items c.args.strand c.ask.new.actor) c.take_after.new.self.desk c.take_after.new.self.pool) (sym c.take_after.ensures.net)
-    (subst (λ z. IsSound g.S.Stage.stands i.floor.net i.budget c.push_reserved-2.new.self.items i.out.items (slice_set i.actors.items c.args.strand c.ask.new.actor) z c.take_after.new.self.pool) (sym c.take_after.ensures.desk)
-    (subst (λ z. IsSound g.S.Stage.stands i.floor.net i.budget c.push_reserved-2.new.self.items i.out.items (slice_set i.actors.items c.args.strand c.ask.new.actor) (desk_passed i.floor.desk c.args.strand (Put c.args.o) 0) z) (sym c.take_after.ensures.pool) sound)) in
-    (there, search rules, subst (λ (n : Net). length n.strands ≤ vec_capacity i.out) (sym c.take_after.ensures.net) c.self.invariant.2)
+    let passes : c.index_mut-actor.result.now.passes ≡ true = search rules in
+    let below : length i.journal.items + 1 < c.args.limit = search rules in
+    let space : length i.journal.items + 1 < i.budget = omega (arith, limit, below) in
+    let to_one = plain i.floor.net.links (Telling.out_door i.floor.desk c.args.strand c.args.o) c.in-Some.link c.in-Some.ensures.0 c.in-Some.ensures.1 in
+    let e2 : Entry = record { strand = c.args.strand; stream = 0 } in
+    let journal = c.push_reserved-in-Some-link_in.ensures.items ∙ ap (λ j. j ++ e2 ∷ []) c.push_reserved.ensures.items in
+    let sound = sound_at c.take_after.ensures.net journal refl refl c.take_after.ensures.desk c.take_after.ensures.pool (sound_after t passes space to_one c.ask.new.actor c.ask.ensures) in
+    (sound, search rules, subst (λ (n : Net). length n.strands ≤ vec_capacity i.out) (sym c.take_after.ensures.net) c.self.invariant.2)
 
-pub returns-clause-goes : goal.returns-clause-goes
-returns-clause-goes g c =
+pub returns-in-Some-link_in-clause-goes : goal.returns-in-Some-link_in-clause-goes
+returns-in-Some-link_in-clause-goes g c =
     let i = c.self.inside in
     let v : ◌≡◌ {A = Machine} (record { net = i.floor.net; budget = i.budget; journal = i.journal.items; out = i.out.items; is_broken = i.is_broken }) c.args.self.now = c.self.view_is in
-    let least = subst (λ (z : Machine). LeastEvent z (Some (c.args.strand, c.args.o, Put c.args.o))) (sym v) c.requires.least in
-    let a = c.index_mut-actor.result.now in
+    let t = (offer c.args.self.now c.self.view_is c.self.invariant.0 c.requires.least c.requires.space c.requires.limit c.index_mut-actor.ensures.value) in
     let limit = subst (λ (z : Machine). c.args.limit ≤ z.budget) (sym v) c.requires.limit in
-    let few = subst (λ (z : Machine). length z.journal < c.args.limit) (sym v) c.requires.space in
-    let room : length i.journal.items < i.budget = omega (arith, limit, few) in
-    let t = telling g.S.Stage.stands i.floor.net i.budget i.journal.items i.out.items i.actors.items i.floor.desk i.floor.pool i.is_broken c.args.strand c.args.o (Put c.args.o) a c.self.invariant.0 least room c.index_mut-actor.ensures.value in
-    let passes : a.passes ≡ true = search rules in
-    let space : length i.journal.items + 1 < i.budget = search (rules, limit) in
-    let plain = c.writes_queue.ensures (search rules) in
-    let next = takes_least t passes space plain i.is_broken in
-    let journal = c.push_reserved-2.ensures.items ∙ ap (λ j. j ++ (record { strand = c.args.strand; stream = 0 }) ∷ []) c.push_reserved.ensures.items in
-    let more : length i.journal.items + 1 < c.args.limit = search rules in
+    let passes : c.index_mut-actor.result.now.passes ≡ true = search rules in
+    let below : length i.journal.items + 1 < c.args.limit = search rules in
+    let space : length i.journal.items + 1 < i.budget = omega (arith, limit, below) in
+    let to_one = plain i.floor.net.links (Telling.out_door i.floor.desk c.args.strand c.args.o) c.in-Some.link c.in-Some.ensures.0 c.in-Some.ensures.1 in
+    let e2 : Entry = record { strand = c.args.strand; stream = 0 } in
+    let journal = c.push_reserved-in-Some-link_in.ensures.items ∙ ap (λ j. j ++ e2 ∷ []) c.push_reserved.ensures.items in
+    let e : Entry = record { strand = c.args.strand; stream = c.args.o } in
+    let next = takes_least t passes space to_one i.is_broken in
     inr (
       0,
-      subst (λ (z : Machine). LeastEvent (record z { journal = z.journal ++ (record { strand = c.args.strand; stream = c.args.o }) ∷ [] }) (Some (c.args.strand, 0, Took 0))) v next,
-      subst (λ (z : Machine). length z.journal + 1 < c.args.limit) v more,
-      ap (λ n. record { net = n; budget = i.budget; journal = c.push_reserved-2.new.self.items; out = i.out.items; is_broken = i.is_broken }) c.take_after.ensures.net
+      subst (λ (z : Machine). LeastEvent (record z { journal = z.journal ++ e ∷ [] }) (Some (c.args.strand, 0, Took 0))) v next,
+      subst (λ (z : Machine). length z.journal + 1 < c.args.limit) v below,
+      ap (λ n. record { net = n; budget = i.budget; journal = c.push_reserved-in-Some-link_in.new.self.items; out = i.out.items; is_broken = i.is_broken }) c.take_after.ensures.net
           ∙ ap (λ j. record { net = i.floor.net; budget = i.budget; journal = j; out = i.out.items; is_broken = i.is_broken }) journal
-          ∙ ap (λ (z : Machine). record z { journal = (z.journal ++ (record { strand = c.args.strand; stream = c.args.o }) ∷ []) ++ (record { strand = c.args.strand; stream = 0 }) ∷ [] }) v,
+          ∙ ap (λ (z : Machine). record z { journal = (z.journal ++ e ∷ []) ++ e2 ∷ [] }) v,
     )
 
-pub returns-clause-ahead : goal.returns-clause-ahead
-returns-clause-ahead g c =
+pub returns-in-Some-link_in-clause-ahead : goal.returns-in-Some-link_in-clause-ahead
+returns-in-Some-link_in-clause-ahead g c =
     let i = c.self.inside in
     let v : ◌≡◌ {A = Machine} (record { net = i.floor.net; budget = i.budget; journal = i.journal.items; out = i.out.items; is_broken = i.is_broken }) c.args.self.now = c.self.view_is in
-    let least = subst (λ (z : Machine). LeastEvent z (Some (c.args.strand, c.args.o, Put c.args.o))) (sym v) c.requires.least in
-    let a = c.index_mut-actor.result.now in
+    let t = (offer c.args.self.now c.self.view_is c.self.invariant.0 c.requires.least c.requires.space c.requires.limit c.index_mut-actor.ensures.value) in
     let limit = subst (λ (z : Machine). c.args.limit ≤ z.budget) (sym v) c.requires.limit in
-    let few = subst (λ (z : Machine). length z.journal < c.args.limit) (sym v) c.requires.space in
-    let room : length i.journal.items < i.budget = omega (arith, limit, few) in
-    let t = telling g.S.Stage.stands i.floor.net i.budget i.journal.items i.out.items i.actors.items i.floor.desk i.floor.pool i.is_broken c.args.strand c.args.o (Put c.args.o) a c.self.invariant.0 least room c.index_mut-actor.ensures.value in
-    let passes : a.passes ≡ true = search rules in
-    let space : length i.journal.items + 1 < i.budget = search (rules, limit) in
-    let plain = c.writes_queue.ensures (search rules) in
-    let journal = c.push_reserved-2.ensures.items ∙ ap (λ j. j ++ (record { strand = c.args.strand; stream = 0 }) ∷ []) c.push_reserved.ensures.items in
-    let sound = subst (λ j. IsSound g.S.Stage.stands i.floor.net i.budget j i.out.items (slice_set i.actors.items c.args.strand c.ask.new.actor) (desk_passed i.floor.desk c.args.strand (Put c.args.o) 0) (pool_passed i.floor.desk i.floor.pool c.args.strand (Put c.args.o) 0)) (sym journal)
-    (sound_after t passes space plain c.ask.new.actor c.ask.ensures) in
-    let there = subst (λ n. IsSound g.S.Stage.stands n i.budget c.push_reserved-2.new.self.items i.out.items (slice_set i.actors.items c.args.strand c.ask.new.actor) c.take_after.new.self.desk c.take_after.new.self.pool) (sym c.take_after.ensures.net)
-    (subst (λ z. IsSound g.S.Stage.stands i.floor.net i.budget c.push_reserved-2.new.self.items i.out.items (slice_set i.actors.items c.args.strand c.ask.new.actor) z c.take_after.new.self.pool) (sym c.take_after.ensures.desk)
-    (subst (λ z. IsSound g.S.Stage.stands i.floor.net i.budget c.push_reserved-2.new.self.items i.out.items (slice_set i.actors.items c.args.strand c.ask.new.actor) (desk_passed i.floor.desk c.args.strand (Put c.args.o) 0) z) (sym c.take_after.ensures.pool) sound)) in
-    λ r named. event_is g.S.Stage.stands c.take_after.new.self.net i.budget c.push_reserved-2.new.self.items i.out.items (slice_set i.actors.items c.args.strand c.ask.new.actor) c.take_after.new.self.desk c.take_after.new.self.pool there i.is_broken (Some r) (c.take_after.ensures.ahead r named)
+    let passes : c.index_mut-actor.result.now.passes ≡ true = search rules in
+    let below : length i.journal.items + 1 < c.args.limit = search rules in
+    let space : length i.journal.items + 1 < i.budget = omega (arith, limit, below) in
+    let to_one = plain i.floor.net.links (Telling.out_door i.floor.desk c.args.strand c.args.o) c.in-Some.link c.in-Some.ensures.0 c.in-Some.ensures.1 in
+    let e2 : Entry = record { strand = c.args.strand; stream = 0 } in
+    let journal = c.push_reserved-in-Some-link_in.ensures.items ∙ ap (λ j. j ++ e2 ∷ []) c.push_reserved.ensures.items in
+    let sound = sound_at c.take_after.ensures.net journal refl refl c.take_after.ensures.desk c.take_after.ensures.pool (sound_after t passes space to_one c.ask.new.actor c.ask.ensures) in
+    λ r named.
+    let sure = c.take_after.ensures.ahead r named in
+    event_is g.S.Stage.stands c.take_after.new.self.net i.budget c.push_reserved-in-Some-link_in.new.self.items i.out.items (slice_set i.actors.items c.args.strand c.ask.new.actor)
+    c.take_after.new.self.desk c.take_after.new.self.pool sound i.is_broken (Some r) sure
+
+pub returns-in-Some-link_in-clause-lawful : goal.returns-in-Some-link_in-clause-lawful
+returns-in-Some-link_in-clause-lawful g c =
+    let i = c.self.inside in
+    let v : ◌≡◌ {A = Machine} (record { net = i.floor.net; budget = i.budget; journal = i.journal.items; out = i.out.items; is_broken = i.is_broken }) c.args.self.now = c.self.view_is in
+    let t = (offer c.args.self.now c.self.view_is c.self.invariant.0 c.requires.least c.requires.space c.requires.limit c.index_mut-actor.ensures.value) in
+    let limit = subst (λ (z : Machine). c.args.limit ≤ z.budget) (sym v) c.requires.limit in
+    let passes : c.index_mut-actor.result.now.passes ≡ true = search rules in
+    let below : length i.journal.items + 1 < c.args.limit = search rules in
+    let space : length i.journal.items + 1 < i.budget = omega (arith, limit, below) in
+    let to_one = plain i.floor.net.links (Telling.out_door i.floor.desk c.args.strand c.args.o) c.in-Some.link c.in-Some.ensures.0 c.in-Some.ensures.1 in
+    let e2 : Entry = record { strand = c.args.strand; stream = 0 } in
+    let journal = c.push_reserved-in-Some-link_in.ensures.items ∙ ap (λ j. j ++ e2 ∷ []) c.push_reserved.ensures.items in
+    let sound = sound_at c.take_after.ensures.net journal refl refl c.take_after.ensures.desk c.take_after.ensures.pool (sound_after t passes space to_one c.ask.new.actor c.ask.ensures) in
+    lawful g.S.Stage.stands c.take_after.new.self.net i.budget c.push_reserved-in-Some-link_in.new.self.items i.out.items (slice_set i.actors.items c.args.strand c.ask.new.actor)
+    c.take_after.new.self.desk c.take_after.new.self.pool sound i.is_broken
+
+-- Its coroutine is told that its record was put
+
+pub put-requires-clause-can : goal.put-requires-clause-can
+put-requires-clause-can g c =
+    let t = (offer c.args.self.now c.self.view_is c.self.invariant.0 c.requires.least c.requires.space c.requires.limit c.index_mut-actor.ensures.value) in
+    (t.stage, t.was, resumes_it t [] (no_bytes_put c.index_mut-actor.result.now.looks (desk_after_turn c.self.inside.floor.desk c.args.strand (Put c.args.o)) (pool_after_turn c.self.inside.floor.desk c.self.inside.floor.pool c.args.strand (Put c.args.o)) c.args.strand c.args.o))
+
+pub put-requires-clause-passes : goal.put-requires-clause-passes
+put-requires-clause-passes g c = does (offer c.args.self.now c.self.view_is c.self.invariant.0 c.requires.least c.requires.space c.requires.limit c.index_mut-actor.ensures.value)
+
+pub put_in_vain-requires : goal.put_in_vain-requires
+put_in_vain-requires g c = makes (offer c.args.self.now c.self.view_is c.self.invariant.0 c.requires.least c.requires.space c.requires.limit c.index_mut-actor.ensures.value)
+
+pub give_up-requires : goal.give_up-requires
+give_up-requires g c =
+    let few = room_out (offer c.args.self.now c.self.view_is c.self.invariant.0 c.requires.least c.requires.space c.requires.limit c.index_mut-actor.ensures.value) in
+    let room = c.self.invariant.2 in
+    search (rules, few, room)
+
+pub invariant_of-self-in_default-put : goal.invariant_of-self-in_default-put
+invariant_of-self-in_default-put g c =
+    let i = c.self.inside in
+    let on = c.put.ensures in
+    let place : c.len-in_default-put.result ≡ suc (length i.journal.items) = search rules in
+    let sound = sound_broken (offer c.args.self.now c.self.view_is c.self.invariant.0 c.requires.least c.requires.space c.requires.limit c.index_mut-actor.ensures.value) on.0 on.1 on.2 on.3 on.4 c.len-in_default-put.result place c.put_in_vain.ensures.net c.push_reserved.ensures.items c.give_up.ensures.out
+    (c.give_up.ensures.actor ∙ ap (λ (z : Actor g.row.S.Denot). given_up z) on.5) c.put_in_vain.ensures.desk c.put_in_vain.ensures.pool in
+    (sound, search rules, search rules)
+
+pub returns-in_default-put-clause-lawful : goal.returns-in_default-put-clause-lawful
+returns-in_default-put-clause-lawful g c = lawful_broken (offer c.args.self.now c.self.view_is c.self.invariant.0 c.requires.least c.requires.space c.requires.limit c.index_mut-actor.ensures.value) c.give_up.new.out.items c.put_in_vain.ensures.net c.push_reserved.ensures.items
+
+-- It comes home with what it wants next
+
+pub put-requires-2-clause-can : goal.put-requires-2-clause-can
+put-requires-2-clause-can g c = makes (offer c.args.self.now c.self.view_is c.self.invariant.0 c.requires.least c.requires.space c.requires.limit c.index_mut-actor.ensures.value)
+
+pub put-requires-2-clause-least : goal.put-requires-2-clause-least
+put-requires-2-clause-least g c = (c.args.o, (offer c.args.self.now c.self.view_is c.self.invariant.0 c.requires.least c.requires.space c.requires.limit c.index_mut-actor.ensures.value).least)
+
+pub put-requires-2-clause-used : goal.put-requires-2-clause-used
+put-requires-2-clause-used g c =
+    let on = c.in-Ok.ensures in
+    used_out (with_stage (offer c.args.self.now c.self.view_is c.self.invariant.0 c.requires.least c.requires.space c.requires.limit c.index_mut-actor.ensures.value) on.0 on.4) on.1 on.2 on.3
+
+pub put-requires-2-clause-live : goal.put-requires-2-clause-live
+put-requires-2-clause-live g c =
+    let on = c.in-Ok.ensures in
+    live (offer c.args.self.now c.self.view_is c.self.invariant.0 c.requires.least c.requires.space c.requires.limit c.index_mut-actor.ensures.value) on.0 on.1 on.2 on.3 on.4 [] (no_bytes_put c.index_mut-actor.result.now.looks (desk_after_turn c.self.inside.floor.desk c.args.strand (Put c.args.o)) (pool_after_turn c.self.inside.floor.desk c.self.inside.floor.pool c.args.strand (Put c.args.o)) c.args.strand c.args.o) on.6.0 refl on.5
+
+pub put-requires-2-clause-home : goal.put-requires-2-clause-home
+put-requires-2-clause-home g c =
+    let on = c.in-Ok.ensures in
+    home (offer c.args.self.now c.self.view_is c.self.invariant.0 c.requires.least c.requires.space c.requires.limit c.index_mut-actor.ensures.value) on.0 on.1 on.2 on.3 on.4 [] (no_bytes_put c.index_mut-actor.result.now.looks (desk_after_turn c.self.inside.floor.desk c.args.strand (Put c.args.o)) (pool_after_turn c.self.inside.floor.desk c.self.inside.floor.pool c.args.strand (Put c.args.o)) c.args.strand c.args.o) on.6.0 refl on.5
+
+pub put-requires-2-clause-early : goal.put-requires-2-clause-early
+put-requires-2-clause-early g c =
+    let on = c.in-Ok.ensures in
+    home_early (offer c.args.self.now c.self.view_is c.self.invariant.0 c.requires.least c.requires.space c.requires.limit c.index_mut-actor.ensures.value) on.0 on.1 on.2 on.3 on.4 [] (no_bytes_put c.index_mut-actor.result.now.looks (desk_after_turn c.self.inside.floor.desk c.args.strand (Put c.args.o)) (pool_after_turn c.self.inside.floor.desk c.self.inside.floor.pool c.args.strand (Put c.args.o)) c.args.strand c.args.o) on.6.0 refl on.5
+
+pub put-requires-2-clause-used_home : goal.put-requires-2-clause-used_home
+put-requires-2-clause-used_home g c =
+    let on = c.in-Ok.ensures in
+    home_used (offer c.args.self.now c.self.view_is c.self.invariant.0 c.requires.least c.requires.space c.requires.limit c.index_mut-actor.ensures.value) on.0 on.1 on.2 on.3 on.4 [] (no_bytes_put c.index_mut-actor.result.now.looks (desk_after_turn c.self.inside.floor.desk c.args.strand (Put c.args.o)) (pool_after_turn c.self.inside.floor.desk c.self.inside.floor.pool c.args.strand (Put c.args.o)) c.args.strand c.args.o) on.6.0 refl on.5 on.6.1
+
+pub give_up-requires-in_default-put-2 : goal.give_up-requires-in_default-put-2
+give_up-requires-in_default-put-2 g c =
+    let few = room_out (offer c.args.self.now c.self.view_is c.self.invariant.0 c.requires.least c.requires.space c.requires.limit c.index_mut-actor.ensures.value) in
+    let room = c.self.invariant.2 in
+    search (rules, few, room)
+
+pub invariant_of-self-in_default-put-2 : goal.invariant_of-self-in_default-put-2
+invariant_of-self-in_default-put-2 g c =
+    let i = c.self.inside in
+    let on = c.in-Ok.ensures in
+    let place : c.len-in_default-put-2.result ≡ suc (length i.journal.items) = search rules in
+    let sound = sound_broken (offer c.args.self.now c.self.view_is c.self.invariant.0 c.requires.least c.requires.space c.requires.limit c.index_mut-actor.ensures.value) on.0 on.1 c.put-2.new.want on.3 on.4 c.len-in_default-put-2.result place c.put-2.ensures.net c.push_reserved.ensures.items c.give_up-in_default-put-2.ensures.out
+    (c.give_up-in_default-put-2.ensures.actor ∙ ap (λ (z : Actor g.row.S.Denot). given_up (asking_for c.put-2.new.want z)) on.5) c.in_default-put-2.ensures.err c.in_default-put-2.ensures.err_pool in
+    (sound, search rules, search rules)
+
+pub returns-in_default-put-2-clause-lawful : goal.returns-in_default-put-2-clause-lawful
+returns-in_default-put-2-clause-lawful g c = lawful_broken (offer c.args.self.now c.self.view_is c.self.invariant.0 c.requires.least c.requires.space c.requires.limit c.index_mut-actor.ensures.value) c.give_up-in_default-put-2.new.out.items c.put-2.ensures.net c.push_reserved.ensures.items
+
+came : (g : Over) (c : In-Ok-put g) →
+    IsSound g.S.Stage.stands c.put-2.new.self.net c.self.inside.budget c.push_reserved.new.self.items c.self.inside.out.items
+    (slice_set c.self.inside.actors.items c.args.strand (asking_for c.put-2.new.want c.put.new.actor)) c.put-2.new.self.desk c.put-2.new.self.pool
+came g c =
+    let on = c.in-Ok.ensures in
+    home_sound (offer c.args.self.now c.self.view_is c.self.invariant.0 c.requires.least c.requires.space c.requires.limit c.index_mut-actor.ensures.value) on.0 on.1 on.2 on.3 on.4 [] (no_bytes_put c.index_mut-actor.result.now.looks (desk_after_turn c.self.inside.floor.desk c.args.strand (Put c.args.o)) (pool_after_turn c.self.inside.floor.desk c.self.inside.floor.pool c.args.strand (Put c.args.o)) c.args.strand c.args.o) on.6.0 refl on.5 on.6.1
+    c.put-2.ensures.net c.push_reserved.ensures.items c.put-2.ensures.bare c.in-Ok-put.ensures.home
+
+pub invariant_of-self-in-Ok-put-2 : goal.invariant_of-self-in-Ok-put-2
+invariant_of-self-in-Ok-put-2 g c = (came g c, search rules, subst (λ (n : Net). length n.strands ≤ vec_capacity c.self.inside.out) (sym c.put-2.ensures.net) c.self.invariant.2)
+
+pub returns-clause-ahead : goal.returns-clause-ahead
+returns-clause-ahead g c = λ r named.
+    event_is g.S.Stage.stands c.put-2.new.self.net c.self.inside.budget c.push_reserved.new.self.items c.self.inside.out.items
+    (slice_set c.self.inside.actors.items c.args.strand (asking_for c.put-2.new.want c.put.new.actor)) c.put-2.new.self.desk c.put-2.new.self.pool (came g c) c.self.inside.is_broken (Some r) (c.in-Ok-put.ensures.ahead r named)
 
 pub returns-clause-lawful : goal.returns-clause-lawful
 returns-clause-lawful g c =
-    let i = c.self.inside in
-    let v : ◌≡◌ {A = Machine} (record { net = i.floor.net; budget = i.budget; journal = i.journal.items; out = i.out.items; is_broken = i.is_broken }) c.args.self.now = c.self.view_is in
-    let least = subst (λ (z : Machine). LeastEvent z (Some (c.args.strand, c.args.o, Put c.args.o))) (sym v) c.requires.least in
-    let a = c.index_mut-actor.result.now in
-    let limit = subst (λ (z : Machine). c.args.limit ≤ z.budget) (sym v) c.requires.limit in
-    let few = subst (λ (z : Machine). length z.journal < c.args.limit) (sym v) c.requires.space in
-    let room : length i.journal.items < i.budget = omega (arith, limit, few) in
-    let t = telling g.S.Stage.stands i.floor.net i.budget i.journal.items i.out.items i.actors.items i.floor.desk i.floor.pool i.is_broken c.args.strand c.args.o (Put c.args.o) a c.self.invariant.0 least room c.index_mut-actor.ensures.value in
-    let passes : a.passes ≡ true = search rules in
-    let space : length i.journal.items + 1 < i.budget = search (rules, limit) in
-    let plain = c.writes_queue.ensures (search rules) in
-    let journal = c.push_reserved-2.ensures.items ∙ ap (λ j. j ++ (record { strand = c.args.strand; stream = 0 }) ∷ []) c.push_reserved.ensures.items in
-    let sound = subst (λ j. IsSound g.S.Stage.stands i.floor.net i.budget j i.out.items (slice_set i.actors.items c.args.strand c.ask.new.actor) (desk_passed i.floor.desk c.args.strand (Put c.args.o) 0) (pool_passed i.floor.desk i.floor.pool c.args.strand (Put c.args.o) 0)) (sym journal)
-    (sound_after t passes space plain c.ask.new.actor c.ask.ensures) in
-    let there = subst (λ n. IsSound g.S.Stage.stands n i.budget c.push_reserved-2.new.self.items i.out.items (slice_set i.actors.items c.args.strand c.ask.new.actor) c.take_after.new.self.desk c.take_after.new.self.pool) (sym c.take_after.ensures.net)
-    (subst (λ z. IsSound g.S.Stage.stands i.floor.net i.budget c.push_reserved-2.new.self.items i.out.items (slice_set i.actors.items c.args.strand c.ask.new.actor) z c.take_after.new.self.pool) (sym c.take_after.ensures.desk)
-    (subst (λ z. IsSound g.S.Stage.stands i.floor.net i.budget c.push_reserved-2.new.self.items i.out.items (slice_set i.actors.items c.args.strand c.ask.new.actor) (desk_passed i.floor.desk c.args.strand (Put c.args.o) 0) z) (sym c.take_after.ensures.pool) sound)) in
-    lawful g.S.Stage.stands c.take_after.new.self.net i.budget c.push_reserved-2.new.self.items i.out.items (slice_set i.actors.items c.args.strand c.ask.new.actor) c.take_after.new.self.desk c.take_after.new.self.pool there i.is_broken
+    lawful g.S.Stage.stands c.put-2.new.self.net c.self.inside.budget c.push_reserved.new.self.items c.self.inside.out.items
+    (slice_set c.self.inside.actors.items c.args.strand (asking_for c.put-2.new.want c.put.new.actor)) c.put-2.new.self.desk c.put-2.new.self.pool (came g c) c.self.inside.is_broken

@@ -1,236 +1,237 @@
 -- The strand sees the record at hand, and takes it at once where that is all that it does: the core is sound after it.
-use Rattle.std.proofs.Common.{rules, ◌≡◌, ◌≤◌, Some, length, slice_set, arith, refl, sym, ◌∙◌, ap, subst, vec_capacity}
+use Rattle.std.proofs.Common.{rules, ◌≡◌, ◌≤◌, ◌<◌, ◌+◌, inr, Some, [], ◌∷◌, ◌++◌, true, suc, length, slice_set, arith, refl, sym, ◌∙◌, ap, subst, vec_capacity}
 use Rattle.pipe_model.specs.declared.net.Net.{Net}
-use Rattle.pipe_model.specs.declared.step.Seen.TheVariants.{Saw}
-use Rattle.run_desk.specs.Turns.{CanCome, HasCome, desk_after_turn, pool_after_turn}
+use Rattle.pipe_model.specs.declared.step.Entry.{Entry}
+use Rattle.pipe_model.specs.declared.step.Seen.TheVariants.{Saw, Took}
+use Rattle.stage_steps.specs.Coroutine.{Resumes}
+use Rattle.stage_steps.specs.PassesOn.{PassesOn}
+use Rattle.stage_steps.specs.declared.reply.Reply.TheVariants.{Takes}
 use Rattle.core_machine.specs.declared.actor.Actor.{Actor}
-use Rattle.core_machine.specs.Actors.{asking_for}
-use Rattle.core_machine.specs.Floor.{StaysEarly}
-use Rattle.core_machine.specs.Machine.{Machine, licence_of}
-use Rattle.core_machine.proofs.Plays.{has_seat}
-use Rattle.core_machine.proofs.Sounds.{event_is, in_range, in_use, lawful}
-use Rattle.core_machine.proofs.Tellings.{makes, within, fact, held, resumes_it, with_stage, used_out, going, comes, early, used_home}
+use Rattle.core_machine.specs.Actors.{HasSeen, asking_for, given_up}
+use Rattle.core_machine.specs.Answered.{LeastEvent}
+use Rattle.core_machine.specs.Machine.{Machine}
+use Rattle.core_machine.specs.Sound.{IsSound}
+use Rattle.core_machine.proofs.InPlace.{lawful_broken, sound_broken, live, home, home_early, home_used, home_sound}
+use Rattle.core_machine.proofs.Relays.{held_ahead}
+use Rattle.core_machine.proofs.Sounds.{event_is, lawful}
+use Rattle.core_machine.proofs.Tellings.{makes, looks_it, room_out, used_out, with_stage, sound_at}
+use Rattle.core_machine.proofs.core_state.Core.see.Given.{Over}
 use Rattle.core_machine.proofs.core_state.Core.see.Goals as goal
-use Rattle.core_machine.proofs.core_state.Core.see.Goals.{else-i-eq0-via-then-i-eq0+then-matches+then-len-limit+else-take_on, else-i-eq0-via-then-i-eq0+then-matches+else-len-limit}
-use Rattle.core_machine.proofs.core_state.Core.see.Goals.{else-i-eq0-via-then-i-eq0+else-matches, else-i-eq0-via-else-i-eq0}
+use Rattle.core_machine.proofs.core_state.Core.see.Goals.{Then-matches, Else-matches, After-take_after, In-Ok-see, in-Takes, in_default-matches}
 mod Sight
-mod GivesUp
-mod Takes
-mod ComesHome
-use Rattle.core_machine.proofs.core_state.Core.see.Answers.Sight.{sight}
-use Rattle.core_machine.proofs.core_state.Core.see.Answers.GivesUp.{room, room_home, sound_broken, lawful_broken, lacks_broken, sound_broken_home, lawful_broken_home, lacks_broken_home}
-use Rattle.core_machine.proofs.core_state.Core.see.Answers.Takes.{asks_take, can_take_on, passes_on, taking, both, took_both}
-use Rattle.core_machine.proofs.core_state.Core.see.Answers.ComesHome.{came, is_after}
-
-pub may_settle-requires : goal.may_settle-requires
-may_settle-requires g c =
-    let i = c.self.inside in
-    let v : ◌≡◌ {A = Machine} (record { net = i.floor.net; budget = i.budget; journal = i.journal.items; out = i.out.items; is_broken = i.is_broken }) c.args.self.now = c.self.view_is in
-    let may = subst (λ (z : Machine). licence_of z c.args.strand c.args.i ≡ Some c.requires.least.1.0) (sym v) c.requires.least.1.1 in
-    let within = in_range g.S.Stage.stands i.floor.net i.budget i.journal.items i.out.items i.actors.items i.floor.desk i.floor.pool c.self.invariant.0 c.args.strand c.args.i c.requires.least.1.0 may in
-    has_seat i.floor.net i.floor.desk c.args.strand (in_use g.S.Stage.stands i.floor.net i.budget i.journal.items i.out.items i.actors.items i.floor.desk i.floor.pool c.self.invariant.0) within
-
-pub go_on_otherwise-requires-clause-space : goal.go_on_otherwise-requires-clause-space
-go_on_otherwise-requires-clause-space g c = let few = c.requires.space in let most = c.requires.limit in omega (arith, few, most)
-
-pub index_mut-actor-requires : goal.index_mut-actor-requires
-index_mut-actor-requires g c =
-    let i = c.self.inside in
-    let v : ◌≡◌ {A = Machine} (record { net = i.floor.net; budget = i.budget; journal = i.journal.items; out = i.out.items; is_broken = i.is_broken }) c.args.self.now = c.self.view_is in
-    let may = subst (λ (z : Machine). licence_of z c.args.strand c.args.i ≡ Some c.requires.least.1.0) (sym v) c.requires.least.1.1 in
-    let within = in_range g.S.Stage.stands i.floor.net i.budget i.journal.items i.out.items i.actors.items i.floor.desk i.floor.pool c.self.invariant.0 c.args.strand c.args.i c.requires.least.1.0 may in
-    omega (arith, within, c.self.invariant.0.strands.count)
-
-pub bytes_ahead-bytes-requires-clause-strand : goal.bytes_ahead-bytes-requires-clause-strand
-bytes_ahead-bytes-requires-clause-strand g c =
-    let t = sight c.args.self.now c.self.view_is c.self.invariant.0 c.requires.least c.requires.space c.requires.limit c.index_mut-actor.ensures.value in
-    has_seat c.self.inside.floor.net c.self.inside.floor.desk c.args.strand (makes t).used (within t)
-
-pub bytes_ahead-bytes-requires-clause-can : goal.bytes_ahead-bytes-requires-clause-can
-bytes_ahead-bytes-requires-clause-can g c = (makes (sight c.args.self.now c.self.view_is c.self.invariant.0 c.requires.least c.requires.space c.requires.limit c.index_mut-actor.ensures.value)).can
-
-pub bytes_ahead-bytes-requires-clause-shows : goal.bytes_ahead-bytes-requires-clause-shows
-bytes_ahead-bytes-requires-clause-shows g c = fact (sight c.args.self.now c.self.view_is c.self.invariant.0 c.requires.least c.requires.space c.requires.limit c.index_mut-actor.ensures.value)
+mod Twice
+use Rattle.core_machine.proofs.core_state.Core.see.Answers.Sight.{sight, bytes_right, asks}
+use Rattle.core_machine.proofs.core_state.Core.see.Answers.Twice.{IsTwice, twice}
 
 pub bytes_ahead-bytes-requires-clause-held : goal.bytes_ahead-bytes-requires-clause-held
-bytes_ahead-bytes-requires-clause-held g c = held (sight c.args.self.now c.self.view_is c.self.invariant.0 c.requires.least c.requires.space c.requires.limit c.index_mut-actor.ensures.value) c.args.i
+bytes_ahead-bytes-requires-clause-held g c =
+    held_ahead c.self.inside.floor.desk c.self.inside.floor.pool c.args.strand c.args.i c.in-Some.from (makes (sight c.args.self.now c.self.view_is c.self.invariant.0 c.requires.least c.requires.space c.requires.limit c.index_mut-actor.ensures.value)).can (sym c.in-Some.ensures.door)
 
-pub resume-requires : goal.resume-requires
-resume-requires g c =
-    let t = sight c.args.self.now c.self.view_is c.self.invariant.0 c.requires.least c.requires.space c.requires.limit c.index_mut-actor.ensures.value in
-    (t.stage, t.was, resumes_it t c.bytes_ahead-bytes.result.now c.bytes_ahead-bytes.ensures)
+pub see-requires : goal.see-requires
+see-requires g c =
+    let i = c.self.inside in
+    let v : ◌≡◌ {A = Machine} (record { net = i.floor.net; budget = i.budget; journal = i.journal.items; out = i.out.items; is_broken = i.is_broken }) c.args.self.now = c.self.view_is in
+    let t = (sight c.args.self.now c.self.view_is c.self.invariant.0 c.requires.least c.requires.space c.requires.limit c.index_mut-actor.ensures.value) in
+    let most : c.args.limit ≤ i.budget = subst (λ (z : Machine). c.args.limit ≤ z.budget) (sym v) c.requires.limit in
+    let below : length i.journal.items + 1 < c.args.limit = search rules in
+    (t.stage, t.was, looks_it t c.args.i refl (omega (arith, most, below)) c.bytes_ahead-bytes.result.now (bytes_right (sight c.args.self.now c.self.view_is c.self.invariant.0 c.requires.least c.requires.space c.requires.limit c.index_mut-actor.ensures.value) c.in-Some.ensures.door c.bytes_ahead-bytes.ensures))
 
-pub make-requires : goal.make-requires
-make-requires g c = makes (sight c.args.self.now c.self.view_is c.self.invariant.0 c.requires.least c.requires.space c.requires.limit c.index_mut-actor.ensures.value)
+pub see_in_vain-requires : goal.see_in_vain-requires
+see_in_vain-requires g c = makes (sight c.args.self.now c.self.view_is c.self.invariant.0 c.requires.least c.requires.space c.requires.limit c.index_mut-actor.ensures.value)
 
 -- The coroutine wanted memory
 
 pub give_up-requires : goal.give_up-requires
-give_up-requires = room
+give_up-requires g c =
+    let few = room_out (sight c.args.self.now c.self.view_is c.self.invariant.0 c.requires.least c.requires.space c.requires.limit c.index_mut-actor.ensures.value) in
+    let room = c.self.invariant.2 in
+    search (rules, few, room)
 
 pub invariant_of-self : goal.invariant_of-self
-invariant_of-self = sound_broken
+invariant_of-self g c =
+    let i = c.self.inside in
+    let on = c.see.ensures in
+    let place : c.len-in_default-see.result ≡ suc (length i.journal.items) = search rules in
+    let sound = sound_broken (sight c.args.self.now c.self.view_is c.self.invariant.0 c.requires.least c.requires.space c.requires.limit c.index_mut-actor.ensures.value) on.0 on.1 on.2 on.3 on.4 c.len-in_default-see.result place c.see_in_vain.ensures.net c.push_reserved.ensures.items c.give_up.ensures.out
+    (c.give_up.ensures.actor ∙ ap (λ (z : Actor g.row.S.Denot). given_up z) on.5) c.see_in_vain.ensures.desk c.see_in_vain.ensures.pool in
+    (sound, search rules, search rules)
 
-pub returns-in_default-clause-lacks : goal.returns-in_default-clause-lacks
-returns-in_default-clause-lacks = lacks_broken
-
-pub returns-in_default-clause-lawful : goal.returns-in_default-clause-lawful
-returns-in_default-clause-lawful = lawful_broken
+pub returns-in_default-see-clause-lawful : goal.returns-in_default-see-clause-lawful
+returns-in_default-see-clause-lawful g c = lawful_broken (sight c.args.self.now c.self.view_is c.self.invariant.0 c.requires.least c.requires.space c.requires.limit c.index_mut-actor.ensures.value) c.give_up.new.out.items c.see_in_vain.ensures.net c.push_reserved.ensures.items
 
 -- It takes the record at once
 
-pub take_on-requires-clause-can : goal.take_on-requires-clause-can
-take_on-requires-clause-can = can_take_on
+took : (g : Over) (c : Then-matches g) → HasSeen g.S.Stage.stands c.in-Ok.ensures.0 c.in-Ok.ensures.1 c.args.i c.bytes_ahead-bytes.result.now c.in-Ok.ensures.2 c.in-Ok.ensures.3 Takes
+took g c =
+    let on = c.in-Ok.ensures in
+    let is : c.in-Ok.reply ≡ Takes = elim c.match-matches.branch [
+      | in-Takes w ↦ w.in-Takes.is
+      | in_default-matches w ↦ (let both = sym w.matches-is ∙ c.if-matches.true in cc)
+    ] in
+    subst (HasSeen g.S.Stage.stands on.0 on.1 c.args.i c.bytes_ahead-bytes.result.now on.2 on.3) is on.6
 
-pub take_on-requires-clause-passes : goal.take_on-requires-clause-passes
-take_on-requires-clause-passes = passes_on
+taking : (g : Over) (c : Then-matches g) →
+    IsTwice g.S.Stage.stands c.self.inside.floor.net c.self.inside.budget c.self.inside.journal.items c.self.inside.out.items c.self.inside.actors.items c.self.inside.floor.desk c.self.inside.floor.pool
+    c.args.strand c.args.i 0 c.see.new.actor
+taking g c =
+    let i = c.self.inside in
+    let v : ◌≡◌ {A = Machine} (record { net = i.floor.net; budget = i.budget; journal = i.journal.items; out = i.out.items; is_broken = i.is_broken }) c.args.self.now = c.self.view_is in
+    let on = c.in-Ok.ensures in
+    let most : c.args.limit ≤ i.budget = subst (λ (z : Machine). c.args.limit ≤ z.budget) (sym v) c.requires.limit in
+    let below : length i.journal.items + 1 < c.args.limit = search rules in
+    twice (sight c.args.self.now c.self.view_is c.self.invariant.0 c.requires.least c.requires.space c.requires.limit c.index_mut-actor.ensures.value) (omega (arith, most, below)) (sym c.if-may_settle.ensures) (bytes_right (sight c.args.self.now c.self.view_is c.self.invariant.0 c.requires.least c.requires.space c.requires.limit c.index_mut-actor.ensures.value) c.in-Some.ensures.door c.bytes_ahead-bytes.ensures) on.0 on.1 on.2 on.3 on.4 on.5 (took g c)
+
+both : (g : Over) (c : After-take_after g) →
+    IsTwice g.S.Stage.stands c.self.inside.floor.net c.self.inside.budget c.self.inside.journal.items c.self.inside.out.items c.self.inside.actors.items c.self.inside.floor.desk c.self.inside.floor.pool
+    c.args.strand c.args.i 0 c.see.new.actor →
+    IsSound g.S.Stage.stands c.take_after.new.self.net c.self.inside.budget c.push_reserved-then-matches.new.self.items c.self.inside.out.items
+    (slice_set c.self.inside.actors.items c.args.strand c.see.new.actor) c.take_after.new.self.desk c.take_after.new.self.pool
+both g c two =
+    let e : Entry = record { strand = c.args.strand; stream = 0 } in
+    sound_at c.take_after.ensures.net (c.push_reserved-then-matches.ensures.items ∙ ap (λ j. j ++ e ∷ []) c.push_reserved.ensures.items) refl refl c.take_after.ensures.desk c.take_after.ensures.pool two.sound
 
 pub take_after-requires-clause-can : goal.take_after-requires-clause-can
-take_after-requires-clause-can g c = makes (sight c.args.self.now c.self.view_is c.self.invariant.0 c.requires.least c.requires.space c.requires.limit c.index_mut-actor.ensures.value)
+take_after-requires-clause-can g c = (taking g (goal.at.take_after-requires-clause-can g c).Then-matches).can
+
+pub take_after-requires-clause-used : goal.take_after-requires-clause-used
+take_after-requires-clause-used g c = (taking g (goal.at.take_after-requires-clause-used g c).Then-matches).used
+
+pub take_after-requires-clause-early : goal.take_after-requires-clause-early
+take_after-requires-clause-early g c = (taking g (goal.at.take_after-requires-clause-early g c).Then-matches).early
+
+pub take_after-requires-clause-takes : goal.take_after-requires-clause-takes
+take_after-requires-clause-takes g c = (taking g (goal.at.take_after-requires-clause-takes g c).Then-matches).takes
+
+pub take_after-requires-clause-used_last : goal.take_after-requires-clause-used_last
+take_after-requires-clause-used_last g c = (taking g (goal.at.take_after-requires-clause-used_last g c).Then-matches).used_last
+
+pub take_after-requires-clause-early_last : goal.take_after-requires-clause-early_last
+take_after-requires-clause-early_last g c = (taking g (goal.at.take_after-requires-clause-early_last g c).Then-matches).early_last
 
 pub take_after-requires-clause-quiet : goal.take_after-requires-clause-quiet
 take_after-requires-clause-quiet g c = sym c.if-may_settle.ensures
 
 pub take_after-requires-clause-awake : goal.take_after-requires-clause-awake
-take_after-requires-clause-awake g c = (c.args.i, (sight c.args.self.now c.self.view_is c.self.invariant.0 c.requires.least c.requires.space c.requires.limit c.index_mut-actor.ensures.value).least)
-
-pub take_after-requires-clause-used : goal.take_after-requires-clause-used
-take_after-requires-clause-used g c = (taking g (goal.at.take_after-requires-clause-used g c).Then-take_on (asks_take g (goal.at.take_after-requires-clause-used g c).Then-matches)).used
-
-pub take_after-requires-clause-early : goal.take_after-requires-clause-early
-take_after-requires-clause-early g c = (taking g (goal.at.take_after-requires-clause-early g c).Then-take_on (asks_take g (goal.at.take_after-requires-clause-early g c).Then-matches)).early
-
-pub take_after-requires-clause-takes : goal.take_after-requires-clause-takes
-take_after-requires-clause-takes g c = (taking g (goal.at.take_after-requires-clause-takes g c).Then-take_on (asks_take g (goal.at.take_after-requires-clause-takes g c).Then-matches)).takes
+take_after-requires-clause-awake g c = (c.args.i, (taking g (goal.at.take_after-requires-clause-awake g c).Then-matches).first)
 
 pub take_after-requires-clause-least : goal.take_after-requires-clause-least
-take_after-requires-clause-least g c = (0, (taking g (goal.at.take_after-requires-clause-least g c).Then-take_on (asks_take g (goal.at.take_after-requires-clause-least g c).Then-matches)).least)
+take_after-requires-clause-least g c = (0, (taking g (goal.at.take_after-requires-clause-least g c).Then-matches).least)
 
-pub take_after-requires-clause-used_last : goal.take_after-requires-clause-used_last
-take_after-requires-clause-used_last g c =
-    (taking g (goal.at.take_after-requires-clause-used_last g c).Then-take_on (asks_take g (goal.at.take_after-requires-clause-used_last g c).Then-matches)).used_last
+pub invariant_of-self-then-matches : goal.invariant_of-self-then-matches
+invariant_of-self-then-matches g c = (both g c (taking g (goal.at.invariant_of-self-then-matches g c).Then-matches), search rules, subst (λ (n : Net). length n.strands ≤ vec_capacity c.self.inside.out) (sym c.take_after.ensures.net) c.self.invariant.2)
 
-pub take_after-requires-clause-early_last : goal.take_after-requires-clause-early_last
-take_after-requires-clause-early_last g c =
-    (taking g (goal.at.take_after-requires-clause-early_last g c).Then-take_on (asks_take g (goal.at.take_after-requires-clause-early_last g c).Then-matches)).early_last
+pub returns-then-matches-clause-goes : goal.returns-then-matches-clause-goes
+returns-then-matches-clause-goes g c =
+    let i = c.self.inside in
+    let v : ◌≡◌ {A = Machine} (record { net = i.floor.net; budget = i.budget; journal = i.journal.items; out = i.out.items; is_broken = i.is_broken }) c.args.self.now = c.self.view_is in
+    let e : Entry = record { strand = c.args.strand; stream = c.args.i } in
+    let e2 : Entry = record { strand = c.args.strand; stream = 0 } in
+    let below : length i.journal.items + 1 < c.args.limit = search rules in
+    let second = c.push_reserved-then-matches.ensures.items ∙ ap (λ j. j ++ e2 ∷ []) c.push_reserved.ensures.items in
+    inr (
+      0,
+      subst (λ (z : Machine). LeastEvent (record z { journal = z.journal ++ e ∷ [] }) (Some (c.args.strand, 0, Took 0))) v ((taking g (goal.at.returns-then-matches-clause-goes g c).Then-matches).taking i.is_broken),
+      subst (λ (z : Machine). length z.journal + 1 < c.args.limit) v below,
+      ap (λ n. record { net = n; budget = i.budget; journal = c.push_reserved-then-matches.new.self.items; out = i.out.items; is_broken = i.is_broken }) c.take_after.ensures.net
+          ∙ ap (λ j. record { net = i.floor.net; budget = i.budget; journal = j; out = i.out.items; is_broken = i.is_broken }) second
+          ∙ ap (λ (z : Machine). record { net = z.net; budget = z.budget; journal = (z.journal ++ e ∷ []) ++ e2 ∷ []; out = z.out; is_broken = z.is_broken }) v,
+    )
 
-pub invariant_of-self-then-take_on : goal.invariant_of-self-then-take_on
-invariant_of-self-then-take_on g c = (
-  both g c (asks_take g (goal.at.invariant_of-self-then-take_on g c).Then-matches),
-  search rules,
-  subst (λ (n : Net). length n.strands ≤ vec_capacity c.self.inside.out) (sym c.take_after.ensures.net) c.self.invariant.2,
-)
+pub returns-then-matches-clause-ahead : goal.returns-then-matches-clause-ahead
+returns-then-matches-clause-ahead g c = λ r named.
+    event_is g.S.Stage.stands c.take_after.new.self.net c.self.inside.budget c.push_reserved-then-matches.new.self.items c.self.inside.out.items
+    (slice_set c.self.inside.actors.items c.args.strand c.see.new.actor) c.take_after.new.self.desk c.take_after.new.self.pool (both g c (taking g (goal.at.returns-then-matches-clause-ahead g c).Then-matches)) c.self.inside.is_broken (Some r) (c.take_after.ensures.ahead r named)
 
-pub returns-then-take_on-clause-goes : goal.returns-then-take_on-clause-goes
-returns-then-take_on-clause-goes = took_both
-
-pub returns-then-take_on-clause-ahead : goal.returns-then-take_on-clause-ahead
-returns-then-take_on-clause-ahead g c = λ r named.
-    event_is g.S.Stage.stands c.take_after.new.self.net c.self.inside.budget c.push_reserved-then-take_on.new.self.items c.self.inside.out.items
-    (slice_set c.self.inside.actors.items c.args.strand c.take_on.new.actor) c.take_after.new.self.desk c.take_after.new.self.pool
-    (both g c (asks_take g (goal.at.returns-then-take_on-clause-ahead g c).Then-matches)) c.self.inside.is_broken (Some r) (c.take_after.ensures.ahead r named)
-
-pub returns-then-take_on-clause-lawful : goal.returns-then-take_on-clause-lawful
-returns-then-take_on-clause-lawful g c =
-    lawful g.S.Stage.stands c.take_after.new.self.net c.self.inside.budget c.push_reserved-then-take_on.new.self.items c.self.inside.out.items
-    (slice_set c.self.inside.actors.items c.args.strand c.take_on.new.actor) c.take_after.new.self.desk c.take_after.new.self.pool
-    (both g c (asks_take g (goal.at.returns-then-take_on-clause-lawful g c).Then-matches)) c.self.inside.is_broken
+pub returns-then-matches-clause-lawful : goal.returns-then-matches-clause-lawful
+returns-then-matches-clause-lawful g c =
+    lawful g.S.Stage.stands c.take_after.new.self.net c.self.inside.budget c.push_reserved-then-matches.new.self.items c.self.inside.out.items
+    (slice_set c.self.inside.actors.items c.args.strand c.see.new.actor) c.take_after.new.self.desk c.take_after.new.self.pool (both g c (taking g (goal.at.returns-then-matches-clause-lawful g c).Then-matches)) c.self.inside.is_broken
 
 -- It comes home with what it wants next
 
-pub see-requires-clause-can : goal.see-requires-clause-can
-see-requires-clause-can g c = makes (sight c.args.self.now c.self.view_is c.self.invariant.0 c.requires.least c.requires.space c.requires.limit c.index_mut-actor.ensures.value)
+went : (g : Over) (c : Else-matches g) → Resumes g.S.Stage.stands c.in-Ok.ensures.0 c.in-Ok.ensures.1 (Saw c.args.i) c.bytes_ahead-bytes.result.now c.in-Ok.ensures.2
+    × (c.in-Ok.ensures.3 ≡ true → PassesOn g.S.Stage.stands c.in-Ok.ensures.1)
+went g c =
+    asks g.S.Stage.stands c.in-Ok.ensures.0 c.in-Ok.ensures.1 c.args.i c.bytes_ahead-bytes.result.now c.in-Ok.ensures.2 c.in-Ok.ensures.3 c.in-Ok.reply (λ is. elim c.match-matches.branch [
+      | in-Takes w ↦ (let both = sym w.matches-is ∙ c.if-matches.false in cc)
+      | in_default-matches w ↦ w.in_default-matches.not-Takes is
+    ]) c.in-Ok.ensures.6
 
-pub see-requires-clause-least : goal.see-requires-clause-least
-see-requires-clause-least g c = (c.args.i, (sight c.args.self.now c.self.view_is c.self.invariant.0 c.requires.least c.requires.space c.requires.limit c.index_mut-actor.ensures.value).least)
+pub see-requires-2-clause-can : goal.see-requires-2-clause-can
+see-requires-2-clause-can g c = makes (sight c.args.self.now c.self.view_is c.self.invariant.0 c.requires.least c.requires.space c.requires.limit c.index_mut-actor.ensures.value)
 
-pub see-requires-clause-quiet : goal.see-requires-clause-quiet
-see-requires-clause-quiet g c = sym c.if-may_settle.ensures
+pub see-requires-2-clause-least : goal.see-requires-2-clause-least
+see-requires-2-clause-least g c = (c.args.i, (sight c.args.self.now c.self.view_is c.self.invariant.0 c.requires.least c.requires.space c.requires.limit c.index_mut-actor.ensures.value).least)
 
-pub see-requires-clause-used : goal.see-requires-clause-used
-see-requires-clause-used g c =
+pub see-requires-2-clause-quiet : goal.see-requires-2-clause-quiet
+see-requires-2-clause-quiet g c = sym c.if-may_settle.ensures
+
+pub see-requires-2-clause-used : goal.see-requires-2-clause-used
+see-requires-2-clause-used g c =
     let on = c.in-Ok.ensures in
     used_out (with_stage (sight c.args.self.now c.self.view_is c.self.invariant.0 c.requires.least c.requires.space c.requires.limit c.index_mut-actor.ensures.value) on.0 on.4) on.1 on.2 on.3
 
-pub see-requires-clause-live : goal.see-requires-clause-live
-see-requires-clause-live g c =
+pub see-requires-2-clause-live : goal.see-requires-2-clause-live
+see-requires-2-clause-live g c =
     let on = c.in-Ok.ensures in
-    let t = with_stage (sight c.args.self.now c.self.view_is c.self.invariant.0 c.requires.least c.requires.space c.requires.limit c.index_mut-actor.ensures.value) on.0 on.4 in
-    going t on.1 on.2 on.3 c.bytes_ahead-bytes.result.now c.bytes_ahead-bytes.ensures on.6.0 refl
+    let so = went g (goal.at.see-requires-2-clause-live g c).Else-matches in
+    live (sight c.args.self.now c.self.view_is c.self.invariant.0 c.requires.least c.requires.space c.requires.limit c.index_mut-actor.ensures.value) on.0 on.1 on.2 on.3 on.4 c.bytes_ahead-bytes.result.now (bytes_right (sight c.args.self.now c.self.view_is c.self.invariant.0 c.requires.least c.requires.space c.requires.limit c.index_mut-actor.ensures.value) c.in-Some.ensures.door c.bytes_ahead-bytes.ensures) so.0 refl on.5
 
-pub see-requires-clause-home : goal.see-requires-clause-home
-see-requires-clause-home g c =
+pub see-requires-2-clause-home : goal.see-requires-2-clause-home
+see-requires-2-clause-home g c =
     let on = c.in-Ok.ensures in
-    let kept : c.else-i-eq0.actor ≡ c.resume.new.actor = elim c.else-i-eq0.branch [
-      | else-i-eq0-via-then-i-eq0+then-matches+then-len-limit+else-take_on w ↦ w.actor-is ∙ w.if-take_on.ensures.stays refl
-      | else-i-eq0-via-then-i-eq0+then-matches+else-len-limit w ↦ w.actor-is
-      | else-i-eq0-via-then-i-eq0+else-matches w ↦ w.actor-is
-      | else-i-eq0-via-else-i-eq0 w ↦ w.actor-is
-    ] in
-    let asked_is : c.else-i-eq0.actor.asked ≡ on.2 = ap (λ (z : Actor g.row.S.Denot). z.asked) (kept ∙ on.5) in
-    let t = with_stage (sight c.args.self.now c.self.view_is c.self.invariant.0 c.requires.least c.requires.space c.requires.limit c.index_mut-actor.ensures.value) on.0 on.4 in
-    let turned = desk_after_turn c.self.inside.floor.desk c.args.strand (Saw c.args.i) in
-    let pool = pool_after_turn c.self.inside.floor.desk c.self.inside.floor.pool c.args.strand (Saw c.args.i) in
-    subst (CanCome turned pool c.args.strand) (sym asked_is) (comes t on.1 on.2 on.3 c.bytes_ahead-bytes.result.now c.bytes_ahead-bytes.ensures on.6.0 refl)
+    let so = went g (goal.at.see-requires-2-clause-home g c).Else-matches in
+    home (sight c.args.self.now c.self.view_is c.self.invariant.0 c.requires.least c.requires.space c.requires.limit c.index_mut-actor.ensures.value) on.0 on.1 on.2 on.3 on.4 c.bytes_ahead-bytes.result.now (bytes_right (sight c.args.self.now c.self.view_is c.self.invariant.0 c.requires.least c.requires.space c.requires.limit c.index_mut-actor.ensures.value) c.in-Some.ensures.door c.bytes_ahead-bytes.ensures) so.0 refl on.5
 
-pub see-requires-clause-early : goal.see-requires-clause-early
-see-requires-clause-early g c =
+pub see-requires-2-clause-early : goal.see-requires-2-clause-early
+see-requires-2-clause-early g c =
     let on = c.in-Ok.ensures in
-    let kept : c.else-i-eq0.actor ≡ c.resume.new.actor = elim c.else-i-eq0.branch [
-      | else-i-eq0-via-then-i-eq0+then-matches+then-len-limit+else-take_on w ↦ w.actor-is ∙ w.if-take_on.ensures.stays refl
-      | else-i-eq0-via-then-i-eq0+then-matches+else-len-limit w ↦ w.actor-is
-      | else-i-eq0-via-then-i-eq0+else-matches w ↦ w.actor-is
-      | else-i-eq0-via-else-i-eq0 w ↦ w.actor-is
-    ] in
-    let asked_is : c.else-i-eq0.actor.asked ≡ on.2 = ap (λ (z : Actor g.row.S.Denot). z.asked) (kept ∙ on.5) in
-    let t = with_stage (sight c.args.self.now c.self.view_is c.self.invariant.0 c.requires.least c.requires.space c.requires.limit c.index_mut-actor.ensures.value) on.0 on.4 in
-    let turned = desk_after_turn c.self.inside.floor.desk c.args.strand (Saw c.args.i) in
-    let pool = pool_after_turn c.self.inside.floor.desk c.self.inside.floor.pool c.args.strand (Saw c.args.i) in
-    subst (StaysEarly turned pool c.args.strand) (sym asked_is) (early t on.1 on.2 on.3 c.bytes_ahead-bytes.result.now c.bytes_ahead-bytes.ensures on.6.0 refl)
+    let so = went g (goal.at.see-requires-2-clause-early g c).Else-matches in
+    home_early (sight c.args.self.now c.self.view_is c.self.invariant.0 c.requires.least c.requires.space c.requires.limit c.index_mut-actor.ensures.value) on.0 on.1 on.2 on.3 on.4 c.bytes_ahead-bytes.result.now (bytes_right (sight c.args.self.now c.self.view_is c.self.invariant.0 c.requires.least c.requires.space c.requires.limit c.index_mut-actor.ensures.value) c.in-Some.ensures.door c.bytes_ahead-bytes.ensures) so.0 refl on.5
 
-pub see-requires-clause-used_home : goal.see-requires-clause-used_home
-see-requires-clause-used_home g c =
+pub see-requires-2-clause-used_home : goal.see-requires-2-clause-used_home
+see-requires-2-clause-used_home g c =
     let on = c.in-Ok.ensures in
-    let kept : c.else-i-eq0.actor ≡ c.resume.new.actor = elim c.else-i-eq0.branch [
-      | else-i-eq0-via-then-i-eq0+then-matches+then-len-limit+else-take_on w ↦ w.actor-is ∙ w.if-take_on.ensures.stays refl
-      | else-i-eq0-via-then-i-eq0+then-matches+else-len-limit w ↦ w.actor-is
-      | else-i-eq0-via-then-i-eq0+else-matches w ↦ w.actor-is
-      | else-i-eq0-via-else-i-eq0 w ↦ w.actor-is
-    ] in
-    let asked_is : c.else-i-eq0.actor.asked ≡ on.2 = ap (λ (z : Actor g.row.S.Denot). z.asked) (kept ∙ on.5) in
-    let t = with_stage (sight c.args.self.now c.self.view_is c.self.invariant.0 c.requires.least c.requires.space c.requires.limit c.index_mut-actor.ensures.value) on.0 on.4 in
-    let turned = desk_after_turn c.self.inside.floor.desk c.args.strand (Saw c.args.i) in
-    let held = pool_after_turn c.self.inside.floor.desk c.self.inside.floor.pool c.args.strand (Saw c.args.i) in
-    λ desk pool come.
-    used_home t on.1 on.2 on.3 c.bytes_ahead-bytes.result.now c.bytes_ahead-bytes.ensures on.6.0 refl on.6.1 desk pool
-    (subst (λ w. HasCome turned held c.args.strand w desk pool) asked_is come)
+    let so = went g (goal.at.see-requires-2-clause-used_home g c).Else-matches in
+    home_used (sight c.args.self.now c.self.view_is c.self.invariant.0 c.requires.least c.requires.space c.requires.limit c.index_mut-actor.ensures.value) on.0 on.1 on.2 on.3 on.4 c.bytes_ahead-bytes.result.now (bytes_right (sight c.args.self.now c.self.view_is c.self.invariant.0 c.requires.least c.requires.space c.requires.limit c.index_mut-actor.ensures.value) c.in-Some.ensures.door c.bytes_ahead-bytes.ensures) so.0 refl on.5 so.1
 
-pub invariant_of-self-in-Ok-see : goal.invariant_of-self-in-Ok-see
-invariant_of-self-in-Ok-see g c = (came g c, search rules, subst (λ (n : Net). length n.strands ≤ vec_capacity c.self.inside.out) (sym c.see.ensures.net) c.self.invariant.2)
+pub give_up-requires-in_default-see-2 : goal.give_up-requires-in_default-see-2
+give_up-requires-in_default-see-2 g c =
+    let few = room_out (sight c.args.self.now c.self.view_is c.self.invariant.0 c.requires.least c.requires.space c.requires.limit c.index_mut-actor.ensures.value) in
+    let room = c.self.invariant.2 in
+    search (rules, few, room)
 
-pub give_up-requires-in_default-see : goal.give_up-requires-in_default-see
-give_up-requires-in_default-see = room_home
+pub invariant_of-self-in_default-see-2 : goal.invariant_of-self-in_default-see-2
+invariant_of-self-in_default-see-2 g c =
+    let i = c.self.inside in
+    let on = c.in-Ok.ensures in
+    let place : c.len-in_default-see-2.result ≡ suc (length i.journal.items) = search rules in
+    let sound = sound_broken (sight c.args.self.now c.self.view_is c.self.invariant.0 c.requires.least c.requires.space c.requires.limit c.index_mut-actor.ensures.value) on.0 on.1 c.see-2.new.want on.3 on.4 c.len-in_default-see-2.result place c.see-2.ensures.net c.push_reserved.ensures.items c.give_up-in_default-see-2.ensures.out
+    (c.give_up-in_default-see-2.ensures.actor ∙ ap (λ (z : Actor g.row.S.Denot). given_up (asking_for c.see-2.new.want z)) on.5) c.in_default-see-2.ensures.err c.in_default-see-2.ensures.err_pool in
+    (sound, search rules, search rules)
 
-pub invariant_of-self-in_default-see : goal.invariant_of-self-in_default-see
-invariant_of-self-in_default-see = sound_broken_home
+pub returns-in_default-see-2-clause-lawful : goal.returns-in_default-see-2-clause-lawful
+returns-in_default-see-2-clause-lawful g c = lawful_broken (sight c.args.self.now c.self.view_is c.self.invariant.0 c.requires.least c.requires.space c.requires.limit c.index_mut-actor.ensures.value) c.give_up-in_default-see-2.new.out.items c.see-2.ensures.net c.push_reserved.ensures.items
 
-pub returns-in_default-see-clause-lacks : goal.returns-in_default-see-clause-lacks
-returns-in_default-see-clause-lacks = lacks_broken_home
+came : (g : Over) (c : In-Ok-see g) →
+    Resumes g.S.Stage.stands c.in-Ok.ensures.0 c.in-Ok.ensures.1 (Saw c.args.i) c.bytes_ahead-bytes.result.now c.in-Ok.ensures.2
+    × (c.in-Ok.ensures.3 ≡ true → PassesOn g.S.Stage.stands c.in-Ok.ensures.1) →
+    IsSound g.S.Stage.stands c.see-2.new.self.net c.self.inside.budget c.push_reserved.new.self.items c.self.inside.out.items
+    (slice_set c.self.inside.actors.items c.args.strand (asking_for c.see-2.new.want c.see.new.actor)) c.see-2.new.self.desk c.see-2.new.self.pool
+came g c so =
+    let on = c.in-Ok.ensures in
+    home_sound (sight c.args.self.now c.self.view_is c.self.invariant.0 c.requires.least c.requires.space c.requires.limit c.index_mut-actor.ensures.value) on.0 on.1 on.2 on.3 on.4 c.bytes_ahead-bytes.result.now (bytes_right (sight c.args.self.now c.self.view_is c.self.invariant.0 c.requires.least c.requires.space c.requires.limit c.index_mut-actor.ensures.value) c.in-Some.ensures.door c.bytes_ahead-bytes.ensures) so.0 refl on.5 so.1
+    c.see-2.ensures.net c.push_reserved.ensures.items c.see-2.ensures.bare c.in-Ok-see.ensures.home
 
-pub returns-in_default-see-clause-lawful : goal.returns-in_default-see-clause-lawful
-returns-in_default-see-clause-lawful = lawful_broken_home
-
-pub returns-clause-goes : goal.returns-clause-goes
-returns-clause-goes = is_after
+pub invariant_of-self-in-Ok-see-2 : goal.invariant_of-self-in-Ok-see-2
+invariant_of-self-in-Ok-see-2 g c = ((came g c (went g (goal.at.invariant_of-self-in-Ok-see-2 g c).Else-matches)), search rules, subst (λ (n : Net). length n.strands ≤ vec_capacity c.self.inside.out) (sym c.see-2.ensures.net) c.self.invariant.2)
 
 pub returns-clause-ahead : goal.returns-clause-ahead
 returns-clause-ahead g c = λ r named.
-    event_is g.S.Stage.stands c.see.new.self.net c.self.inside.budget c.push_reserved.new.self.items c.self.inside.out.items
-    (slice_set c.self.inside.actors.items c.args.strand (asking_for c.see.new.want c.else-i-eq0.actor)) c.see.new.self.desk c.see.new.self.pool
-    (came g c) c.self.inside.is_broken (Some r) (c.in-Ok-see.ensures.ahead r named)
+    event_is g.S.Stage.stands c.see-2.new.self.net c.self.inside.budget c.push_reserved.new.self.items c.self.inside.out.items
+    (slice_set c.self.inside.actors.items c.args.strand (asking_for c.see-2.new.want c.see.new.actor)) c.see-2.new.self.desk c.see-2.new.self.pool (came g c (went g (goal.at.returns-clause-ahead g c).Else-matches)) c.self.inside.is_broken (Some r) (c.in-Ok-see.ensures.ahead r named)
 
 pub returns-clause-lawful : goal.returns-clause-lawful
 returns-clause-lawful g c =
-    lawful g.S.Stage.stands c.see.new.self.net c.self.inside.budget c.push_reserved.new.self.items c.self.inside.out.items
-    (slice_set c.self.inside.actors.items c.args.strand (asking_for c.see.new.want c.else-i-eq0.actor)) c.see.new.self.desk c.see.new.self.pool
-    (came g c) c.self.inside.is_broken
+    lawful g.S.Stage.stands c.see-2.new.self.net c.self.inside.budget c.push_reserved.new.self.items c.self.inside.out.items
+    (slice_set c.self.inside.actors.items c.args.strand (asking_for c.see-2.new.want c.see.new.actor)) c.see-2.new.self.desk c.see-2.new.self.pool (came g c (went g (goal.at.returns-clause-lawful g c).Else-matches)) c.self.inside.is_broken

@@ -51,7 +51,7 @@ returns-clause-ahead c =
     (subst (λ d. HasReturned d c.make.new.self.pool s asked back.desk back.pool) c.make.ensures.desk c.in_ok-come_home.ensures.home) in
     let come = come_live (desk_after_turn now.desk s told) (pool_after_turn now.desk now.pool s told) s asked back.desk back.pool returned c.requires.live in
     let formed = subst IsWellFormed c.make.ensures.net c.make.ensures.formed in
-    let gone = gone_passing now.net now.desk formed now.pool s c.args.i asked c.requires.can c.requires.quiet c.requires.used
+    let gone = gone_passing now.net now.desk formed now.pool s told asked c.requires.can c.requires.quiet tt c.requires.used
     c.requires.early back.desk back.pool come c.requires.least.0 c.requires.least.1 in
     c.ahead.ensures now.desk now.pool c.requires.least.0 asked (subst (λ n. HasGoneQuietly n now.desk now.pool s c.requires.least.0 told asked back.desk back.pool)
     (sym net) gone) (c.come_home.ensures.bare refl)

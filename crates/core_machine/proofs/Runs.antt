@@ -1,0 +1,177 @@
+-- A run is made of its steps, each of an event that it makes.
+use Rattle.std.proofs.Common.{◌≡◌, ◌≢◌, ◌≤◌, ◌<◌, ℕ, ◌+◌, Bool, false, true, not, List, [], ◌∷◌, ◌++◌, ◌⊎◌, inl, inr, length, length-append, refl, sym, ◌∙◌, ap, subst, arith, Some}
+use Rattle.pipe_model.specs.declared.step.Entry.{Entry}
+use Rattle.pipe_model.specs.declared.step.Seen.{Seen}
+use Rattle.pipe_model.specs.declared.step.Seen.TheVariants as Told
+use Rattle.pipe_model.proofs.Lists.{length_more}
+use Rattle.core_machine.specs.declared.floor.Ahead.{Ahead}
+use Rattle.core_machine.specs.declared.floor.Ahead.TheVariants as Known
+use Rattle.core_machine.specs.declared.run.Which.{Which}
+use Rattle.core_machine.specs.declared.run.Which.TheVariants.{All, OfRecords, Quiet}
+use Rattle.core_machine.specs.Ahead.{event_ahead, IsAhead}
+use Rattle.core_machine.specs.Answered.{LeastReady, LeastEvent, AreLeast, HasRun, AreOnRecords, HasRunOnRecords, IsEndOnRecords, HasBroken, HasMade, is_of_record}
+use Rattle.core_machine.specs.Machine.{Machine}
+use Rattle.core_machine.specs.Runs.{AreSteps, HasRunBy, IsEndBy, is_made, may_end}
+use Rattle.core_machine.proofs.Steps.{append_none, append_twice, append_three}
+
+-- the search for an event makes no entry, and comes before one that is not known ahead
+abbrev pub searches : Ahead → ℕ
+searches Known.Search = 1
+searches _ = 0
+
+pub searches_once : (ahead : Ahead) → searches ahead ≤ 1
+searches_once Known.Search = omega arith
+searches_once (Known.Saw s i) = omega arith
+searches_once (Known.Took s i) = omega arith
+searches_once (Known.Put s o) = omega arith
+
+-- what is of a record without sights is made by every run
+pub makes_quiet : (which : Which) (seen : Seen) → is_of_record false seen ≡ true → is_made which seen ≡ true
+makes_quiet All seen is = refl
+makes_quiet Quiet seen is = is
+makes_quiet OfRecords seen is = of_record seen is
+  where
+    of_record : (seen : Seen) → is_of_record false seen ≡ true → is_of_record true seen ≡ true
+    of_record (Told.Took i) is = refl
+    of_record (Told.Put o) is = refl
+    of_record (Told.Saw i) is = refl
+    of_record (Told.Up level code) is = cc
+    of_record (Told.SawEnd i) is = cc
+    of_record Told.SawAllEnd is = cc
+    of_record (Told.Refused o) is = cc
+    of_record (Told.Cut i) is = cc
+    of_record (Told.Primed b) is = cc
+    of_record (Told.Opened unit) is = cc
+    of_record (Told.Joined unit code) is = cc
+    of_record (Told.Ended code) is = cc
+
+-- it begins where nothing was done
+pub runs_begin : (made : Seen → Bool) (m : Machine) → HasRunBy made m m
+runs_begin made m = record { more = []; steps = tt; after = ap (λ j. record m { journal = j }) (sym (append_none m.journal)) }
+
+-- one more step
+steps_more : (made : Seen → Bool) (m : Machine) (es : List Entry) (e : Entry) → AreSteps made m es →
+    (seen : Seen) → LeastEvent (record m { journal = m.journal ++ es }) (Some (e.strand, e.stream, seen)) → made seen ≡ true → AreSteps made m (es ++ e ∷ [])
+steps_more made m [] e steps seen next is = ((seen, subst (λ j. LeastEvent (record m { journal = j }) (Some (e.strand, e.stream, seen))) (append_none m.journal) next, is), tt)
+steps_more made m (x ∷ es) e steps seen next is = (
+  steps.0,
+  steps_more made (record m { journal = m.journal ++ x ∷ [] }) es e steps.1 seen (subst (λ j. LeastEvent (record m { journal = j }) (Some (e.strand, e.stream, seen))) (sym (append_twice m.journal x es)) next) is,
+)
+
+-- how far a run has come: it may go on, within the limit, which is within the budget
+abbrev pub IsUnderWay : (Seen → Bool) → Machine → ℕ → Machine → Type 0
+IsUnderWay made m limit n = HasRunBy made m n × (n.is_broken ≡ false) × (length n.journal ≤ limit) × (limit ≤ n.budget)
+
+-- it goes on by a step, where another may be made
+pub runs_go : (made : Seen → Bool) (m n k : Machine) (s i limit : ℕ) (seen : Seen) → IsUnderWay made m limit n → length n.journal < limit → LeastEvent n (Some (s, i, seen)) →
+    made seen ≡ true → k ≡ record n { journal = n.journal ++ (record { strand = s; stream = i }) ∷ [] } → IsUnderWay made m limit k
+runs_go made m n k s i limit seen on few least is step =
+    let run : HasRunBy made m n = on.0 in
+    let e : Entry = record { strand = s; stream = i } in
+    let next : LeastEvent (record m { journal = m.journal ++ run.more }) (Some (s, i, seen)) = subst (λ (z : Machine). LeastEvent z (Some (s, i, seen))) run.after least in
+    let now : k ≡ record m { journal = m.journal ++ (run.more ++ e ∷ []) } =
+    step ∙ ap (λ (z : Machine). record z { journal = z.journal ++ e ∷ [] }) run.after ∙ ap (λ j. record m { journal = j }) (append_three m.journal run.more (e ∷ [])) in
+    let long : length k.journal ≡ length (n.journal ++ e ∷ []) = ap (λ (z : Machine). length z.journal) step in
+    let budget : k.budget ≡ n.budget = ap (λ (z : Machine). z.budget) step in (
+      record { more = run.more ++ e ∷ []; steps = steps_more made m run.more e run.steps seen next is; after = now },
+      ap (λ (z : Machine). z.is_broken) step ∙ on.1,
+      let a = length_more n.journal e in omega (arith, a, long, few),
+      let a = on.3 in omega (arith, a, budget),
+    )
+
+-- it goes on by an event and maybe a second, by which the strand took a record
+pub runs_make : (made : Seen → Bool) (m n k : Machine) (s i limit : ℕ) (seen : Seen) → IsUnderWay made m limit n → length n.journal < limit → LeastEvent n (Some (s, i, seen)) →
+    made seen ≡ true → ((j : ℕ) → made (Told.Took j) ≡ true) → HasMade n (record { strand = s; stream = i }) limit k → IsUnderWay made m limit k
+runs_make made m n k s i limit seen on few least is takes (inl one) = runs_go made m n k s i limit seen on few least is one
+runs_make made m n k s i limit seen on few least is takes (inr two) =
+    let e : Entry = record { strand = s; stream = i } in
+    let first : Machine = record n { journal = n.journal ++ e ∷ [] } in
+    let next = runs_go made m n first s i limit seen on few least is refl in
+    let more : length first.journal < limit = (let a = length_more n.journal e in let b = two.2 in omega (arith, a, b)) in
+    runs_go made m first k s two.0 limit (Told.Took two.0) next more two.1 (takes two.0) two.3
+
+-- where a step breaks it, it has broken
+pub runs_break : (made : Seen → Bool) (m n k : Machine) → HasRunBy made m n → HasBroken n k → HasBroken m k
+runs_break made m n k run lacks =
+    let longer : k.journal ≡ m.journal ++ (run.more ++ lacks.longer.0) =
+    lacks.longer.1 ∙ ap (λ (z : Machine). z.journal ++ lacks.longer.0) run.after ∙ append_three m.journal run.more lacks.longer.0 in
+    let long : length n.journal ≡ length m.journal + length run.more = ap (λ (z : Machine). length z.journal) run.after ∙ length-append m.journal run.more in
+    record {
+      broken = lacks.broken;
+      net = lacks.net ∙ ap (λ (z : Machine). z.net) run.after;
+      budget = lacks.budget ∙ ap (λ (z : Machine). z.budget) run.after;
+      longer = (run.more ++ lacks.longer.0, longer);
+      more = let a = lacks.more in omega (arith, a, long);
+      out = lacks.out ∙ ap (λ (z : Machine). z.out ++ length k.journal ∷ []) run.after;
+    }
+
+-- the journal has no fewer entries after a run
+pub run_longer : (made : Seen → Bool) (m n : Machine) → HasRunBy made m n → length m.journal ≤ length n.journal
+run_longer made m n run =
+    let long : length n.journal ≡ length m.journal + length run.more = ap (λ (z : Machine). length z.journal) run.after ∙ length-append m.journal run.more in
+    omega (arith, long)
+
+-- Runs of one thread
+
+least_steps : (made : Seen → Bool) (m : Machine) (es : List Entry) → AreSteps made m es → AreLeast m es
+least_steps made m [] steps = tt
+least_steps made m (e ∷ es) steps = (steps.0.1.0, least_steps made (record m { journal = m.journal ++ e ∷ [] }) es steps.1)
+
+-- a run by some events is a run
+pub run_by_all : (made : Seen → Bool) (m n : Machine) → HasRunBy made m n → HasRun m n
+run_by_all made m n run = record { more = run.more; least = least_steps made m run.more run.steps; after = run.after }
+
+-- one that makes all events, and ends where one may be made, is at the limit
+pub spent_where_ready : (limit : ℕ) (m : Machine) (r : ℕ × ℕ) → IsEndBy (may_end All) limit m → LeastReady m (Some r) → length m.journal ≡ limit
+spent_where_ready limit m r (inl full) ready = full
+spent_where_ready limit m r (inr (inl none)) ready = let a = none r.0 r.1 in let b = ready.0 in cc (a, b)
+spent_where_ready limit m r (inr (inr other)) ready = let a = other.2 in cc a
+
+-- Runs on records
+
+record_steps : (made : Seen → Bool) (sights : Bool) → ((seen : Seen) → made seen ≡ true → is_of_record sights seen ≡ true) → (m : Machine) (es : List Entry) → AreSteps made m es → AreOnRecords sights m es
+record_steps made sights is m [] steps = tt
+record_steps made sights is m (e ∷ es) steps = (
+  (steps.0.0, steps.0.1, is steps.0.0 steps.0.2),
+  record_steps made sights is (record m { journal = m.journal ++ e ∷ [] }) es steps.1,
+)
+
+-- a run by such events is one on records
+pub run_by_records : (made : Seen → Bool) (sights : Bool) → ((seen : Seen) → made seen ≡ true → is_of_record sights seen ≡ true) → (m n : Machine) (count : ℕ) → HasRunBy made m n →
+    length m.journal + count ≡ length n.journal → HasRunOnRecords sights m count n
+run_by_records made sights is m n count run counts =
+    let long : length n.journal ≡ length m.journal + length run.more = ap (λ (z : Machine). length z.journal) run.after ∙ length-append m.journal run.more in
+    record {
+      more = run.more;
+      steps = record_steps made sights is m run.more run.steps;
+      after = run.after;
+      made_is = omega (arith, long, counts);
+    }
+
+pub not_true : (b : Bool) → not b ≡ true → b ≡ false
+not_true true is = let no : false ≡ true = is in cc no
+not_true false is = refl
+
+-- and ends as one
+pub end_by_records : (ends : Seen → Bool) (limit most made : ℕ) (m : Machine) → ((seen : Seen) → ends seen ≡ true → is_of_record false seen ≡ false) →
+    (length m.journal ≡ limit → (made ≡ most) ⊎ (length m.journal ≡ m.budget)) → IsEndBy ends limit m → IsEndOnRecords most made m
+end_by_records ends limit most made m other at (inl full) = elim (at full) [ inl all ↦ inl all | inr spent ↦ inr (inl spent) ]
+end_by_records ends limit most made m other at (inr (inl none)) = inr (inr (inl none))
+end_by_records ends limit most made m other at (inr (inr is)) = inr (inr (inr (is.0, is.1, other is.0.2 is.2)))
+
+-- What is known ahead
+
+-- what was searched for is known ahead as the event that it is
+pub ahead_known : (n k : Machine) (ahead : Ahead) (e : ℕ × ℕ × Seen) → k ≡ n → LeastEvent n (Some e) → ((r : ℕ × ℕ × Seen) → event_ahead ahead ≡ Some r → r ≡ e) → IsAhead k ahead
+ahead_known n k ahead e same least known r at = subst (λ (z : Machine). LeastEvent z (Some r)) (sym same) (subst (λ z. LeastEvent n (Some z)) (sym (known r at)) least)
+
+-- and the search is over then
+pub search_over : (ahead : Ahead) → ahead ≢ Known.Search → searches ahead ≡ 0
+search_over Known.Search other = absurd (other refl)
+search_over (Known.Saw s i) other = refl
+search_over (Known.Took s i) other = refl
+search_over (Known.Put s o) other = refl
+
+-- what is known is the least event
+pub least_ahead : (n : Machine) (ahead known : Ahead) (e : ℕ × ℕ × Seen) → IsAhead n ahead → ahead ≡ known → event_ahead known ≡ Some e → LeastEvent n (Some e)
+least_ahead n ahead known e is same event = is e (ap event_ahead same ∙ event)
