@@ -19,6 +19,10 @@ pub record WireState : Type 0 where
 abbrev pub waits : WireState → Bool
 waits wire = not (is_some wire.queue) && ((wire.puts == wire.tooks) && (is_some wire.offer && not wire.in_closed))
 
+-- a record was taken at a rendezvous and isn't put yet, and the consumer takes more
+abbrev pub is_due : WireState → Bool
+is_due wire = not (is_some wire.queue) && (not (wire.puts == wire.tooks) && not wire.in_closed)
+
 -- of a rendezvous as many records were taken as were put, or one more, whose offer still stands; of a queue as many more were put as wait
 abbrev pub IsPaced : Option ℕ → ℕ → ℕ → Option (List ℕ) → Type 0
 IsPaced offer puts tooks None = (tooks ≡ puts) ⊎ ((tooks ≡ puts + 1) × IsSome offer)
@@ -57,6 +61,14 @@ taken wire = record wire { tooks = wire.tooks + 1; queue = option_map (drop 1) w
 -- after the record that was offered was put: of a rendezvous it was taken before, and in a queue it waits
 abbrev pub settled : WireState → WireState
 settled wire = record wire { offer = None; puts = wire.puts + 1; queue = lined_up wire.queue wire.offer; reserved = false }
+
+-- after the record that was taken was put, and the next one is offered by the same grip
+abbrev pub offered_again : WireState → WireState
+offered_again wire = record wire { puts = wire.puts + 1 }
+
+-- and taken
+abbrev pub taken_again : WireState → WireState
+taken_again wire = record wire { puts = wire.puts + 1; tooks = wire.tooks + 1 }
 
 -- after the offer was withdrawn
 abbrev pub cleared : WireState → WireState

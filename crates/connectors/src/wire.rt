@@ -2,7 +2,7 @@ ghost use Rattle.std.specs.Prelude.{◌≡◌, ◌-◌, ◌<◌, ◌^◌, Some, 
 ghost use Rattle.std.specs.Option.{option_map};
 ghost use Rattle.record_pool.specs.PoolState.{without_node};
 ghost use Rattle.connectors.specs.Rooms.{HasRoom};
-ghost use Rattle.connectors.specs.WireState.{at_hand, waits, new_wire, with_room, offered, taken, settled, lined_up, cleared, noded_in, pool_taken, pool_settled, unreserved, drained, emptied, IsHeldIn, given_in, IsPaced, CanTake, CanSettle, CanUnreserve, CanEmpty, CanDrain};
+ghost use Rattle.connectors.specs.WireState.{at_hand, waits, is_due, offered_again, taken_again, new_wire, with_room, offered, taken, settled, lined_up, cleared, noded_in, pool_taken, pool_settled, unreserved, drained, emptied, IsHeldIn, given_in, IsPaced, CanTake, CanSettle, CanUnreserve, CanEmpty, CanDrain};
 
 use pipe_model::NoMemory;
 use record_pool::{Grip, Node, Pool, Queue};
@@ -66,6 +66,40 @@ impl Wire {
         ensures { result ≡ waits self.now }
     {
         self.queue.is_none() && self.puts == self.tooks && self.offer.is_some() && !self.in_closed
+    }
+
+    /// Whether a record was taken at a rendezvous and isn't put yet, and the consumer takes more.
+    #[inline(always)]
+    pub fn is_due(&self) -> bool
+        ensures { result ≡ is_due self.now }
+    {
+        self.queue.is_none() && self.puts != self.tooks && !self.in_closed
+    }
+
+    /// The record that is offered.
+    pub fn offered(&self) -> Option<&Grip>
+        ensures { option_map (λ grip. grip.now) result ≡ self.now.offer }
+    {
+        self.offer.as_ref()
+    }
+
+    /// The record that was taken is put, and the next one is offered by the same grip.
+    pub fn offer_again(&mut self)
+        requires { is_due self.old ≡ true }
+        ensures { self.new ≡ offered_again self.old }
+    {
+        self.puts += 1; // The offer stays.
+    }
+
+    /// The same, and that is taken.
+    #[inline(always)]
+    pub fn take_again(&mut self)
+        requires due { is_due self.old ≡ true }
+        requires count { self.old.tooks < 2 ^ 64 - 1 }
+        ensures { self.new ≡ taken_again self.old }
+    {
+        self.puts += 1;
+        self.tooks += 1; // By the same grip.
     }
 
     /// Whether it is a queue.
@@ -143,7 +177,7 @@ impl Wire {
         ensures taken { self.new ≡ taken self.old }
         ensures pool { pool.new ≡ pool_taken pool.old self.old self.old.queue }
     {
-        self.tooks += 1;
+        self.tooks += 1; // The offer of a rendezvous stays.
         match &mut self.queue {
             Some(queue) => give_first(queue, pool),
             None => {}
@@ -157,7 +191,7 @@ impl Wire {
         ensures settled { self.new ≡ settled self.old }
         ensures pool { pool.new ≡ pool_settled pool.old self.old self.old.queue }
     {
-        self.puts += 1;
+        self.puts += 1; // Of a rendezvous it was taken before.
         match &mut self.queue {
             Some(queue) => line_up(queue, self.node.take(), self.offer.take(), pool),
             None => give_back(self.offer.take(), pool),

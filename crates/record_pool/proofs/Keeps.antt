@@ -6,8 +6,8 @@ use Rattle.std.proofs.Math.ListN.{set, length-set}
 use Rattle.std.proofs.lemmas.List.Sums.{sum_by_push}
 use Rattle.std.proofs.lemmas.Grind.{common_steps}
 use Rattle.record_pool.specs.PoolState.{Held, PoolState}
-use Rattle.record_pool.specs.Places.{place_at, record_at, with_place, IsHeld, holders_of, holders_at, given, one_more, one_less}
-use Rattle.record_pool.specs.Blocks.{blocks_at, blocks_of_all}
+use Rattle.record_pool.specs.Places.{place_at, record_at, with_place, IsHeld, holders_of, holders_at, given, one_more, one_less, refilled}
+use Rattle.record_pool.specs.Blocks.{blocks_of, blocks_at, blocks_of_all}
 use Rattle.record_pool.specs.Kept.{IsKept, vacancy, vacancy_at, times}
 use Rattle.record_pool.proofs.Places.{place_at-within, place_at-end, read_held, with_place-set, with_place-end, sum_by-with_place}
 use Rattle.record_pool.proofs.Records.{pool_of, written_held}
@@ -227,3 +227,19 @@ emptied_held places nodes value p was now same_places held few read empty =
 pub blocks_put : (places after : List (Option Held)) (p : ℕ) (held : Held) → place_at places p ≡ None → after ≡ with_place places p (Some held) → blocks_of_all after ≡ blocks_of_all places + blocks_at (Some held)
 blocks_put places after p held empty e =
     omega (arith, ap blocks_of_all e, ap blocks_at empty, sum_by-with_place blocks_at refl places p (Some held))
+
+-- a record of at most 256 bytes has one block
+pub one_block : (n : ℕ) → n ≤ 256 → blocks_of n ≡ 1
+one_block n short = grind (arith, common_steps, short)
+
+-- a held place was read, other bytes of one block put in, and the place written
+pub keeps_refilled : (places : List (Option Held)) (nodes : ℕ) (value : PoolState) (free : List ℕ) (room blocks p q freed : ℕ) (was now : Option Held) (held : Held) (bytes : List ℕ) → IsKept places free room × (blocks ≡ blocks_of_all places + nodes)
+    → pool_of places nodes ≡ value → p ≡ q → IsHeld value q → was ≡ get_or places p was → was ≡ Some held → freed ≡ blocks_of (length held.bytes) → length bytes ≤ 256 → now ≡ Some (refilled bytes held.holders)
+    → IsKept (set places p now) free room × (blocks - freed + 1 ≡ blocks_of_all (set places p now) + nodes)
+keeps_refilled places nodes value free room blocks p q freed was now held bytes kept same_places same_place there read found counts short filled =
+    let here : IsSome (place_at places p) = held_here places nodes value p q same_places same_place there in
+    let is : was ≡ place_at places p = read_held places p was here read in
+    let stays : IsSome now = subst IsSome (sym filled) refl in (
+      kept_held places free room p now kept.0 here stays,
+      omega (arith, kept.1, counts, blocks_changed places p now here, blocks_changed places p None here, ap blocks_at is, ap blocks_at found, ap blocks_at filled, one_block (length bytes) short),
+    )

@@ -50,6 +50,10 @@ OthersStay before after grip = (other : ℕ) → other ≢ grip → record_at af
 abbrev pub fresh : List ℕ → Held
 fresh bytes = record { bytes = bytes; holders = 1 }
 
+-- one of these bytes with so many
+abbrev pub refilled : List ℕ → ℕ → Held
+refilled bytes holders = record { bytes = bytes; holders = holders }
+
 -- a place after one holder more
 abbrev pub one_more : Option Held → Option Held
 one_more place = option_map (λ (held : Held). record held { holders = held.holders + 1 }) place

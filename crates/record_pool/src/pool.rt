@@ -1,6 +1,6 @@
 ghost use Rattle.std.specs.Prelude.{◌≡◌, ◌+◌, ◌<◌, ◌≤◌, [], Some, None, IsSome, IfOk, OnErr, length, vec_capacity};
 ghost use Rattle.record_pool.specs.PoolState.{empty_pool};
-ghost use Rattle.record_pool.specs.Places.{place_at, record_at, IsHeld, holders_of, holders_at, bytes_at, with_place, with_record, shared, given, one_more, one_less, fresh, OthersStay};
+ghost use Rattle.record_pool.specs.Places.{place_at, record_at, IsHeld, holders_of, holders_at, bytes_at, with_place, with_record, shared, given, one_more, one_less, fresh, refilled, OthersStay};
 ghost use Rattle.record_pool.specs.Blocks.{blocks_of, blocks_in};
 ghost use Rattle.record_pool.specs.Kept.{IsKept};
 
@@ -21,6 +21,17 @@ impl Model for Grip {
     ghost Value = { ℕ };
 
     ghost view = { λ grip. grip.place };
+}
+
+impl Grip {
+    ghost use Rattle.std.specs.Prelude.{◌≡◌, ◌==◌};
+
+    /// Whether it is a hold on the same record as another grip of the pool.
+    pub fn is(&self, other: &Grip) -> bool
+        ensures { result ≡ (self.now == other.now) }
+    {
+        self.place == other.place
+    }
 }
 
 /// Records with their holders. A place that was left empty is used again. A pool isn't let go but closed, when no
@@ -155,6 +166,29 @@ impl Pool {
         };
         self.blocks -= count_blocks(held.bytes.bytes().len());
         self.free.push_reserved(place);
+    }
+
+    /// The number of holds on the record.
+    pub fn holders_of(&self, grip: &Grip) -> u32
+        requires { IsHeld self.now grip.now }
+        ensures { result ≡ holders_at self.now grip.now }
+    {
+        match &self.places[grip.place] {
+            Some(held) => held.holders,
+            None => 0,
+        }
+    }
+
+    /// Puts a record of at most 256 bytes in place of the record, whose holders hold that then. It takes no memory.
+    pub fn refill(&mut self, grip: &Grip, rec: Rec)
+        requires held { IsHeld self.old grip.now }
+        requires short { length rec ≤ 256 }
+        ensures { self.new ≡ with_record self.old grip.now (Some (refilled rec (holders_at self.old grip.now))) }
+    {
+        if let Some(held) = &mut self.places[grip.place] {
+            self.blocks = self.blocks - count_blocks(held.bytes.bytes().len()) + 1;
+            held.bytes = rec;
+        }
     }
 
     /// The number of bytes of the record.
