@@ -59,10 +59,10 @@ holders_held pool grip some = go (record_at pool grip) some
     go None some = absurd (omega (arith, some))
     go (Some held) some = refl
 
-held_same : (grip other : ℕ) → grip ≢ other → hold grip (Some other) ≡ 0
+pub held_same : (grip other : ℕ) → grip ≢ other → hold grip (Some other) ≡ 0
 held_same grip other apart = ap one (ne_eqb other grip (λ e. apart (sym e)))
 
-held_here : (grip other : ℕ) → grip ≡ other → hold grip (Some other) ≡ 1
+pub held_here : (grip other : ℕ) → grip ≡ other → hold grip (Some other) ≡ 1
 held_here grip other is = ap (λ z. one (other == z)) is ∙ ap one (test_same other)
 
 -- a hold that is given back is one less

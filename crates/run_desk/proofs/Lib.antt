@@ -22,11 +22,13 @@ pub mod Pacing
 pub mod Passes
 pub mod Pooled
 pub mod Queues
+pub mod Relayed
 pub mod Reserves
 pub mod Runs
 pub mod Sees
 pub mod Shown
 pub mod SightDoors
+pub mod Splits
 pub mod Spots
 pub mod Streams
 pub mod Tells

@@ -10,6 +10,7 @@ mod laws;
 mod looks;
 mod passing;
 mod records;
+mod relaying;
 mod seat;
 mod sights;
 mod telling;
