@@ -80,7 +80,7 @@ impl Stage for BlockStage {
         self.stage.resume(alloc, seen, bytes)
     }
 
-    #[inline(always)]
+    #[inline(never)]
     fn see(&mut self, alloc: Global, bytes: &[u8], asked: &mut Want) -> Result<Reply, NoMemory> {
         self.stage.see(alloc, bytes, asked)
     }
@@ -96,5 +96,9 @@ impl Stage for BlockStage {
 
     fn kept(&self) -> &[u8] {
         self.stage.kept()
+    }
+
+    fn shown(&self) -> &[u8] {
+        &[]
     }
 }

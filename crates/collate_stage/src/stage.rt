@@ -55,7 +55,7 @@ impl Stage for CollateStage {
         self.stage.resume(alloc, seen, bytes)
     }
 
-    #[inline(always)]
+    #[inline(never)]
     fn see(&mut self, alloc: Global, bytes: &[u8], asked: &mut Want) -> Result<Reply, NoMemory> {
         self.stage.see(alloc, bytes, asked)
     }
@@ -71,5 +71,9 @@ impl Stage for CollateStage {
 
     fn kept(&self) -> &[u8] {
         self.stage.kept()
+    }
+
+    fn shown(&self) -> &[u8] {
+        &[]
     }
 }

@@ -1,12 +1,12 @@
 -- The kinds of devices, and what their stages stand for.
-use Rattle.std.specs.Prelude.{Bool, true, false, List}
+use Rattle.std.specs.Prelude.{ℕ, Bool, true, false, List, []}
 use Rattle.pipe_model.specs.declared.net.Strand.{Strand}
 use Rattle.pipe_model.specs.declared.kind.Kind.{Kind}
 use Rattle.pipe_model.specs.declared.kind.Kind.TheVariants.{ConsoleIn, ConsoleOut, FileIn, FileOut, Literal, Hole}
 use Rattle.pipe_model.specs.Event.{Event}
 use Rattle.stage_steps.specs.Drivers.{ListedStands}
 use Rattle.stage_steps.specs.Each.{EachStand, each_look}
-use Rattle.stage_steps.specs.SharedLists.{LinesStand, lines_look, CopiesStand, copies_look}
+use Rattle.stage_steps.specs.SharedLists.{LinesStand, lines_look, line_given, CopiesStand, copies_look}
 use Rattle.device_stages.specs.declared.device.DeviceStage.{DeviceStage}
 use Rattle.device_stages.specs.declared.device.DeviceStage.TheVariants as Stages
 use Rattle.device_stages.specs.Absent.{AbsentStands}
@@ -29,3 +29,8 @@ DeviceStands (Stages.Absent x) s h = AbsentStands x s h
 DeviceStands (Stages.Sink x) s h = ListedStands (EachStand CopiesStand) (each_look copies_look) x s h
 DeviceStands (Stages.Literal x) s h = ListedStands LiteralsStand literals_look x s h
 DeviceStands (Stages.Hole x) s h = ListedStands (EachStand HolesStand) (each_look holes_look) x s h
+
+-- the bytes of the record that it showed last: a source shows lines
+abbrev pub device_showing : DeviceStage → List ℕ
+device_showing (Stages.Source x) = line_given x.lists
+device_showing _ = []

@@ -31,4 +31,8 @@ impl Stage for Absent {
     fn kept(&self) -> &[u8] {
         &[]
     }
+
+    fn shown(&self) -> &[u8] {
+        &[]
+    }
 }

@@ -4,7 +4,7 @@ use crate::literal::Literals;
 use crate::sink::sink;
 use crate::source::source;
 use pipe_model::{Kind, NoMemory, Seen, Strand, Want};
-use stage_steps::{Copies, Each, Listed, Reply, Stage, TextLines};
+use stage_steps::{Copies, Each, Listed, Reply, Stage, TextLines, line_shown, show_line};
 use std::alloc::Global;
 
 /// A stage of a device.
@@ -51,9 +51,11 @@ impl DeviceStage {
 impl Stage for DeviceStage {
     ghost use Rattle.std.specs.Prelude.{IfOk};
     ghost use Rattle.stage_steps.specs.Coroutine.{Resumes};
-    ghost use Rattle.device_stages.specs.Device.{DeviceStands};
+    ghost use Rattle.device_stages.specs.Device.{DeviceStands, device_showing};
 
     ghost stands = { DeviceStands };
+
+    ghost showing = { device_showing };
 
     fn first(&self) -> Want {
         match self {
@@ -78,7 +80,7 @@ impl Stage for DeviceStage {
         }
     }
 
-    #[inline(always)]
+    #[inline(never)]
     fn see(&mut self, alloc: Global, bytes: &[u8], asked: &mut Want) -> Result<Reply, NoMemory> {
         match self {
             DeviceStage::Source(stage) => stage.see(alloc, bytes, asked),
@@ -97,6 +99,23 @@ impl Stage for DeviceStage {
             DeviceStage::Sink(stage) => stage.put(alloc, o, asked),
             DeviceStage::Literal(stage) => stage.put(alloc, o, asked),
             DeviceStage::Hole(stage) => stage.put(alloc, o, asked),
+        }
+    }
+
+    // Only a source shows what it writes.
+    #[inline(never)]
+    fn show(&mut self, o: u16) -> bool {
+        match self {
+            DeviceStage::Source(stage) => show_line(stage, o),
+            _ => false,
+        }
+    }
+
+    #[inline(always)]
+    fn shown(&self) -> &[u8] {
+        match self {
+            DeviceStage::Source(stage) => line_shown(stage),
+            _ => &[],
         }
     }
 

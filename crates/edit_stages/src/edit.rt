@@ -74,7 +74,7 @@ impl Stage for EditStage {
         self.stage.resume(alloc, seen, bytes)
     }
 
-    #[inline(always)]
+    #[inline(never)]
     fn see(&mut self, alloc: Global, bytes: &[u8], asked: &mut Want) -> Result<Reply, NoMemory> {
         self.stage.see(alloc, bytes, asked)
     }
@@ -95,5 +95,9 @@ impl Stage for EditStage {
 
     fn kept(&self) -> &[u8] {
         self.stage.kept()
+    }
+
+    fn shown(&self) -> &[u8] {
+        &[]
     }
 }

@@ -141,7 +141,7 @@ impl Stage for FanStage {
         }
     }
 
-    #[inline(always)]
+    #[inline(never)]
     fn see(&mut self, alloc: Global, bytes: &[u8], asked: &mut Want) -> Result<Reply, NoMemory> {
         match self {
             FanStage::Parts(stage) => stage.see(alloc, bytes, asked),
@@ -169,5 +169,9 @@ impl Stage for FanStage {
             FanStage::Parts(stage) => stage.kept(),
             FanStage::Joins(stage) => stage.kept(),
         }
+    }
+
+    fn shown(&self) -> &[u8] {
+        &[]
     }
 }

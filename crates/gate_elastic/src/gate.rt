@@ -107,7 +107,7 @@ impl Stage for GateStage {
         }
     }
 
-    #[inline(always)]
+    #[inline(never)]
     fn see(&mut self, alloc: Global, bytes: &[u8], asked: &mut Want) -> Result<Reply, NoMemory> {
         match self {
             GateStage::Lists(stage) => stage.see(alloc, bytes, asked),
@@ -139,5 +139,9 @@ impl Stage for GateStage {
             GateStage::Gate(stage) => stage.kept(),
             GateStage::Dam(stage) => stage.kept(),
         }
+    }
+
+    fn shown(&self) -> &[u8] {
+        &[]
     }
 }

@@ -89,7 +89,7 @@ impl Stage for SpecsStage {
         self.stage.resume(alloc, seen, bytes)
     }
 
-    #[inline(always)]
+    #[inline(never)]
     fn see(&mut self, alloc: Global, bytes: &[u8], asked: &mut Want) -> Result<Reply, NoMemory> {
         self.stage.see(alloc, bytes, asked)
     }
@@ -110,5 +110,9 @@ impl Stage for SpecsStage {
 
     fn kept(&self) -> &[u8] {
         self.stage.kept()
+    }
+
+    fn shown(&self) -> &[u8] {
+        &[]
     }
 }

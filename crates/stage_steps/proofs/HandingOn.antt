@@ -1,15 +1,17 @@
 -- What holds of a stage holds of a value that stands for it: a box of it, or an enum of stages.
-use Rattle.std.proofs.Common.{◌≡◌, ℕ, List, ◌∷◌, [], IfOk, sym, subst}
+use Rattle.std.proofs.Common.{◌≡◌, ℕ, ◌≤◌, Bool, true, false, List, ◌∷◌, [], length, IfOk, sym, ◌∙◌, ap, subst}
 use Rattle.std.proofs.lemmas.Result.{IfOk-weaker}
 use Rattle.std.specs.declared.result.Result.{Result}
 use Rattle.pipe_model.specs.declared.net.Strand.{Strand}
+use Rattle.pipe_model.specs.declared.step.Out.TheVariants.{Fresh}
 use Rattle.pipe_model.specs.declared.step.Seen.{Seen}
-use Rattle.pipe_model.specs.declared.step.Seen.TheVariants.{Saw, Took}
+use Rattle.pipe_model.specs.declared.step.Seen.TheVariants.{Saw, Took, Put}
 use Rattle.pipe_model.specs.declared.step.Want.{Want}
-use Rattle.pipe_model.specs.declared.step.Want.TheVariants.{Read, Take}
+use Rattle.pipe_model.specs.declared.step.Want.TheVariants.{Read, Take, Write}
 use Rattle.pipe_model.specs.Event.{Event}
 use Rattle.stage_steps.specs.Coroutine.{Resumes}
 use Rattle.stage_steps.specs.Replies.{Replies}
+use Rattle.stage_steps.specs.Showings.{IsShowing}
 use Rattle.stage_steps.specs.declared.reply.Reply.{Reply}
 use Rattle.stage_steps.specs.declared.reply.Reply.TheVariants.{Takes, Passes, Asks}
 
@@ -36,3 +38,12 @@ module _ {S T : Type 0} (stands : S → Strand → List Event → Type 0) (hold 
   -- what it answers is the stage's answer
   pub handed_on : {Err : Type 0} (self : T) (x y : S) (bytes : List ℕ) (asked : Want) (result : Result Reply Err) → self ≡ hold x → IfOk result (λ reply. Replies stands x y bytes asked reply) → IfOk result (λ reply. Replies holds self (hold y) bytes asked reply)
   handed_on self x y bytes asked result is replies = IfOk-weaker result _ _ (λ reply r. subst (λ z. Replies holds z (hold y) bytes asked reply) (sym is) (replies_held x y bytes asked reply r)) replies
+
+  -- what it shows is what the stage shows
+  pub shows_held : (showing : S → List ℕ) (showing_held : T → List ℕ) → ((x : S) → showing_held (hold x) ≡ showing x) → (self : T) (x y : S) (o : ℕ) (shown : Bool) → self ≡ hold x → IsShowing stands showing x y o shown → IsShowing holds showing_held self (hold y) o shown
+  shows_held showing showing_held same self x y o true is shows = (
+    subst (λ z. Resumes holds z (hold y) (Put o) [] (Write o (Fresh (showing_held (hold y))))) (sym is)
+        (resumes_held x y (Put o) [] (Write o (Fresh (showing_held (hold y)))) (subst (λ rec. Resumes stands x y (Put o) [] (Write o (Fresh rec))) (sym (same y)) shows.0)),
+    subst (λ rec. length rec ≤ 256) (sym (same y)) shows.1,
+  )
+  shows_held showing showing_held same self x y o false is shows = ap hold shows ∙ sym is

@@ -14,6 +14,7 @@ pub mod PassingOn
 pub mod Planning
 pub mod Replying
 pub mod Searching
+pub mod Showing
 pub mod Sifting
 pub mod SiftingEach
 pub mod Sources

@@ -16,6 +16,7 @@ pub mod Planning
 pub mod Plans
 pub mod Replies
 pub mod SharedLists
+pub mod Showings
 pub mod Strings
 pub mod Waiting
 pub mod Walk

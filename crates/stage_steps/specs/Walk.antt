@@ -9,6 +9,7 @@ use Rattle.pipe_model.specs.declared.step.Seen.TheVariants.{Up, Saw, SawEnd, Too
 use Rattle.pipe_model.specs.declared.step.Want.{Want}
 use Rattle.pipe_model.specs.declared.step.Want.TheVariants.{Write}
 use Rattle.pipe_model.specs.declared.step.Want.TheVariants.{Take as Consumes}
+use Rattle.pipe_model.specs.Members.{flag_at}
 use Rattle.pipe_model.specs.Row.{Act}
 use Rattle.pipe_model.specs.Shape.{Records, Stream, at_hand_of}
 use Rattle.stage_steps.specs.declared.group.Group.{Group}
@@ -99,6 +100,10 @@ Asks stands made flags x hand from z hand' place asked = (z ≡ x) × (hand' ≡
 -- it looks at the next record, writes the pairs of a record before it takes that, and has nothing in hand
 abbrev pub LooksPlainly : Walk → Type 0
 LooksPlainly w = ((w.place ≡ Looking) ⊎ (w.place ≡ Passing)) × (w.hand ≡ None) × (w.order ≡ WritesFirst)
+
+-- it writes pairs, has nothing in hand and keeps no text, and output 0 is open
+abbrev pub WritesPlainly : Walk → Type 0
+WritesPlainly w = ((follow : Follow) × (w.place ≡ Writing follow)) × (w.hand ≡ None) × (w.kept ≡ None) × (flag_at w.outputs.flags.items 0 ≡ true)
 
 -- the answer where it wants this after the sight of a record: where it takes that, and goes on, it has done both; else it left what it wants
 abbrev pub IsReply : {L : Type 0} → (L → Bool → Stream → Records → List Act → Type 0) → L → Walk → Want → Walk → Want → Reply → Type 0

@@ -8,6 +8,8 @@ use std::alloc::Global;
 impl<T: Stage> Stage for Box<T> {
     ghost stands = { λ x s h. T.stands x.value s h };
 
+    ghost showing = { λ x. T.showing x.value };
+
     fn first(&self) -> Want {
         (**self).first()
     }
@@ -24,6 +26,16 @@ impl<T: Stage> Stage for Box<T> {
     #[inline(always)]
     fn put(&mut self, alloc: Global, o: u16, asked: &mut Want) -> Result<(), NoMemory> {
         (**self).put(alloc, o, asked)
+    }
+
+    #[inline(always)]
+    fn show(&mut self, o: u16) -> bool {
+        (**self).show(o)
+    }
+
+    #[inline(always)]
+    fn shown(&self) -> &[u8] {
+        (**self).shown()
     }
 
     fn passes(&mut self) -> bool {

@@ -13,8 +13,8 @@ use std::alloc::Global;
 /// takes the record or after that, and those at the start and at the end of input.
 #[derive(Drop)]
 pub struct Listed<L: Lists> {
-    lists: L,
-    walk: Walk,
+    pub(crate) lists: L,
+    pub(crate) walk: Walk,
 }
 
 impl<L: Lists> Listed<L> {
@@ -91,5 +91,9 @@ impl<L: Lists> Stage for Listed<L> {
             Some(kept) => kept.text(),
             None => &[],
         }
+    }
+
+    fn shown(&self) -> &[u8] {
+        &[]
     }
 }

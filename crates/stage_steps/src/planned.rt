@@ -192,4 +192,8 @@ impl<P: Plans> Stage for Planned<P> {
     fn kept(&self) -> &[u8] {
         &[]
     }
+
+    fn shown(&self) -> &[u8] {
+        &[]
+    }
 }

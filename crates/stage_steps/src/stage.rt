@@ -1,4 +1,4 @@
-ghost use Rattle.std.specs.Prelude.{◌≡◌, true, false, List, [], IfOk, Some};
+ghost use Rattle.std.specs.Prelude.{◌≡◌, ℕ, true, false, List, [], IfOk, Some};
 ghost use Rattle.pipe_model.specs.declared.net.Strand.{Strand};
 ghost use Rattle.pipe_model.specs.Event.{Event};
 ghost use Rattle.pipe_model.specs.Next.{next};
@@ -6,6 +6,7 @@ ghost use Rattle.pipe_model.specs.Table.{form};
 ghost use Rattle.stage_steps.specs.Coroutine.{meaning, last_seen, kept_by, CanResume, Resumes};
 ghost use Rattle.stage_steps.specs.PassesOn.{PassesOn};
 ghost use Rattle.stage_steps.specs.Replies.{CanSee, Replies};
+ghost use Rattle.stage_steps.specs.Showings.{IsShowing};
 
 use crate::reply::{Reply, leave};
 use pipe_model::{NoMemory, Seen, Want};
@@ -15,6 +16,9 @@ use std::alloc::Global;
 pub trait Stage: Sized + Drop {
     /// The value stands for this history of this strand.
     ghost stands: { Self → Strand → List Event → Type 0 };
+
+    /// The bytes of the record that it showed last.
+    ghost showing: { Self → List ℕ } = { λ _. [] };
 
     /// The first want of a fresh value.
     fn first(&self) -> Want
@@ -54,6 +58,21 @@ pub trait Stage: Sized + Drop {
         leave(asked, want);
         Ok(())
     }
+
+    /// Where it wants, once the record was put that it wrote on an output, to write a new one of at most 256 bytes there, it may
+    /// be told that this was put, and show the new one; else nothing changes. It takes no memory. The answer may always be
+    /// `false`.
+    #[inline(always)]
+    fn show(&mut self, _o: u16) -> bool
+        requires { CanResume stands self.old (Seen.Put _o) [] }
+        ensures { IsShowing stands showing self.old self.new _o result }
+    {
+        false
+    }
+
+    /// The bytes of the record that it showed last, and none where it never shows one.
+    fn shown(&self) -> &[u8]
+        ensures { result.now ≡ showing self.now };
 
     /// Whether it passes on the record that it saw last: once it has put one it takes the record of input 0, and once it took
     /// that it looks at the next one there. It needn't be told of these two events then, and may be told of them all the

@@ -1,11 +1,19 @@
 ghost use Rattle.std.specs.Prelude.{[], ◌≡◌, MatchOption};
 ghost use Rattle.pipe_model.specs.Records.{lines};
 ghost use Rattle.stage_steps.specs.Lines.{IsFirstLine};
+ghost use Rattle.stage_steps.specs.Drivers.{ListedStands};
+ghost use Rattle.stage_steps.specs.SharedLists.{LinesStand, lines_look, line_given};
+ghost use Rattle.stage_steps.specs.Showings.{IsShowing};
 
 use crate::group::Group;
+use crate::listed::Listed;
 use crate::lists::Lists;
-use pipe_model::{Lines, NoMemory, Rec, behind};
+use crate::walk::writes_plainly;
+use pipe_model::{Lines, NoMemory, Rec, behind, front};
 use std::alloc::Global;
+
+// A line of more bytes isn't shown, but written.
+const SHORT_LINE: usize = 256;
 
 /// The lines of a text, before any record: each is cut when it is asked for.
 #[derive(Drop)]
@@ -34,6 +42,66 @@ impl TextLines {
             size: 0,
         }
     }
+}
+
+impl TextLines {
+    ghost use Rattle.std.specs.Prelude.{◌≡◌, ◌+◌, ◌<◌, ◌^◌, Some};
+    ghost use Rattle.stage_steps.specs.SharedLists.{LinesStand, line_given};
+    ghost use Rattle.stage_steps.specs.Showings.{GivesShown};
+
+    // Gives the next line, which has so many bytes.
+    #[inline(always)]
+    fn give(&mut self, size: usize)
+        requires { self.old.at + size + 1 < 2 ^ 64 }
+        ensures { self.new ≡ record self.old { from = self.old.at; size = size; at = self.old.at + size + 1 } }
+    {
+        self.size = size;
+        self.from = self.at;
+        self.at += size + 1;
+    }
+
+    // Gives the next line, where one of at most 256 bytes is left; else nothing changes.
+    #[inline(always)]
+    fn give_short(&mut self) -> bool
+        ensures { GivesShown LinesStand (λ x. Some (line_given x)) line_given self.old self.new result }
+    {
+        match first_line(behind(self.bytes.bytes(), self.at)) {
+            Some(line) if line.len() <= SHORT_LINE => {
+                let size = line.len();
+                self.give(size);
+                true
+            }
+            _ => false,
+        }
+    }
+
+    // The line that was given last.
+    #[inline(always)]
+    fn last(&self) -> &[u8]
+        ensures { result.now ≡ line_given self.now }
+    {
+        front(behind(self.bytes.bytes(), self.from), self.size)
+    }
+}
+
+/// Tells a source that the record was put which it wrote on an output, where it writes a line of at most 256 bytes there next,
+/// which it shows then; else nothing changes.
+#[inline(always)]
+pub fn show_line(source: &mut Listed<TextLines>, o: u16) -> bool
+    ensures { IsShowing (λ x s h. ListedStands LinesStand lines_look x s h) (λ x. line_given x.lists) source.old source.new o result }
+{
+    if o != 0 || !writes_plainly(&source.walk) {
+        return false;
+    }
+    source.lists.give_short()
+}
+
+/// The line that a source wrote last.
+#[inline(always)]
+pub fn line_shown(source: &Listed<TextLines>) -> &[u8]
+    ensures { result.now ≡ line_given source.now.lists }
+{
+    source.lists.last()
 }
 
 // The first line of a text.
@@ -70,15 +138,15 @@ impl Lists for TextLines {
     fn next(&mut self, _alloc: Global) -> Result<Option<Group>, NoMemory> {
         match first_line(behind(self.bytes.bytes(), self.at)) {
             Some(line) => {
-                self.size = line.len();
-                self.from = self.at;
-                self.at += self.size + 1;
+                let size = line.len();
+                self.give(size);
                 Ok(Some(Group::New(0)))
             }
             None => Ok(None),
         }
     }
 
+    #[inline(always)]
     fn hand_over(&mut self, alloc: Global) -> Result<Rec, NoMemory> {
         self.bytes.part(alloc, self.from, self.size)
     }

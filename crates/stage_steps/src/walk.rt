@@ -5,7 +5,7 @@ ghost use Rattle.stage_steps.specs.Outputs.{none_left};
 ghost use Rattle.stage_steps.specs.Group.{less, less_one, IsHeld};
 ghost use Rattle.stage_steps.specs.Places.{look_place, sight_place, taken_place};
 ghost use Rattle.stage_steps.specs.Lists.{Tells};
-ghost use Rattle.stage_steps.specs.Walk.{IsBegun, Hears, CanPass, IsPassing, CanGoOn, IsGoingOn, Fetches, Puts, Asks, TellsBehind, LooksPlainly, IsReply, SiftsOn};
+ghost use Rattle.stage_steps.specs.Walk.{IsBegun, Hears, CanPass, IsPassing, CanGoOn, IsGoingOn, Fetches, Puts, Asks, TellsBehind, LooksPlainly, WritesPlainly, IsReply, SiftsOn};
 ghost use Rattle.stage_steps.specs.Kept.{kept_after};
 ghost use Rattle.stage_steps.specs.declared.place.Place.TheVariants.{Looking};
 ghost use Rattle.stage_steps.specs.declared.reply.Reply.TheVariants.{Takes};
@@ -343,6 +343,17 @@ pub(crate) fn ask<L: Lists>(
             Ok(want_at(place))
         }
     }
+}
+
+// Whether it writes pairs, the next on output 0 if there is one, and keeps no text.
+#[inline(always)]
+pub(crate) fn writes_plainly(walk: &Walk) -> bool
+    ensures { result ≡ true → WritesPlainly walk.now }
+{
+    matches!(walk.place, Place::Writing(_))
+        && walk.hand.is_none()
+        && walk.kept.is_none()
+        && walk.outputs.is_open(0)
 }
 
 // Whether it looks at the next record, writes the pairs of a record before it takes that, and has nothing in hand.

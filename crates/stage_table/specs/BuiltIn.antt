@@ -1,8 +1,8 @@
 -- What the built-in stages stand for.
-use Rattle.std.specs.Prelude.{◌≤◌, List, length}
+use Rattle.std.specs.Prelude.{◌≤◌, ℕ, List, [], length}
 use Rattle.pipe_model.specs.declared.net.Strand.{Strand}
 use Rattle.pipe_model.specs.Event.{Event}
-use Rattle.device_stages.specs.Device.{DeviceStands}
+use Rattle.device_stages.specs.Device.{DeviceStands, device_showing}
 use Rattle.select_stages.specs.Select.{SelectStands}
 use Rattle.edit_stages.specs.Edit.{EditStands}
 use Rattle.unique_sort.specs.OrderStage.{UniqueStands}
@@ -32,3 +32,8 @@ BuiltInStands (Gate x) s h = GateStands x.value s h
 BuiltInStands (Fan x) s h = FanStands x.value s h
 BuiltInStands (Lookup x) s h = LookupStands x.value s h
 BuiltInStands (Collate x) s h = CollateStands x.value s h
+
+-- the bytes of the record that it showed last
+abbrev pub built_in_showing : BuiltIn → List ℕ
+built_in_showing (Device x) = device_showing x.value
+built_in_showing _ = []

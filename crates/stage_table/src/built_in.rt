@@ -31,9 +31,11 @@ pub enum BuiltIn {
 impl Stage for BuiltIn {
     ghost use Rattle.std.specs.Prelude.{IfOk};
     ghost use Rattle.stage_steps.specs.Coroutine.{Resumes};
-    ghost use Rattle.stage_table.specs.BuiltIn.{BuiltInStands};
+    ghost use Rattle.stage_table.specs.BuiltIn.{BuiltInStands, built_in_showing};
 
     ghost stands = { BuiltInStands };
+
+    ghost showing = { built_in_showing };
 
     fn first(&self) -> Want {
         match self {
@@ -50,7 +52,7 @@ impl Stage for BuiltIn {
         }
     }
 
-    // It may be told any event; what isn't answered ends it. It is a call of its own, as `see`, `passes` and each family's `put` are:
+    // It may be told any event; what isn't answered ends it. It is a call of its own, as `passes` and each family's `see` and `put` are:
     // they stand in the loop that runs the stages, and that loop has few registers.
     #[inline(never)]
     fn resume(&mut self, alloc: Global, seen: Seen, bytes: &[u8]) -> Result<Want, NoMemory>
@@ -70,7 +72,7 @@ impl Stage for BuiltIn {
         }
     }
 
-    #[inline(never)]
+    #[inline(always)]
     fn see(&mut self, alloc: Global, bytes: &[u8], asked: &mut Want) -> Result<Reply, NoMemory> {
         match self {
             BuiltIn::Device(stage) => (**stage).see(alloc, bytes, asked),
@@ -99,6 +101,22 @@ impl Stage for BuiltIn {
             BuiltIn::Fan(stage) => (**stage).put(alloc, o, asked),
             BuiltIn::Lookup(stage) => (**stage).put(alloc, o, asked),
             BuiltIn::Collate(stage) => (**stage).put(alloc, o, asked),
+        }
+    }
+
+    #[inline(always)]
+    fn show(&mut self, o: u16) -> bool {
+        match self {
+            BuiltIn::Device(stage) => (**stage).show(o),
+            _ => false,
+        }
+    }
+
+    #[inline(always)]
+    fn shown(&self) -> &[u8] {
+        match self {
+            BuiltIn::Device(stage) => (**stage).shown(),
+            _ => &[],
         }
     }
 

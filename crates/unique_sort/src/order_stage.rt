@@ -63,7 +63,7 @@ impl Stage for UniqueStage {
         self.stage.resume(alloc, seen, bytes)
     }
 
-    #[inline(always)]
+    #[inline(never)]
     fn see(&mut self, alloc: Global, bytes: &[u8], asked: &mut Want) -> Result<Reply, NoMemory> {
         self.stage.see(alloc, bytes, asked)
     }
@@ -84,5 +84,9 @@ impl Stage for UniqueStage {
 
     fn kept(&self) -> &[u8] {
         self.stage.kept()
+    }
+
+    fn shown(&self) -> &[u8] {
+        &[]
     }
 }
