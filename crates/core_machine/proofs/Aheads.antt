@@ -123,7 +123,7 @@ no_write o (want.Cut i) other is = is
 no_write o (want.Done code) other is = is
 
 -- who offers a record on an output asks to write there
-offer_asks : (o : ℕ) (w : Option Wanted) (rec : List ℕ) → offered o w ≡ Some rec → asked w ≡ Now.Write o
+pub offer_asks : (o : ℕ) (w : Option Wanted) (rec : List ℕ) → offered o w ≡ Some rec → asked w ≡ Now.Write o
 offer_asks o None rec is = cc
 offer_asks o (Some (Wanted.Write k text)) rec is = ap Now.Write (eqb-true k o (cond_some (k == o) (Some text) is).0)
 offer_asks o (Some (Wanted.Commit level)) rec is = cc

@@ -149,23 +149,37 @@ module _ {S : Type 0} (stands : S → Strand → List Event → Type 0) (net : N
           ∙ ap has_ended (turned_past stands net budget journal out actors d pool sound s k e may)
           ∙ end_told e (past (play net journal) s) (goes_on stands net budget journal out actors d pool sound s k e may) ∙ ap ends seen_at)
 
+      -- while it is out the desk and the pool are any for which the core is sound
+      module _ (d2 : DeskState) (pool2 : PoolState) (sound2 : IsSound stands net budget longer out' (slice_set actors s off) d2 pool2) where
+        pub any_can : Telling.ended_at d2 s ≡ false → CanCome d2 pool2 s asked
+        any_can = can_home stands net budget longer out' (slice_set actors s off) d2 pool2 sound2 s here next asked among done
+
+        pub any_early : Telling.ended_at d2 s ≡ false → StaysEarly d2 pool2 s asked
+        any_early = came_early stands net budget longer out' (slice_set actors s off) d2 pool2 sound2 s here next asked among done
+
+        -- and its strand came home
+        pub any_home : (shown : Asked) → (passes ≡ true → PassesOn stands next) → (Telling.ended_at d2 s ≡ false → shown ≡ bare asked) →
+            (d3 : DeskState) (pool3 : PoolState) → HasReturned d2 pool2 s asked d3 pool3 →
+            IsSound stands net budget longer out (slice_set actors s (gone_on seen next shown passes a)) d3 pool3
+        any_home shown passing bared d3 pool3 returned =
+            let new : Actor S = gone_on seen next shown passes a in
+            let home = sound_home stands net budget longer out' (slice_set actors s off) d2 pool2 sound2 s here next asked among done d3 pool3 off (get_set_same actors s off a there)
+            returned shown bared passes passing in
+            let before : without here out' ≡ out = without_end net journal out sound.last in
+            subst (λ (l : List (Actor S)). IsSound stands net budget longer out l d3 pool3) (set_set actors s off new)
+            (subst (λ o. IsSound stands net budget longer o (slice_set (slice_set actors s off) s new) d3 pool3) before home)
+
+      -- as those after the turn are
       pub home_can : Telling.ended_at d' s ≡ false → CanCome d' pool' s asked
-      home_can = can_home stands net budget longer out' (slice_set actors s off) d' pool' lost s here next asked among done
+      home_can = any_can d' pool' lost
 
       pub home_early : Telling.ended_at d' s ≡ false → StaysEarly d' pool' s asked
-      home_early = came_early stands net budget longer out' (slice_set actors s off) d' pool' lost s here next asked among done
+      home_early = any_early d' pool' lost
 
-      -- and its strand came home
       pub went_home : (shown : Asked) → (passes ≡ true → PassesOn stands next) → (Telling.ended_at d' s ≡ false → shown ≡ bare asked) →
           (d2 : DeskState) (pool2 : PoolState) → HasReturned d' pool' s asked d2 pool2 →
           IsSound stands net budget longer out (slice_set actors s (gone_on seen next shown passes a)) d2 pool2
-      went_home shown passing bared d2 pool2 returned =
-          let new : Actor S = gone_on seen next shown passes a in
-          let home = sound_home stands net budget longer out' (slice_set actors s off) d' pool' lost s here next asked among done d2 pool2 off (get_set_same actors s off a there)
-          returned shown bared passes passing in
-          let before : without here out' ≡ out = without_end net journal out sound.last in
-          subst (λ (l : List (Actor S)). IsSound stands net budget longer out l d2 pool2) (set_set actors s off new)
-          (subst (λ o. IsSound stands net budget longer o (slice_set (slice_set actors s off) s new) d2 pool2) before home)
+      went_home = any_home d' pool' lost
 
       -- and what it did is all that happened, where it settled nothing for many
       pub gone_quietly : LeastEventAwake d (Some (s, k, seen)) → may_settle d s seen ≡ false → (d2 : DeskState) (pool2 : PoolState) → HasReturned d' pool' s asked d2 pool2 →

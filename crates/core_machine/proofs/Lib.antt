@@ -14,10 +14,12 @@ pub mod Jobs
 pub mod LeastTurns
 pub mod Lows
 pub mod Outs
+pub mod Pairs
 pub mod Plays
 pub mod PutsOn
 pub mod Quiet
 pub mod Relays
+pub mod Rounds
 pub mod Runs
 pub mod Sounds
 pub mod Starts
@@ -27,5 +29,6 @@ pub mod Summaries
 pub mod TakesOn
 pub mod Tales
 pub mod Tellings
+pub mod Twice
 pub mod Wakes
 pub mod Works

@@ -1,5 +1,6 @@
 -- A run is made of its steps, each of an event that it makes.
 use Rattle.std.proofs.Common.{◌≡◌, ◌≢◌, ◌≤◌, ◌<◌, ℕ, ◌+◌, Bool, false, true, not, List, [], ◌∷◌, ◌++◌, ◌⊎◌, inl, inr, length, length-append, refl, sym, ◌∙◌, ap, subst, arith, Some}
+use Rattle.std.specs.Prelude.{Result, Ok, Err, IfOk, OnOk, OnErr}
 use Rattle.pipe_model.specs.declared.step.Entry.{Entry}
 use Rattle.pipe_model.specs.declared.step.Seen.{Seen}
 use Rattle.pipe_model.specs.declared.step.Seen.TheVariants as Told
@@ -50,7 +51,7 @@ pub runs_begin : (made : Seen → Bool) (m : Machine) → HasRunBy made m m
 runs_begin made m = record { more = []; steps = tt; after = ap (λ j. record m { journal = j }) (sym (append_none m.journal)) }
 
 -- one more step
-steps_more : (made : Seen → Bool) (m : Machine) (es : List Entry) (e : Entry) → AreSteps made m es →
+pub steps_more : (made : Seen → Bool) (m : Machine) (es : List Entry) (e : Entry) → AreSteps made m es →
     (seen : Seen) → LeastEvent (record m { journal = m.journal ++ es }) (Some (e.strand, e.stream, seen)) → made seen ≡ true → AreSteps made m (es ++ e ∷ [])
 steps_more made m [] e steps seen next is = ((seen, subst (λ j. LeastEvent (record m { journal = j }) (Some (e.strand, e.stream, seen))) (append_none m.journal) next, is), tt)
 steps_more made m (x ∷ es) e steps seen next is = (
@@ -89,6 +90,24 @@ runs_make made m n k s i limit seen on few least is takes (inr two) =
     let next = runs_go made m n first s i limit seen on few least is refl in
     let more : length first.journal < limit = (let a = length_more n.journal e in let b = two.2 in omega (arith, a, b)) in
     runs_go made m first k s two.0 limit (Told.Took two.0) next more two.1 (takes two.0) two.3
+
+-- two runs, one after the other, are one
+steps_join : (made : Seen → Bool) (m : Machine) (es fs : List Entry) → AreSteps made m es → AreSteps made (record m { journal = m.journal ++ es }) fs → AreSteps made m (es ++ fs)
+steps_join made m [] fs one two = subst (λ j. AreSteps made (record m { journal = j }) fs) (append_none m.journal) two
+steps_join made m (e ∷ es) fs one two =
+    (one.0, steps_join made (record m { journal = m.journal ++ e ∷ [] }) es fs one.1 (subst (λ j. AreSteps made (record m { journal = j }) fs) (sym (append_twice m.journal e es)) two))
+
+pub runs_join : (made : Seen → Bool) (m n k : Machine) → HasRunBy made m n → HasRunBy made n k → HasRunBy made m k
+runs_join made m n k one two = record {
+  more = one.more ++ two.more;
+  steps = steps_join made m one.more two.more one.steps (subst (λ (z : Machine). AreSteps made z two.more) one.after two.steps);
+  after = two.after ∙ ap (λ (z : Machine). record z { journal = z.journal ++ two.more }) one.after ∙ ap (λ j. record m { journal = j }) (append_three m.journal one.more two.more);
+}
+
+-- it goes on by a run
+pub runs_on : (made : Seen → Bool) (m n k : Machine) (limit : ℕ) → IsUnderWay made m limit n → HasRunBy made n k → length k.journal ≤ limit → IsUnderWay made m limit k
+runs_on made m n k limit on run within =
+    (runs_join made m n k on.0 run, ap (λ (z : Machine). z.is_broken) run.after ∙ on.1, within, subst (λ b. limit ≤ b) (sym (ap (λ (z : Machine). z.budget) run.after)) on.3)
 
 -- where a step breaks it, it has broken
 pub runs_break : (made : Seen → Bool) (m n k : Machine) → HasRunBy made m n → HasBroken n k → HasBroken m k
@@ -175,3 +194,28 @@ search_over (Known.Put s o) other = refl
 -- what is known is the least event
 pub least_ahead : (n : Machine) (ahead known : Ahead) (e : ℕ × ℕ × Seen) → IsAhead n ahead → ahead ≡ known → event_ahead known ≡ Some e → LeastEvent n (Some e)
 least_ahead n ahead known e is same event = is e (ap event_ahead same ∙ event)
+
+-- What is told of an answer
+
+pub ok_so : {A E : Type 0} (P Q : Type 0) (r : Result A E) → (P → Q) → OnOk r P → OnOk r Q
+ok_so P Q (Ok x) f p = f p
+ok_so P Q (Err e) f p = tt
+
+pub err_so : {A E : Type 0} (P Q : Type 0) (r : Result A E) → (P → Q) → OnErr r P → OnErr r Q
+err_so P Q (Ok x) f p = tt
+err_so P Q (Err e) f p = f p
+
+pub ok_both : {A E : Type 0} (P Q R : Type 0) (r : Result A E) → (P → Q → R) → IfOk r (λ x. P) → OnOk r Q → OnOk r R
+ok_both P Q R (Ok x) f p q = f p q
+ok_both P Q R (Err e) f p q = tt
+
+pub ok_each : {A E : Type 0} (P Q : A → Type 0) (r : Result A E) → ((x : A) → P x → Q x) → IfOk r P → IfOk r Q
+ok_each P Q (Ok x) f p = f x p
+ok_each P Q (Err e) f p = tt
+
+-- after a run an event is made, and maybe a second, by which its strand took a record
+pub run_then : (made : Seen → Bool) (m n k : Machine) (s i limit : ℕ) (seen : Seen) → m.is_broken ≡ false → limit ≤ m.budget → HasRunBy made m n → length n.journal < limit →
+    LeastEvent n (Some (s, i, seen)) → made seen ≡ true → ((j : ℕ) → made (Told.Took j) ≡ true) → HasMade n (record { strand = s; stream = i }) limit k → IsUnderWay made m limit k
+run_then made m n k s i limit seen whole budget run few least is takes does =
+    runs_make made m n k s i limit seen
+    (run, ap (λ (z : Machine). z.is_broken) run.after ∙ whole, (omega (arith, few)), subst (λ b. limit ≤ b) (sym (ap (λ (z : Machine). z.budget) run.after)) budget) few least is takes does

@@ -29,7 +29,7 @@ use Rattle.core_machine.specs.Floor.{IsInUse, CanMake, StaysEarly}
 use Rattle.core_machine.specs.Machine.{left_by, looks_at, IsLawful}
 use Rattle.core_machine.specs.Sound.{IsSound}
 use Rattle.core_machine.specs.Woken.{HasReturned, LeastEventAwake}
-use Rattle.core_machine.proofs.GoesOn.{sights, can_go, can_look, lost, went_out, home_ended, home_can, home_early, went_home}
+use Rattle.core_machine.proofs.GoesOn.{sights, can_go, can_look, lost, went_out, home_ended, home_can, home_early, went_home, any_can, any_early, any_home}
 use Rattle.core_machine.proofs.Sounds.{actor_at, can_make, does_pass, event_back, in_range, in_use, its_looks, lawful_turned, out_room, stage_at}
 
 -- the core is sound and has room for an entry, the strand is home, and the least event that may be is its own
@@ -169,6 +169,29 @@ module _ {S : Type 0} {stands : S → Strand → List Event → Type 0} {net : N
       used_home passing d2 pool2 come =
           in_use stands net budget (journal ++ (record { strand = s; stream = k }) ∷ []) out (slice_set actors s (gone_on seen next (bare asked) passes a)) d2 pool2
           (came_home passing d2 pool2 (inr (going, come)))
+
+      -- While it is out the desk and the pool are others for which the core is sound
+      module _ (d2 : DeskState) (pool2 : PoolState)
+          (sound2 : IsSound stands net budget (journal ++ (record { strand = s; stream = k }) ∷ []) (out ++ suc (length journal) ∷ []) (slice_set actors s (given_up (gone_on seen next asked passes a))) d2 pool2)
+          (live : Telling.ended_at d2 s ≡ false) where
+        -- it can come home with what it asks for
+        pub comes_by : CanCome d2 pool2 s asked
+        comes_by =
+            any_can stands net budget journal out actors d pool t.sound s k t.event t.may a t.stage t.there t.was seen t.seen_is t.space d' pool' refl refl
+            next asked passes bytes (right bytes bytes_are) resumed d2 pool2 sound2 live
+
+        -- no strand asks for another commit level then
+        pub early_by : StaysEarly d2 pool2 s asked
+        early_by =
+            any_early stands net budget journal out actors d pool t.sound s k t.event t.may a t.stage t.there t.was seen t.seen_is t.space d' pool' refl refl
+            next asked passes bytes (right bytes bytes_are) resumed d2 pool2 sound2 live
+
+        -- and the core is sound once it came home
+        pub home_by : (passes ≡ true → PassesOn stands next) → (d3 : DeskState) (pool3 : PoolState) → HasReturned d2 pool2 s asked d3 pool3 →
+            IsSound stands net budget (journal ++ (record { strand = s; stream = k }) ∷ []) out (slice_set actors s (gone_on seen next (bare asked) passes a)) d3 pool3
+        home_by passing d3 pool3 returned =
+            any_home stands net budget journal out actors d pool t.sound s k t.event t.may a t.stage t.there t.was seen t.seen_is t.space d' pool' refl refl
+            next asked passes bytes (right bytes bytes_are) resumed d2 pool2 sound2 (bare asked) passing (λ live. refl) d3 pool3 returned
 
 -- a core that is made of equal parts is sound too
 pub sound_at : {S : Type 0} {stands : S → Strand → List Event → Type 0} {budget : ℕ} {net net2 : Net} {journal journal2 : List Entry} {out out2 : List ℕ} {actors actors2 : List (Actor S)}

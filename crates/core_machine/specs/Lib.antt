@@ -6,6 +6,7 @@ pub mod Jobs
 pub mod Machine
 pub mod Members
 pub mod Sound
+pub mod Pairs
 pub mod Runs
 pub mod Start
 pub mod Woken

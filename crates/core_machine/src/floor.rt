@@ -335,6 +335,7 @@ impl Floor {
         ensures desk { self.new.desk ≡ self.old.desk }
         ensures pool { self.new.pool ≡ self.old.pool }
         ensures here { is_member self.new.ready strand ≡ true }
+        ensures others { (t : ℕ) → is_member self.old.ready t ≡ true → is_member self.new.ready t ≡ true }
     {
         self.ready.insert(strand);
     }

@@ -15,6 +15,7 @@ mod queueing;
 mod ready;
 #[cfg(test)]
 mod ready_tests;
+mod relay;
 mod relaying;
 mod run;
 mod settling;

@@ -56,6 +56,10 @@ impl Stage for Console {
             Console::Writes(stage) => stage.kept(),
         }
     }
+
+    fn shown(&self) -> &[u8] {
+        &[]
+    }
 }
 
 /// What happened at a record that a strand saw.
@@ -112,6 +116,8 @@ pub(crate) struct Noting<'a, S: Stage> {
 impl<S: Stage> Stage for Noting<'_, S> {
     ghost stands = { λ x s h. S.stands x.stage s h };
 
+    ghost showing = { λ x. S.showing x.stage };
+
     fn first(&self) -> Want {
         self.stage.first()
     }
@@ -129,6 +135,10 @@ impl<S: Stage> Stage for Noting<'_, S> {
 
     fn kept(&self) -> &[u8] {
         self.stage.kept()
+    }
+
+    fn shown(&self) -> &[u8] {
+        self.stage.shown()
     }
 }
 

@@ -13,20 +13,21 @@ const SHORT_RECORD: usize = 1_024;
 const FEW_ITEMS: usize = 32;
 
 impl Floor {
-    ghost use Rattle.std.specs.Prelude.{◌≡◌, ◌<◌, [], ℕ, false, length, Some, None, slice_get, IfOk, OnErr, IfSome};
+    ghost use Rattle.std.specs.Prelude.{◌≡◌, ◌<◌, ◌≤◌, ◌-◌, ◌^◌, [], ℕ, true, false, length, Some, None, slice_get, IfOk, OnErr, IfSome};
     ghost use Rattle.pipe_model.specs.declared.step.Seen.TheVariants as Told;
     ghost use Rattle.pipe_model.specs.declared.step.Out.TheVariants as Outs;
     ghost use Rattle.pipe_model.specs.declared.step.Want.TheVariants as Asks;
     ghost use Rattle.pipe_model.specs.declared.net.Link.{Link as LinkIs};
-    ghost use Rattle.connectors.specs.WireState.{IsHeldIn};
-    ghost use Rattle.run_desk.specs.Turns.{CanCome, HasCome, bare, hand_on, desk_after_turn, pool_after_turn};
+    ghost use Rattle.connectors.specs.WireState.{IsHeldIn, is_due};
+    ghost use Rattle.run_desk.specs.Relaying.{IsRelaying, desk_showing, desk_relayed, pool_refilled};
+    ghost use Rattle.run_desk.specs.Turns.{CanCome, HasCome, Behind, bare, hand_on, offer_on, desk_after_turn, pool_after_turn};
     ghost use Rattle.run_desk.specs.Passing.{desk_taking, desk_passed, pool_passed, IsBy};
     ghost use Rattle.run_desk.specs.Desk.{DeskState};
     ghost use Rattle.run_desk.specs.Telling as Telling;
     ghost use Rattle.record_pool.specs.PoolState.{PoolState};
     ghost use Rattle.core_machine.specs.Actors.{bytes_ahead};
-    ghost use Rattle.core_machine.specs.Floor.{IsInUse, CanMake, StaysEarly};
-    ghost use Rattle.core_machine.specs.Woken.{HasReturned, LeastEventAwake, may_settle};
+    ghost use Rattle.core_machine.specs.Floor.{IsInUse, IsCovered, CanMake, StaysEarly};
+    ghost use Rattle.core_machine.specs.Woken.{HasReturned, IsCovering, LeastEventAwake, may_settle};
     ghost use Rattle.core_machine.specs.Ahead.{HasSeenOrPut, IsAheadOn};
 
     /// The bytes of the record at hand on a link, where the strand that sees it next looks.
@@ -228,6 +229,60 @@ impl Floor {
         self.ready.insert(its.to);
         self.desk.write_on(&mut self.pool, strand, o, rec, link)?;
         Ok(self.ahead_of_offer_on(strand, link, its))
+    }
+
+    /// Whether a strand took the record that is offered on this link, which nothing else holds than that offer and what it saw
+    /// last, and asks to look at the next one on input 0.
+    pub(crate) fn relays(&self, to: u32, link: u32) -> bool
+        requires link { link < length self.now.desk.wires }
+        requires held { IsHeldIn self.now.pool (offer_on (Telling.through self.now.desk.wires (Some link))) }
+        ensures { result ≡ true → (grip : ℕ) × IsRelaying self.now.desk self.now.pool to link grip }
+    {
+        self.desk.relays(&self.pool, to, link)
+    }
+
+    /// Puts a record of at most 256 bytes in place of the one that is offered on a link.
+    #[inline(never)]
+    pub(crate) fn refill(&mut self, link: u32, rec: Rec)
+        requires link { link < length self.old.desk.wires }
+        requires held { IsHeldIn self.old.pool (offer_on (Telling.through self.old.desk.wires (Some link))) }
+        requires short { length rec ≤ 256 }
+        ensures net { self.new.net ≡ self.old.net }
+        ensures desk { self.new.desk ≡ self.old.desk }
+        ensures ready { self.new.ready ≡ self.old.ready }
+        ensures pool { (grip : ℕ) → offer_on (Telling.through self.old.desk.wires (Some link)) ≡ Some grip → self.new.pool ≡ pool_refilled self.old.pool grip rec }
+    {
+        self.desk.refill(&mut self.pool, link, rec);
+    }
+
+    /// The record that was taken on a link is put, the next one is offered by its grip, and the strand at the other end is told
+    /// that it sees it. Whom that may concern is among those that may be ready.
+    pub(crate) fn show(&mut self, to: u32, link: u32)
+        requires to { to < length self.old.desk.seats }
+        requires link { link < length self.old.desk.wires }
+        requires due { Behind (λ wire. is_due wire ≡ true) self.old.desk.wires (Some link) }
+        requires covers { IsCovered self.old.net self.old.desk self.old.ready → IsCovering (desk_showing self.old.desk to link) self.old.ready }
+        ensures net { self.new.net ≡ self.old.net }
+        ensures desk { self.new.desk ≡ desk_showing self.old.desk to link }
+        ensures pool { self.new.pool ≡ self.old.pool }
+        ensures ready { self.new.ready ≡ self.old.ready }
+    {
+        self.desk.show(to, link);
+    }
+
+    /// The same, and it takes that record and asks to look at the next one.
+    #[inline(always)]
+    pub(crate) fn relay(&mut self, link: u32)
+        requires link { link < length self.old.desk.wires }
+        requires due { Behind (λ wire. is_due wire ≡ true) self.old.desk.wires (Some link) }
+        requires count { Behind (λ wire. wire.tooks < 2 ^ 64 - 1) self.old.desk.wires (Some link) }
+        requires covers { IsCovered self.old.net self.old.desk self.old.ready → IsCovering (desk_relayed self.old.desk link) self.old.ready }
+        ensures net { self.new.net ≡ self.old.net }
+        ensures desk { self.new.desk ≡ desk_relayed self.old.desk link }
+        ensures pool { self.new.pool ≡ self.old.pool }
+        ensures ready { self.new.ready ≡ self.old.ready }
+    {
+        self.desk.relay(link);
     }
 
     /// A strand is told this: that it saw the record of an input, or put one through a door. It takes the record of the input,

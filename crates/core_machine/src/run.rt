@@ -7,6 +7,7 @@ use crate::actor::{advance, ask, give_up, put, see};
 use crate::core_state::Core;
 use crate::floor::Ahead;
 use crate::job::RunEnd;
+use crate::relay::{may_relay, pair_of, relay};
 use crate::settling::ends;
 use outside::{Gate, OpenGate};
 use pipe_model::{Entry, NoMemory, Seen, Want};
@@ -46,6 +47,7 @@ impl<S: Stage> Core<S> {
     ghost use Rattle.core_machine.specs.Machine.{licence_of, IsLawful};
     ghost use Rattle.core_machine.specs.Answered.{LeastEvent, HasRun, HasRunOnRecords, HasBroken, HasMade, Ends, IsEndOnRecords};
     ghost use Rattle.core_machine.specs.Runs.{is_made, may_end, HasRunBy, IsEndBy};
+    ghost use Rattle.core_machine.specs.declared.run.Which.TheVariants as Makes;
 
     /// Makes the least event that may be, of the least strand on its least stream, until there is none or the journal
     /// has as many entries as the budget allows. The gate is entered before the work on each record that a strand saw.
@@ -137,7 +139,7 @@ impl<S: Stage> Core<S> {
                     self.see(alloc, gate, strand, i, limit)?
                 }
                 Ahead::Took(strand, i) => self.go_on(alloc, gate, strand, i, Seen::Took(i))?,
-                Ahead::Put(strand, o) => self.put(alloc, gate, strand, o, limit)?,
+                Ahead::Put(strand, o) => self.put_on(alloc, gate, which, strand, o, limit)?,
             };
         }
         Ok(())
@@ -242,6 +244,108 @@ impl<S: Stage> Core<S> {
         ensures lawful { IsLawful self.new }
     {
         self.go_on(alloc, gate, strand, i, Seen::Saw(i))
+    }
+
+    // The strand puts a record on an output, which is the least event that may be. Where that is a source, and the next strand takes
+    // its records, both go on as long as they do that, which runs of one thread alone allow: others' sights are short.
+    #[inline(always)]
+    fn put_on<G: Gate>(
+        &mut self,
+        alloc: Global,
+        gate: &G,
+        which: Which,
+        strand: u32,
+        o: u16,
+        limit: u64,
+    ) -> Result<Ahead, NoMemory>
+        requires least { LeastEvent self.old (Some (strand, o, Told.Put o)) }
+        requires space { length self.old.journal < limit }
+        requires limit { limit ≤ self.old.budget }
+        requires whole { self.old.is_broken ≡ false }
+        ensures goes { OnOk result (HasRunBy (is_made which) self.old self.new) }
+        ensures more { OnOk result (length self.old.journal < length self.new.journal) }
+        ensures within { OnOk result (length self.new.journal ≤ limit) }
+        ensures ahead { IfOk result (IsAhead self.new) }
+        ensures lacks { OnErr result (HasBroken self.old self.new) }
+        ensures lawful { IsLawful self.new }
+    {
+        if matches!(which, Which::All) {
+            if self.relay(alloc, gate, strand, o, limit)? {
+                return Ok(Ahead::Search);
+            }
+            if self.journal.len() as u64 >= limit {
+                return Ok(Ahead::Put(strand, o));
+            }
+        }
+        self.put(alloc, gate, strand, o, limit)
+    }
+
+    // The same as long as records are shown, and maybe not at all. The answer is whether another event follows than that the strand
+    // puts a record on the output.
+    #[inline(always)]
+    fn relay<G: Gate>(
+        &mut self,
+        alloc: Global,
+        gate: &G,
+        strand: u32,
+        o: u16,
+        limit: u64,
+    ) -> Result<bool, NoMemory>
+        requires least { LeastEvent self.old (Some (strand, o, Told.Put o)) }
+        requires space { length self.old.journal < limit }
+        requires limit { limit ≤ self.old.budget }
+        requires whole { self.old.is_broken ≡ false }
+        ensures goes { OnOk result (HasRunBy (is_made Makes.All) self.old self.new) }
+        ensures more { IfOk result (λ over. over ≡ true → length self.old.journal < length self.new.journal) }
+        ensures within { OnOk result (length self.new.journal ≤ limit) }
+        ensures due { IfOk result (λ over. over ≡ false → LeastEvent self.new (Some (strand, o, Told.Put o))) }
+        ensures lacks { OnErr result (HasBroken self.old self.new) }
+        ensures lawful { IsLawful self.new }
+    {
+        if !may_relay(&self.actors, strand) {
+            return Ok(false);
+        }
+        self.relay_apart(alloc, gate, strand, o, limit)
+    }
+
+    // The same, apart from the loop.
+    #[inline(never)]
+    fn relay_apart<G: Gate>(
+        &mut self,
+        alloc: Global,
+        gate: &G,
+        strand: u32,
+        o: u16,
+        limit: u64,
+    ) -> Result<bool, NoMemory>
+        requires least { LeastEvent self.old (Some (strand, o, Told.Put o)) }
+        requires space { length self.old.journal < limit }
+        requires limit { limit ≤ self.old.budget }
+        requires whole { self.old.is_broken ≡ false }
+        ensures goes { OnOk result (HasRunBy (is_made Makes.All) self.old self.new) }
+        ensures more { IfOk result (λ over. over ≡ true → length self.old.journal < length self.new.journal) }
+        ensures within { OnOk result (length self.new.journal ≤ limit) }
+        ensures due { IfOk result (λ over. over ≡ false → LeastEvent self.new (Some (strand, o, Told.Put o))) }
+        ensures lacks { OnErr result (HasBroken self.old self.new) }
+        ensures lawful { IsLawful self.new }
+    {
+        let Some(pair) = pair_of(&self.floor, &self.actors, strand, o) else {
+            return Ok(false);
+        };
+        let relayed = relay(
+            &mut self.floor,
+            &mut self.actors,
+            &mut self.journal,
+            &mut self.out,
+            alloc,
+            gate,
+            pair,
+            limit,
+        );
+        if relayed.is_err() {
+            self.is_broken = true;
+        }
+        relayed
     }
 
     // The strand puts a record on an output, which is the least event that may be, and its coroutine goes on, in place. Where

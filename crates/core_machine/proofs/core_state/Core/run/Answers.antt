@@ -8,7 +8,7 @@ use Rattle.core_machine.specs.Answered.{LeastEvent, HasMade}
 use Rattle.core_machine.specs.Machine.{Machine}
 use Rattle.core_machine.specs.Runs.{is_made, may_end}
 use Rattle.core_machine.proofs.Steps.{made_longer}
-use Rattle.core_machine.proofs.Runs.{IsUnderWay, runs_begin, runs_go, runs_make, makes_quiet, ahead_known, least_ahead, search_over, searches_once}
+use Rattle.core_machine.proofs.Runs.{IsUnderWay, runs_begin, runs_go, runs_make, runs_on, makes_quiet, ahead_known, least_ahead, search_over, searches_once}
 use Rattle.core_machine.proofs.core_state.Core.run.Goals as goal
 use Rattle.core_machine.proofs.core_state.Core.run.Goals.{in-All, in-OfRecords, in-Quiet}
 
@@ -45,8 +45,8 @@ see-requires-clause-least g c = least_ahead c.loop-alloc.self c.loop-alloc.ahead
 pub go_on-requires-clause-least : goal.go_on-requires-clause-least
 go_on-requires-clause-least g c = least_ahead c.loop-alloc.self c.loop-alloc.ahead (Known.Took c.in-Took.strand c.in-Took.i) (c.in-Took.strand, c.in-Took.i, Took c.in-Took.i) c.loop-alloc.invariant.1 c.in-Took.is refl
 
-pub put-requires-clause-least : goal.put-requires-clause-least
-put-requires-clause-least g c = least_ahead c.loop-alloc.self c.loop-alloc.ahead (Known.Put c.in-Put.strand c.in-Put.o) (c.in-Put.strand, c.in-Put.o, Put c.in-Put.o) c.loop-alloc.invariant.1 c.in-Put.is refl
+pub put_on-requires-clause-least : goal.put_on-requires-clause-least
+put_on-requires-clause-least g c = least_ahead c.loop-alloc.self c.loop-alloc.ahead (Known.Put c.in-Put.strand c.in-Put.o) (c.in-Put.strand, c.in-Put.o, Put c.in-Put.o) c.loop-alloc.invariant.1 c.in-Put.is refl
 
 pub loop-alloc-preserved-in_ok-ahead-in-Search-known : goal.loop-alloc-preserved-in_ok-ahead-in-Search-known
 loop-alloc-preserved-in_ok-ahead-in-Search-known g c =
@@ -87,11 +87,7 @@ loop-alloc-preserved-in_ok-ahead-in-Took g c =
     )
 
 pub loop-alloc-preserved : goal.loop-alloc-preserved
-loop-alloc-preserved g c =
-    let space : length c.loop-alloc.self.journal < c.args.limit = omega (arith, c.loop-alloc-test.true, c.len.ensures.length) in
-    let e : ℕ × ℕ × Seen = (c.in-Put.strand, c.in-Put.o, Put c.in-Put.o) in
-    let least = least_ahead c.loop-alloc.self c.loop-alloc.ahead (Known.Put c.in-Put.strand c.in-Put.o) e c.loop-alloc.invariant.1 c.in-Put.is refl in (
-      runs_make (is_made c.args.which) c.args.self.now c.loop-alloc.self c.put.new.self c.in-Put.strand c.in-Put.o c.args.limit (Put c.in-Put.o) c.loop-alloc.invariant.0 space least (makes_quiet c.args.which (Put c.in-Put.o) refl)
-          (λ j. makes_quiet c.args.which (Took j) refl) c.in_ok-ahead-in-Put.ensures.goes,
-      c.in_ok-ahead-in-Put.ensures.ahead,
-    )
+loop-alloc-preserved g c = (
+  runs_on (is_made c.args.which) c.args.self.now c.loop-alloc.self c.put_on.new.self c.args.limit c.loop-alloc.invariant.0 c.in_ok-ahead-in-Put.ensures.goes c.in_ok-ahead-in-Put.ensures.within,
+  c.in_ok-ahead-in-Put.ensures.ahead,
+)

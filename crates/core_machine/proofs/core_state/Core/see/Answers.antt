@@ -15,13 +15,12 @@ use Rattle.core_machine.proofs.InPlace.{lawful_broken, sound_broken, live, home,
 use Rattle.core_machine.proofs.Relays.{held_ahead}
 use Rattle.core_machine.proofs.Sounds.{event_is, lawful}
 use Rattle.core_machine.proofs.Tellings.{makes, looks_it, room_out, used_out, with_stage, sound_at}
+use Rattle.core_machine.proofs.Twice.{IsTwice, twice}
 use Rattle.core_machine.proofs.core_state.Core.see.Given.{Over}
 use Rattle.core_machine.proofs.core_state.Core.see.Goals as goal
 use Rattle.core_machine.proofs.core_state.Core.see.Goals.{Then-matches, Else-matches, After-take_after, In-Ok-see, in-Takes, in_default-matches}
 mod Sight
-mod Twice
 use Rattle.core_machine.proofs.core_state.Core.see.Answers.Sight.{sight, bytes_right, asks}
-use Rattle.core_machine.proofs.core_state.Core.see.Answers.Twice.{IsTwice, twice}
 
 pub bytes_ahead-bytes-requires-clause-held : goal.bytes_ahead-bytes-requires-clause-held
 bytes_ahead-bytes-requires-clause-held g c =

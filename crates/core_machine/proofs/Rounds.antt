@@ -1,0 +1,469 @@
+-- The rounds of two strands: in each the one's record is put, and the other sees and takes the next one.
+use Rattle.std.proofs.Common.{◌≡◌, ◌≢◌, ◌≤◌, ◌<◌, ◌-◌, ◌^◌, ℕ, zero, suc, ◌+◌, Bool, true, false, List, [], ◌∷◌, ◌++◌, length, refl, sym, ◌∙◌, ap, subst, arith, Some, None, Option, slice_get, slice_set, length-set}
+use Rattle.std.specs.Prelude.{IfOk, IsSome, Ok, Result, slice_index_or}
+use Rattle.pipe_model.specs.declared.memory.NoMemory.{NoMemory}
+use Rattle.pipe_model.specs.declared.net.Net.{Net}
+use Rattle.pipe_model.specs.declared.net.Strand.{Strand}
+use Rattle.pipe_model.specs.declared.step.Entry.{Entry}
+use Rattle.pipe_model.specs.declared.step.Out.TheVariants.{Fresh}
+use Rattle.pipe_model.specs.declared.step.Seen.TheVariants.{Put, Saw, Took}
+use Rattle.pipe_model.specs.declared.step.Want.{Want}
+use Rattle.pipe_model.specs.declared.step.Want.TheVariants.{Write}
+use Rattle.pipe_model.specs.Event.{Event}
+use Rattle.pipe_model.proofs.Lists.{get_set_same, get_set_other, length_more}
+use Rattle.std.proofs.lemmas.Option.{slice_get_within, slice_get_read}
+use Rattle.connectors.specs.WireState.{WireState, IsHeldIn, is_due}
+use Rattle.stage_steps.specs.Coroutine.{CanResume, Resumes}
+use Rattle.stage_steps.specs.PassesOn.{PassesOn}
+use Rattle.stage_steps.specs.Replies.{CanSee}
+use Rattle.stage_steps.specs.Showings.{IsShowing}
+use Rattle.stage_steps.specs.declared.reply.Reply.{Reply}
+use Rattle.stage_steps.specs.declared.reply.Reply.TheVariants.{Takes, Passes, Asks}
+use Rattle.record_pool.specs.PoolState.{Held, PoolState}
+use Rattle.record_pool.specs.Places.{place_at, with_place, with_record, holders_at, holders_of, record_at, refilled}
+use Rattle.run_desk.specs.Desk.{DeskState}
+use Rattle.run_desk.specs.Holding.{IsPooled}
+use Rattle.run_desk.specs.Relaying.{desk_relayed, desk_showing, pool_refilled}
+use Rattle.run_desk.specs.Telling as Telling
+use Rattle.run_desk.specs.Turns.{Behind, CanCome, bare, desk_after_turn, offer_on, pool_after_turn}
+use Rattle.run_desk.proofs.Limits.{offers_held}
+use Rattle.core_machine.specs.declared.actor.Actor.{Actor}
+use Rattle.core_machine.specs.declared.relay.Pair.{Pair}
+use Rattle.core_machine.specs.declared.run.Which.TheVariants.{All}
+use Rattle.core_machine.specs.Actors.{HasSeen, gone_on, given_up}
+use Rattle.core_machine.specs.Floor.{FloorState, IsCovered, IsInUse, StaysEarly}
+use Rattle.core_machine.specs.Answered.{LeastEvent}
+use Rattle.core_machine.specs.Machine.{Machine}
+use Rattle.core_machine.specs.Members.{is_member}
+use Rattle.core_machine.specs.Pairs.{IsPair, IsDue, IsWriter, without_stage, with_stage}
+use Rattle.core_machine.specs.Runs.{AreSteps, is_made}
+use Rattle.core_machine.specs.Sound.{IsSound}
+use Rattle.core_machine.specs.Woken.{IsCovering, HasReturned, LeastEventAwake}
+use Rattle.core_machine.proofs.GoesOn.{set_set}
+use Rattle.core_machine.proofs.Pairs as Pairs
+use Rattle.core_machine.proofs.Pairs.{telling_on}
+use Rattle.core_machine.proofs.Runs.{steps_more}
+use Rattle.core_machine.proofs.Steps.{append_none, append_three}
+use Rattle.core_machine.proofs.PutsOn.{no_bytes_put}
+use Rattle.core_machine.proofs.Sounds.{actor_at, event_is, in_range, stage_at}
+use Rattle.core_machine.proofs.Tellings.{IsTelling, resumes_it, room_out, sound_at}
+
+-- what is offered on a link is held
+pub offer_held : (d : DeskState) (pool : PoolState) → IsPooled d.wires d.sights pool → (j : ℕ) → IsHeldIn pool (offer_on (Telling.through d.wires (Some j)))
+offer_held d pool pooled j = go (slice_get d.wires j) refl
+  where
+    go : (x : Option WireState) → slice_get d.wires j ≡ x → IsHeldIn pool (offer_on x)
+    go None off = tt
+    go (Some wire) at = offers_held d.wires d.sights pool pooled j wire at
+
+-- A record in place of another, and again
+
+placed_twice : (places : List (Option Held)) (p : ℕ) (x y : Option Held) → with_place (with_place places p x) p y ≡ with_place places p y
+placed_twice [] zero x y = refl
+placed_twice [] (suc p) x y = ap (λ l. None ∷ l) (placed_twice [] p x y)
+placed_twice (z ∷ zs) zero x y = refl
+placed_twice (z ∷ zs) (suc p) x y = ap (λ l. z ∷ l) (placed_twice zs p x y)
+
+placed_here : (places : List (Option Held)) (p : ℕ) (x : Option Held) → place_at (with_place places p x) p ≡ x
+placed_here [] zero x = refl
+placed_here [] (suc p) x = placed_here [] p x
+placed_here (z ∷ zs) zero x = refl
+placed_here (z ∷ zs) (suc p) x = placed_here zs p x
+
+-- the second takes the place of the first, whose holders it has
+pub refilled_twice : (pool : PoolState) (grip : ℕ) (x y : List ℕ) → pool_refilled (pool_refilled pool grip x) grip y ≡ pool_refilled pool grip y
+refilled_twice pool grip x y =
+    let held : Option Held = Some (refilled x (holders_at pool grip)) in
+    let same : holders_at (pool_refilled pool grip x) grip ≡ holders_at pool grip = ap holders_of (placed_here pool.records grip held) in
+    ap (λ n. with_record (pool_refilled pool grip x) grip (Some (refilled y n))) same ∙ ap (λ l. record pool { records = l }) (placed_twice pool.records grip held (Some (refilled y (holders_at pool grip))))
+
+-- Two places of a list
+
+pub set_swap : {A : Type 0} (xs : List A) (i j : ℕ) (x y : A) → i ≢ j → slice_set (slice_set xs i x) j y ≡ slice_set (slice_set xs j y) i x
+set_swap [] i j x y apart = refl
+set_swap (z ∷ zs) zero zero x y apart = absurd (apart refl)
+set_swap (z ∷ zs) zero (suc j) x y apart = refl
+set_swap (z ∷ zs) (suc i) zero x y apart = refl
+set_swap (z ∷ zs) (suc i) (suc j) x y apart = ap (λ l. z ∷ l) (set_swap zs i j x y (λ e. apart (ap suc e)))
+
+-- what is set at a place may be set before or after what is set at another
+pub set_before : {A : Type 0} (xs : List A) (i j : ℕ) (a b y : A) → i ≢ j → slice_set (slice_set xs j y) i b ≡ slice_set (slice_set (slice_set xs i a) i b) j y
+set_before xs i j a b y apart = sym (set_swap xs i j b y apart) ∙ ap (λ l. slice_set l j y) (sym (set_set xs i a b))
+
+-- what stands at a place is what is set there
+pub set_back : {A : Type 0} (xs : List A) (i : ℕ) (x : A) → slice_get xs i ≡ Some x → slice_set xs i x ≡ xs
+set_back [] i x at = refl
+set_back (z ∷ zs) zero x at = let same : z ≡ x = cc in ap (λ l. l ∷ zs) (sym same)
+set_back (z ∷ zs) (suc i) x at = ap (λ l. z ∷ l) (set_back zs i x at)
+
+-- a round's three entries fit the limit
+pub round_fits : (journal : List Entry) (limit : ℕ) → length journal + 3 ≤ limit → length journal + 2 < limit
+round_fits journal limit fits = omega (arith, fits)
+
+-- a core that is sound up to a limit is so up to another, which is one of a core
+pub sound_up_to : {S : Type 0} (stands : S → Strand → List Event → Type 0) (net : Net) (budget limit : ℕ) (journal : List Entry) (out : List ℕ) (actors : List (Actor S)) (d : DeskState) (pool : PoolState) →
+    IsSound stands net budget journal out actors d pool → length journal ≤ limit → limit ≤ 50000000 → IsSound stands net limit journal out actors d pool
+sound_up_to stands net budget limit journal out actors d pool sound within bounded = record {
+  formed = sound.formed;
+  legal = sound.legal;
+  within = within;
+  bounded = bounded;
+  last = sound.last;
+  apart = sound.apart;
+  run = sound.run;
+  waiting = sound.waiting;
+  strands = sound.strands;
+}
+
+-- how far the two strands are: the writer's record is due to be put, and its coroutine is elsewhere, as is the record that it showed last, where it showed one
+pub record AreRelaying {S : Type 0} (stands : S → Strand → List Event → Type 0) (showing : S → List ℕ) (limit : ℕ) (p : Pair) (net : Net) (start : List Entry) (out : List ℕ)
+    (floor : FloorState) (actors : List (Actor S)) (journal : List Entry) (source : S) (is_stale : Bool) : Type 0 where
+  pub net_is : floor.net ≡ net
+  pub more : List Entry
+  pub journal_is : journal ≡ start ++ more
+  pub steps : (budget : ℕ) (broken : Bool) → AreSteps (is_made All) (record { net = net; budget = budget; journal = start; out = out; is_broken = broken }) more
+  pub writes : is_member floor.ready p.strand ≡ true
+  pub reads : is_member floor.ready p.to ≡ true
+  pub actor : Actor S
+  pub asked : actor.asked ≡ Write p.output (Fresh [])
+  pub plain : actor.passes ≡ false
+  pub was : actor.stage ≡ Some source
+  pub there : slice_get actors p.strand ≡ Some (without_stage actor)
+  pub grip : ℕ
+  pub pool : PoolState
+  pub fresh : is_stale ≡ false → pool ≡ floor.pool
+  pub stale : is_stale ≡ true → (pool ≡ pool_refilled floor.pool grip (showing source)) × (length (showing source) ≤ 256)
+  pub sound : IsSound stands net limit journal out (slice_set actors p.strand actor) floor.desk pool
+  pub pair : IsPair net floor.desk pool p grip
+  pub least : LeastEventAwake floor.desk (Some (p.strand, p.output, Put p.output))
+
+-- what is read at a place is what stands there
+pub read_is : {A : Type 0} (xs : List A) (i : ℕ) (x w : A) → slice_get xs i ≡ Some x → w ≡ slice_index_or xs i w → w ≡ x
+read_is xs i x w at read =
+    let got = slice_get_read xs (length xs) i w refl (slice_get_within xs i x at) read in
+    let same : Some w ≡ Some x = sym got ∙ at in
+    cc
+
+-- The writer showed the next record
+module _ {S : Type 0} {stands : S → Strand → List Event → Type 0} {showing : S → List ℕ} {limit : ℕ} {p : Pair} {net : Net} {start : List Entry} {out : List ℕ}
+    {floor : FloorState} {actors : List (Actor S)} {journal : List Entry} {source : S} {is_stale : Bool}
+    (r : AreRelaying stands showing limit p net start out floor actors journal source is_stale) (space : length journal + 2 < limit) where
+  abbrev actors0 : List (Actor S)
+  actors0 = slice_set actors p.strand r.actor
+
+  abbrev pub t : IsTelling stands net limit journal out actors0 floor.desk r.pool p.strand p.output (Put p.output) r.actor
+  t = telling_on stands net limit journal out actors0 floor.desk r.pool p.strand p.output (Put p.output) r.actor source r.sound r.least (omega (arith, space))
+      (get_set_same actors p.strand r.actor (without_stage r.actor) r.there) r.was
+
+  -- the strands are two
+  pub two : p.strand ≢ p.to
+  two = Pairs.far r.pair
+
+  -- the desk has seats for both and a wire for the link, whose record is due and held
+  pub place_to : p.to < length floor.desk.seats
+  place_to = let count = r.sound.run.kept.laid.seat_count in let within = r.pair.within in omega (arith, count, within)
+
+  pub place_link : p.link < length floor.desk.wires
+  place_link = let due = Pairs.due_wire p r.grip t r.pair in slice_get_within floor.desk.wires p.link due.0 due.1
+
+  pub is_due_there : Behind (λ wire. is_due wire ≡ true) floor.desk.wires (Some p.link)
+  is_due_there wire at =
+      let due = Pairs.due_wire p r.grip t r.pair in
+      let same : Some due.0 ≡ Some wire = sym due.1 ∙ at in
+      let wire_is : due.0 ≡ wire = cc in
+      subst (λ (w : WireState). is_due w ≡ true) wire_is due.2
+
+  pub few_there : Behind (λ wire. wire.tooks < 2 ^ 64 - 1) floor.desk.wires (Some p.link)
+  few_there wire at =
+      let due = Pairs.due_wire p r.grip t r.pair in
+      let same : Some due.0 ≡ Some wire = sym due.1 ∙ at in
+      let wire_is : due.0 ≡ wire = cc in
+      subst (λ (w : WireState). w.tooks < 2 ^ 64 - 1) wire_is due.3
+
+  pub offers_grip : offer_on (Telling.through floor.desk.wires (Some p.link)) ≡ Some r.grip
+  offers_grip = let due = Pairs.due_wire p r.grip t r.pair in ap offer_on due.1 ∙ due.4
+
+  -- the writer's coroutine may be told that its record was put
+  pub may_show : CanResume stands source (Put p.output) []
+  may_show = resumes_it t [] (no_bytes_put r.actor.looks (desk_after_turn floor.desk p.strand (Put p.output)) (pool_after_turn floor.desk r.pool p.strand (Put p.output)) p.strand p.output)
+
+  -- one more that is out has room
+  pub one_out : length out < length net.strands
+  one_out = room_out t
+
+  module _ (next : S) (shows : IsShowing stands showing source next p.output true) (b : Actor S) (reader : slice_get actors p.to ≡ Some b) where
+    abbrev bytes : List ℕ
+    bytes = showing next
+
+    abbrev pub put : Entry
+    put = record { strand = p.strand; stream = p.output }
+
+    abbrev pub took : Entry
+    took = record { strand = p.to; stream = 0 }
+
+    apart : p.to ≢ p.strand
+    apart same = two (sym same)
+
+    there : slice_get actors0 p.to ≡ Some b
+    there = get_set_other actors p.strand p.to r.actor apart ∙ reader
+
+    abbrev second : Actor S
+    second = with_stage next r.actor
+
+    -- what is read at the writer's place, once the reader saw the record, and then at the reader's
+    pub writer_back : (first w : Actor S) → w ≡ slice_index_or (slice_set actors p.to first) p.strand w → with_stage next w ≡ second
+    writer_back first w read =
+        let same = read_is (slice_set actors p.to first) p.strand (without_stage r.actor) w (get_set_other actors p.to p.strand first two ∙ r.there) read in
+        ap (λ (z : Actor S). with_stage next z) same
+
+    pub reader_back : (first m w : Actor S) → w ≡ slice_index_or (slice_set (slice_set actors p.to first) p.strand m) p.to w → w ≡ first
+    reader_back first m w read =
+        read_is (slice_set (slice_set actors p.to first) p.strand m) p.to first w (get_set_other (slice_set actors p.to first) p.strand p.to m apart ∙ get_set_same actors p.to first b reader) read
+
+    -- the pool, once the record is put there, is the one where it was put after the one before
+    pool_is : (stale : Bool) → (stale ≡ false → r.pool ≡ floor.pool) → (stale ≡ true → (r.pool ≡ pool_refilled floor.pool r.grip (showing source)) × (length (showing source) ≤ 256)) →
+        pool_refilled r.pool r.grip bytes ≡ pool_refilled floor.pool r.grip bytes
+    pool_is true fresh old = ap (λ z. pool_refilled z r.grip bytes) (old refl).0 ∙ refilled_twice floor.pool r.grip (showing source) bytes
+    pool_is false fresh old = ap (λ z. pool_refilled z r.grip bytes) (fresh refl)
+
+    pub same_pool : pool_refilled r.pool r.grip bytes ≡ pool_refilled floor.pool r.grip bytes
+    same_pool = pool_is is_stale r.fresh r.stale
+
+    -- the reader is home, and may see what is shown
+    pub sees : (shown : List ℕ) → (b.looks ≡ true → shown ≡ bytes) → (b.looks ≡ false → shown ≡ []) → (x : S) × (b.stage ≡ Some x) × CanSee stands x 0 shown
+    sees shown all none =
+        let home = Pairs.home p r.grip t r.pair r.asked r.plain space next bytes shows.0 b there in
+        (home.0, home.1, Pairs.can_see p r.grip t r.pair r.asked r.plain space next bytes shows.0 b there home.0 home.1 shown all none)
+
+    -- two entries more
+    pub two_steps : (budget : ℕ) (broken : Bool) → AreSteps (is_made All) (record { net = net; budget = budget; journal = start; out = out; is_broken = broken }) ((r.more ++ put ∷ []) ++ took ∷ [])
+    two_steps budget broken =
+        let m : Machine = record { net = net; budget = budget; journal = start; out = out; is_broken = broken } in
+        let at : List Entry → Machine = λ j. record { net = net; budget = budget; journal = j; out = out; is_broken = broken } in
+        let first = Pairs.puts_least p r.grip t r.pair r.asked r.plain space next bytes shows.0 b there budget broken in
+        let one = steps_more (is_made All) m r.more put (r.steps budget broken) (Put p.output) (subst (λ j. LeastEvent (at j) (Some (p.strand, p.output, Put p.output))) r.journal_is first) refl in
+        let then = Pairs.sees_least p r.grip t r.pair r.asked r.plain space next bytes shows.0 b there budget broken in
+        steps_more (is_made All) m (r.more ++ put ∷ []) took one (Saw 0)
+        (subst (λ j. LeastEvent (at j) (Some (p.to, 0, Saw 0))) (ap (λ j. j ++ put ∷ []) r.journal_is ∙ append_three start r.more (put ∷ [])) then) refl
+
+    pub two_longer : (journal ++ put ∷ []) ++ took ∷ [] ≡ start ++ ((r.more ++ put ∷ []) ++ took ∷ [])
+    two_longer = ap (λ j. j ++ took ∷ []) (ap (λ j. j ++ put ∷ []) r.journal_is ∙ append_three start r.more (put ∷ [])) ∙ append_three start (r.more ++ put ∷ []) (took ∷ [])
+
+    -- the sets that hold all that may go on hold them after the sight
+    pub shown_covers : IsCovered floor.net floor.desk floor.ready → IsCovering (desk_showing floor.desk p.to p.link) floor.ready
+    shown_covers covered =
+        Pairs.covers_shown p r.grip t r.pair r.asked r.plain space next bytes shows.0 b there floor.ready (covered.size ∙ ap (λ (n : Net). length n.strands) r.net_is) r.writes r.reads covered.covers
+
+    pub shown_covers_at : (f : FloorState) → f.net ≡ floor.net → f.desk ≡ floor.desk → f.ready ≡ floor.ready → IsCovered f.net f.desk f.ready → IsCovering (desk_showing f.desk p.to p.link) f.ready
+    shown_covers_at f nets desks readies covered =
+        subst (λ d. IsCovering (desk_showing d p.to p.link) f.ready) (sym desks) (subst (λ z. IsCovering (desk_showing floor.desk p.to p.link) z) (sym readies)
+        (shown_covers (subst (λ n. IsCovered n floor.desk floor.ready) nets (subst (λ d. IsCovered f.net d floor.ready) desks (subst (λ z. IsCovered f.net f.desk z) readies covered)))))
+
+    module _ (x y : S) (was : b.stage ≡ Some x) (asked' : Want) (passes' : Bool) (shown : List ℕ) (all : b.looks ≡ true → shown ≡ bytes) (none : b.looks ≡ false → shown ≡ []) where
+      abbrev gone : Actor S
+      gone = gone_on (Saw 0) y asked' passes' b
+
+      -- The reader took it
+      module _ (seen : HasSeen stands x y 0 shown asked' passes' Takes) where
+        pub on_covers : IsCovered floor.net floor.desk floor.ready → IsCovering (desk_relayed floor.desk p.link) floor.ready
+        on_covers covered =
+            Pairs.covers_on p r.grip t r.pair r.asked r.plain space next bytes shows.0 b there x y was asked' passes' shown all none seen floor.ready
+            (covered.size ∙ ap (λ (n : Net). length n.strands) r.net_is) r.writes r.reads covered.covers
+
+        pub three_steps : (budget : ℕ) (broken : Bool) →
+            AreSteps (is_made All) (record { net = net; budget = budget; journal = start; out = out; is_broken = broken }) (((r.more ++ put ∷ []) ++ took ∷ []) ++ took ∷ [])
+        three_steps budget broken =
+            let m : Machine = record { net = net; budget = budget; journal = start; out = out; is_broken = broken } in
+            let at : List Entry → Machine = λ j. record { net = net; budget = budget; journal = j; out = out; is_broken = broken } in
+            let last = Pairs.takes_least p r.grip t r.pair r.asked r.plain space next bytes shows.0 b there x y was asked' passes' shown all none seen budget broken in
+            steps_more (is_made All) m ((r.more ++ put ∷ []) ++ took ∷ []) took (two_steps budget broken) (Took 0) (subst (λ j. LeastEvent (at j) (Some (p.to, 0, Took 0))) two_longer last) refl
+
+        -- the two are as far as before, with three entries more
+        pub goes_round : (floor' : FloorState) (actors' : List (Actor S)) (journal' : List Entry) → floor'.net ≡ floor.net → floor'.desk ≡ desk_relayed floor.desk p.link → floor'.pool ≡ floor.pool →
+            floor'.ready ≡ floor.ready → actors' ≡ slice_set actors p.to gone → journal' ≡ ((journal ++ put ∷ []) ++ took ∷ []) ++ took ∷ [] →
+            AreRelaying stands showing limit p net start out floor' actors' journal' next true
+        goes_round floor' actors' journal' nets desks pools readies actors_are journals = record {
+          net_is = nets ∙ r.net_is;
+          more = ((r.more ++ put ∷ []) ++ took ∷ []) ++ took ∷ [];
+          journal_is = journals ∙ ap (λ j. j ++ took ∷ []) two_longer ∙ append_three start ((r.more ++ put ∷ []) ++ took ∷ []) (took ∷ []);
+          steps = three_steps;
+          writes = ap (λ z. is_member z p.strand) readies ∙ r.writes;
+          reads = ap (λ z. is_member z p.to) readies ∙ r.reads;
+          actor = second;
+          asked = r.asked;
+          plain = r.plain;
+          was = refl;
+          there = ap (λ l. slice_get l p.strand) actors_are ∙ get_set_other actors p.to p.strand gone two ∙ r.there;
+          grip = r.grip;
+          pool = pool_refilled r.pool r.grip bytes;
+          fresh = λ no. (let both : true ≡ false = no in cc);
+          stale = λ yes. (same_pool ∙ ap (λ z. pool_refilled z r.grip bytes) (sym pools), shows.1);
+          sound =
+              subst (λ d. IsSound stands net limit journal' out (slice_set actors' p.strand second) d (pool_refilled r.pool r.grip bytes)) (sym desks)
+              (subst (λ j. IsSound stands net limit j out (slice_set actors' p.strand second) (desk_relayed floor.desk p.link) (pool_refilled r.pool r.grip bytes)) (sym journals)
+              (subst (λ l. IsSound stands net limit (((journal ++ put ∷ []) ++ took ∷ []) ++ took ∷ []) out l (desk_relayed floor.desk p.link) (pool_refilled r.pool r.grip bytes))
+              (sym (ap (λ l. slice_set l p.strand second) actors_are ∙ set_before actors p.strand p.to r.actor second gone two))
+              (Pairs.sound_on p r.grip t r.pair r.asked r.plain space next bytes shows.0 b there x y was asked' passes' shown all none seen)));
+          pair = subst (λ d. IsPair net d (pool_refilled r.pool r.grip bytes) p r.grip) (sym desks)
+              (Pairs.pair_on p r.grip t r.pair r.asked r.plain space next bytes shows.0 b there x y was asked' passes' shown all none seen);
+          least = subst (λ d. LeastEventAwake d (Some (p.strand, p.output, Put p.output))) (sym desks)
+              (Pairs.least_on p r.grip t r.pair r.asked r.plain space next bytes shows.0 b there x y was asked' passes' shown all none seen);
+        }
+
+      -- It saw it
+
+      -- what is set at the reader's place, once the writer's coroutine is back
+      pub set_last : (first last : Actor S) → slice_set (slice_set (slice_set actors p.to first) p.strand second) p.to last ≡ slice_set (slice_set actors0 p.strand second) p.to last
+      set_last first last = ap (λ l. slice_set l p.to last) (set_before actors p.strand p.to r.actor second first two) ∙ set_set (slice_set actors0 p.strand second) p.to first last
+
+      -- it is out, after want of memory
+      pub lost_round : (net' : Net) (journal' : List Entry) (out' : List ℕ) (actors' : List (Actor S)) (desk' : DeskState) (pool' : PoolState) (first : Actor S) (place : ℕ) → net' ≡ net →
+          journal' ≡ (journal ++ put ∷ []) ++ took ∷ [] → out' ≡ out ++ place ∷ [] → place ≡ length journal' → actors' ≡ slice_set (slice_set (slice_set actors p.to first) p.strand second) p.to (given_up gone) →
+          desk' ≡ desk_showing floor.desk p.to p.link → pool' ≡ pool_refilled floor.pool r.grip bytes → IsSound stands net' limit journal' out' actors' desk' pool'
+      lost_round net' journal' out' actors' desk' pool' first place nets journals outs places actors_are desks pools =
+          sound_at nets journals (outs ∙ ap (λ n. out ++ n ∷ []) (places ∙ ap length journals ∙ length_more (journal ++ put ∷ []) took)) (actors_are ∙ set_last first (given_up gone)) desks (pools ∙ sym same_pool)
+          (Pairs.sound_out p r.grip t r.pair r.asked r.plain space next bytes shows.0 b there x y was asked' passes')
+
+      pub used_round : IsInUse net (desk_showing floor.desk p.to p.link)
+      used_round = Pairs.used_out p r.grip t r.pair r.asked r.plain space next bytes shows.0 b there x y was asked' passes'
+
+      module _ (went : Resumes stands x y (Saw 0) shown asked') where
+        pub live_round : Telling.ended_at (desk_showing floor.desk p.to p.link) p.to ≡ false
+        live_round = Pairs.live_out p r.grip t r.pair r.asked r.plain space next bytes shows.0 b there x y was asked' passes' shown all none went
+
+        pub comes_round : CanCome (desk_showing floor.desk p.to p.link) (pool_refilled floor.pool r.grip bytes) p.to asked'
+        comes_round =
+            subst (λ z. CanCome (desk_showing floor.desk p.to p.link) z p.to asked') same_pool
+            (Pairs.comes_out p r.grip t r.pair r.asked r.plain space next bytes shows.0 b there x y was asked' passes' shown all none went)
+
+        pub early_round : StaysEarly (desk_showing floor.desk p.to p.link) (pool_refilled floor.pool r.grip bytes) p.to asked'
+        early_round =
+            subst (λ z. StaysEarly (desk_showing floor.desk p.to p.link) z p.to asked') same_pool
+            (Pairs.early_out p r.grip t r.pair r.asked r.plain space next bytes shows.0 b there x y was asked' passes' shown all none went)
+
+        -- it came home with another want
+        pub home_round : (passes' ≡ true → PassesOn stands y) → (net' : Net) (journal' : List Entry) (actors' : List (Actor S)) (desk' : DeskState) (pool' : PoolState) (first : Actor S) → net' ≡ net →
+            journal' ≡ (journal ++ put ∷ []) ++ took ∷ [] → actors' ≡ slice_set (slice_set (slice_set actors p.to first) p.strand second) p.to (gone_on (Saw 0) y (bare asked') passes' b) →
+            HasReturned (desk_showing floor.desk p.to p.link) (pool_refilled floor.pool r.grip bytes) p.to asked' desk' pool' → IsSound stands net' limit journal' out actors' desk' pool'
+        home_round passing net' journal' actors' desk' pool' first nets journals actors_are returned =
+            sound_at nets journals refl (actors_are ∙ set_last first (gone_on (Saw 0) y (bare asked') passes' b)) refl refl
+            (Pairs.sound_home p r.grip t r.pair r.asked r.plain space next bytes shows.0 b there x y was asked' passes' shown all none went passing desk' pool'
+            (subst (λ z. HasReturned (desk_showing floor.desk p.to p.link) z p.to asked' desk' pool') (sym same_pool) returned))
+
+-- what it did with the record, where it didn't take it at once
+pub saw_only : {S : Type 0} (stands : S → Strand → List Event → Type 0) (x y : S) (shown : List ℕ) (asked : Want) (passes : Bool) (reply : Reply) → reply ≢ Takes →
+    HasSeen stands x y 0 shown asked passes reply → Resumes stands x y (Saw 0) shown asked × (passes ≡ true → PassesOn stands y)
+saw_only stands x y shown asked passes Takes other seen = absurd (other refl)
+saw_only stands x y shown asked passes Passes other seen = (seen.1, λ yes. seen.2)
+saw_only stands x y shown asked passes Asks other seen = (seen.1, λ yes. (let no : false ≡ true = sym seen.0 ∙ yes in cc))
+
+-- what is told of an answer that is `Takes`
+pub takes_so : {S : Type 0} (stands : S → Strand → List Event → Type 0) (x y : S) (shown : List ℕ) (asked : Want) (passes : Bool) (result : Result Reply NoMemory) (reply : Reply) →
+    IfOk result (HasSeen stands x y 0 shown asked passes) → result ≡ Ok reply → reply ≡ Takes → HasSeen stands x y 0 shown asked passes Takes
+takes_so stands x y shown asked passes result reply seen is takes =
+    subst (HasSeen stands x y 0 shown asked passes) takes (subst (λ z. IfOk z (HasSeen stands x y 0 shown asked passes)) is seen)
+
+-- The loop begins
+module _ {S : Type 0} (stands : S → Strand → List Event → Type 0) (showing : S → List ℕ) (limit : ℕ) (p : Pair) (net : Net) (journal : List Entry) (out : List ℕ) (actors : List (Actor S))
+    (d : DeskState) (pool : PoolState) (sound : IsSound stands net limit journal out actors d pool) (due : IsDue net d pool p)
+    (a : Actor S) (read : a ≡ slice_index_or actors p.strand a) where
+  event : LeastEvent (record { net = net; budget = limit; journal = journal; out = out; is_broken = false }) (Some (p.strand, p.output, Put p.output))
+  event = event_is stands net limit journal out actors d pool sound false (Some (p.strand, p.output, Put p.output)) due.1
+
+  pub begins_in : p.strand < length net.strands
+  begins_in = let least = event in in_range stands net limit journal out actors d pool sound p.strand p.output least.1.0 least.1.1
+
+  pub writer_at : slice_get actors p.strand ≡ Some a
+  writer_at = actor_at stands net limit journal out actors d pool sound p.strand a begins_in read
+
+  -- the writer is home
+  pub writer_home : (x : S) × (a.stage ≡ Some x)
+  writer_home = let least = event in stage_at stands net limit journal out actors d pool sound p.strand p.output least.1.0 least.1.1 a writer_at
+
+  -- its coroutine is taken out
+  pub begins : IsWriter actors p → (source : S) → a.stage ≡ Some source → (floor : FloorState) → floor.net ≡ net → floor.desk ≡ d → floor.pool ≡ pool →
+      is_member floor.ready p.strand ≡ true → is_member floor.ready p.to ≡ true → (actors' : List (Actor S)) → actors' ≡ slice_set actors p.strand (without_stage a) →
+      AreRelaying stands showing limit p net journal out floor actors' journal source false
+  begins writer source was floor nets desks pools writes reads actors' actors_are = record {
+    net_is = nets;
+    more = [];
+    journal_is = sym (append_none journal);
+    steps = λ budget broken. tt;
+    writes = writes;
+    reads = reads;
+    actor = a;
+    asked = ap (λ (z : Actor S). z.asked) same ∙ writer.2;
+    plain = ap (λ (z : Actor S). z.passes) same ∙ writer.3;
+    was = was;
+    there = ap (λ l. slice_get l p.strand) actors_are ∙ get_set_same actors p.strand (without_stage a) a writer_at;
+    grip = due.0.0;
+    pool = pool;
+    fresh = λ no. sym pools;
+    stale = λ yes. (let both : false ≡ true = yes in cc);
+    sound = subst (λ z. IsSound stands net limit journal out (slice_set actors' p.strand a) z pool) (sym desks)
+        (subst (λ l. IsSound stands net limit journal out l d pool)
+        (sym (ap (λ l. slice_set l p.strand a) actors_are ∙ set_set actors p.strand (without_stage a) a ∙ set_back actors p.strand a writer_at)) sound);
+    pair = subst (λ z. IsPair net z pool p due.0.0) (sym desks) due.0.1;
+    least = subst (λ z. LeastEventAwake z (Some (p.strand, p.output, Put p.output))) (sym desks) due.1;
+  }
+    where
+      same : a ≡ writer.0
+      same = let one : Some a ≡ Some writer.0 = sym writer_at ∙ writer.1 in cc
+
+-- The writer's coroutine comes back
+module _ {S : Type 0} {stands : S → Strand → List Event → Type 0} {showing : S → List ℕ} {limit : ℕ} {p : Pair} {net : Net} {start : List Entry} {out : List ℕ}
+    {floor : FloorState} {actors : List (Actor S)} {journal : List Entry} {source : S} {is_stale : Bool}
+    (r : AreRelaying stands showing limit p net start out floor actors journal source is_stale) where
+  -- with the record that it showed last, where that isn't in the pool yet
+  pub last_pool : (pool' : PoolState) → (is_stale ≡ false → pool' ≡ floor.pool) → (is_stale ≡ true → pool' ≡ pool_refilled floor.pool r.grip (showing source)) → pool' ≡ r.pool
+  last_pool pool' kept put = by_case is_stale r.fresh r.stale kept put
+    where
+      by_case : (stale : Bool) → (stale ≡ false → r.pool ≡ floor.pool) → (stale ≡ true → (r.pool ≡ pool_refilled floor.pool r.grip (showing source)) × (length (showing source) ≤ 256)) →
+          (stale ≡ false → pool' ≡ floor.pool) → (stale ≡ true → pool' ≡ pool_refilled floor.pool r.grip (showing source)) → pool' ≡ r.pool
+      by_case true fresh old kept put = put refl ∙ sym (old refl).0
+      by_case false fresh old kept put = kept refl ∙ sym (fresh refl)
+
+  holders_still : (stale : Bool) → (stale ≡ false → r.pool ≡ floor.pool) → (stale ≡ true → (r.pool ≡ pool_refilled floor.pool r.grip (showing source)) × (length (showing source) ≤ 256)) →
+      holders_at floor.pool r.grip ≡ holders_at r.pool r.grip
+  holders_still true fresh old =
+      sym (ap (λ z. holders_at z r.grip) (old refl).0 ∙ ap holders_of (placed_here floor.pool.records r.grip (Some (refilled (showing source) (holders_at floor.pool r.grip)))))
+  holders_still false fresh old = ap (λ z. holders_at z r.grip) (sym (fresh refl))
+
+  -- what is offered is held, before the record that was shown is put there too
+  pub held_still : offer_on (Telling.through floor.desk.wires (Some p.link)) ≡ Some r.grip → IsHeldIn floor.pool (offer_on (Telling.through floor.desk.wires (Some p.link)))
+  held_still offers = subst (IsHeldIn floor.pool) (sym offers) (some_held (record_at floor.pool r.grip) (holders_still is_stale r.fresh r.stale ∙ r.pair.relaying.two))
+    where
+      some_held : (place : Option Held) → holders_of place ≡ 2 → IsSome place
+      some_held None is = absurd (let no : ⊥ = omega (arith, is) in no)
+      some_held (Some held) is = refl
+
+  -- what is read at the reader's place is what is kept of it
+  pub reader_at : (b : Actor S) → b ≡ slice_index_or actors p.to b → slice_get actors p.to ≡ Some b
+  reader_at b read =
+      let count = r.sound.strands.count in
+      let within = r.pair.within in
+      let same = length-set actors p.strand r.actor in
+      slice_get_read actors (length actors) p.to b refl (omega (arith, within, count, same)) read
+
+  -- the link has a wire, and what is offered there is held
+  pub place_end : p.link < length floor.desk.wires
+  place_end = slice_get_within floor.desk.wires p.link r.pair.relaying.due.0 r.pair.relaying.due.1
+
+  pub held_end : IsHeldIn floor.pool (offer_on (Telling.through floor.desk.wires (Some p.link)))
+  held_end = held_still (ap offer_on r.pair.relaying.due.1 ∙ r.pair.relaying.due.3)
+
+  pub writer_end : (w : Actor S) → w ≡ slice_index_or actors p.strand w → w ≡ without_stage r.actor
+  writer_end w read = read_is actors p.strand (without_stage r.actor) w r.there read
+
+  pub back_at : slice_set actors p.strand (with_stage source (without_stage r.actor)) ≡ slice_set actors p.strand r.actor
+  back_at = ap (λ z. slice_set actors p.strand (record { stage = z; asked = r.actor.asked; looks = r.actor.looks; saw_end = r.actor.saw_end; passes = r.actor.passes })) (sym r.was)
+
+  pub sound_back : (net' : Net) (out' : List ℕ) (actors' : List (Actor S)) (desk' : DeskState) (pool' : PoolState) → net' ≡ net → out' ≡ out → actors' ≡ slice_set actors p.strand (with_stage source (without_stage r.actor)) →
+      desk' ≡ floor.desk → pool' ≡ r.pool → IsSound stands net' limit journal out' actors' desk' pool'
+  sound_back net' out' actors' desk' pool' nets outs actors_are desks pools = sound_at nets refl outs (actors_are ∙ back_at) desks pools r.sound
+
+  pub due_back : (net' : Net) (desk' : DeskState) (pool' : PoolState) → net' ≡ net → desk' ≡ floor.desk → pool' ≡ r.pool → IsDue net' desk' pool' p
+  due_back net' desk' pool' nets desks pools = (
+    (r.grip, subst (λ n. IsPair n desk' pool' p r.grip) (sym nets) (subst (λ d. IsPair net d pool' p r.grip) (sym desks) (subst (λ z. IsPair net floor.desk z p r.grip) (sym pools) r.pair))),
+    subst (λ d. LeastEventAwake d (Some (p.strand, p.output, Put p.output))) (sym desks) r.least,
+  )

@@ -1,0 +1,192 @@
+//! A strand that writes records which the next one takes, each as it is shown: they don't go through the pool one by one.
+ghost use Rattle.std.specs.Prelude.{◌≡◌, ◌<◌, ◌≤◌, ◌++◌, ◌∷◌, ℕ, Bool, true, false, List, [], Some, length, vec_capacity, IfOk, IfSome, OnOk, OnErr};
+ghost use Rattle.pipe_model.specs.declared.step.Entry.{Entry as EntryIs};
+ghost use Rattle.pipe_model.specs.declared.step.Out.TheVariants as Outs;
+ghost use Rattle.pipe_model.specs.declared.step.Seen.TheVariants as Told;
+ghost use Rattle.pipe_model.specs.declared.step.Want.TheVariants as Asks;
+ghost use Rattle.core_machine.specs.Answered.{IsLonger};
+ghost use Rattle.core_machine.specs.Floor.{IsInUse};
+ghost use Rattle.core_machine.specs.Pairs.{IsPair, IsDue, IsWriter};
+ghost use Rattle.core_machine.specs.Runs.{AreSteps, is_made};
+ghost use Rattle.core_machine.specs.Sound.{IsSound};
+ghost use Rattle.core_machine.specs.declared.run.Which.TheVariants as Makes;
+
+use crate::actor::{Actor, give_up, see};
+use crate::floor::Floor;
+use outside::Gate;
+use pipe_model::{Entry, NoMemory, Out, Rec, Want};
+use stage_steps::{Reply, Stage};
+use std::alloc::Global;
+use std::mem;
+
+// A record of more bytes isn't shown, but put in the pool.
+const SHORT_RECORD: usize = 256;
+
+/// Two strands that follow each other: one that writes, on this output, and the other, which reads there on its input 0; and
+/// the number of the link between them.
+#[derive(Clone, Copy)]
+pub(crate) struct Pair {
+    pub(crate) strand: u32,
+    pub(crate) output: u16,
+    pub(crate) to: u32,
+    pub(crate) link: u32,
+}
+
+/// Whether neither a strand nor the next one passes on the record that it saw last, which costs less to ask than what follows: who
+/// passes records on takes none at once. Nothing is proved of the answer.
+#[inline(always)]
+pub(crate) fn may_relay<S: Stage>(actors: &[Actor<S>], strand: u32) -> bool {
+    let place = strand as usize;
+    place + 1 < actors.len() && !actors[place].passes && !actors[place + 1].passes
+}
+
+/// The two strands, where the one whose record is due to be put may show the next one to the other.
+#[inline(always)]
+pub(crate) fn pair_of<S: Stage>(
+    floor: &Floor,
+    actors: &[Actor<S>],
+    strand: u32,
+    output: u16,
+) -> Option<Pair>
+    requires sound { (budget : ℕ) × (journal : List EntryIs) × (out : List ℕ) × IsSound S.stands floor.now.net budget journal out actors.now floor.now.desk floor.now.pool }
+    requires strand { strand < length floor.now.net.strands }
+    ensures whose { IfSome result (λ p. (p.strand ≡ strand) × (p.output ≡ output)) }
+    ensures pair { IfSome result (λ p. (grip : ℕ) × IsPair floor.now.net floor.now.desk floor.now.pool p grip) }
+    ensures writer { IfSome result (IsWriter actors.now) }
+{
+    let actor = &actors[strand as usize];
+    if actor.passes || !writes_new(&actor.asked, output) {
+        return None;
+    }
+    let link = floor.rendezvous_at(strand, output)?;
+    let to = floor.net().links.as_slice()[link as usize].to;
+    if to <= strand || to - strand != 1 || to as usize >= actors.len() {
+        return None;
+    }
+    match floor.link_in(to, 0) {
+        Some(from) if from == link && floor.relays(to, link) => Some(Pair {
+            strand,
+            output,
+            to,
+            link,
+        }),
+        _ => None,
+    }
+}
+
+// Whether it wants to write a new record on the output, which was moved out.
+fn writes_new(asked: &Want, output: u16) -> bool
+    ensures { result ≡ true → asked.now ≡ Asks.Write output (Outs.Fresh []) }
+{
+    match asked {
+        Want::Write(o, Out::Fresh(rec)) => *o == output && rec.bytes().is_empty(),
+        _ => false,
+    }
+}
+
+/// Makes the events of the two by which a record is put, and the next one seen and taken, as long as the writer shows that and
+/// three events have room below the limit. The answer is whether the reader came home with another want, once it saw a record;
+/// else the writer's record is due to be put. After want of memory the reader is out.
+#[inline(always)]
+pub(crate) fn relay<S: Stage, G: Gate>(
+    floor: &mut Floor,
+    actors: &mut Vec<Actor<S>>,
+    journal: &mut Vec<Entry>,
+    out: &mut Vec<u64>,
+    alloc: Global,
+    gate: &G,
+    pair: Pair,
+    limit: u64,
+) -> Result<bool, NoMemory>
+    requires sound { IsSound S.stands floor.old.net limit journal.old.items out.old.items actors.old.items floor.old.desk floor.old.pool }
+    requires due { IsDue floor.old.net floor.old.desk floor.old.pool pair }
+    requires writer { IsWriter actors.old.items pair }
+    requires room { limit ≤ vec_capacity journal.old }
+    requires room_out { length floor.old.net.strands ≤ vec_capacity out.old }
+    ensures net { floor.new.net ≡ floor.old.net }
+    ensures sound { IsSound S.stands floor.new.net limit journal.new.items out.new.items actors.new.items floor.new.desk floor.new.pool }
+    ensures goes { IfOk result (λ _. (more : List EntryIs) × (journal.new.items ≡ journal.old.items ++ more)
+        × ((budget : ℕ) (broken : Bool) → AreSteps (is_made Makes.All) (record { net = floor.old.net; budget = budget; journal = journal.old.items; out = out.old.items; is_broken = broken }) more)) }
+    ensures more { IfOk result (λ over. over ≡ true → length journal.old.items < length journal.new.items) }
+    ensures out { OnOk result (out.new.items ≡ out.old.items) }
+    ensures due { IfOk result (λ over. over ≡ false → IsDue floor.new.net floor.new.desk floor.new.pool pair) }
+    ensures lacks { OnErr result (IsLonger journal.old.items journal.new.items × (length journal.old.items < length journal.new.items) × (out.new.items ≡ out.old.items ++ length journal.new.items ∷ [])) }
+    ensures capacity { vec_capacity journal.new ≡ vec_capacity journal.old }
+    ensures capacity_out { vec_capacity out.new ≡ vec_capacity out.old }
+{
+    let Ok(room) = Vec::with_capacity(alloc, SHORT_RECORD) else {
+        return Ok(false);
+    };
+    let Some(mut source) = mem::replace(&mut actors[pair.strand as usize].stage, None) else {
+        unreachable!()
+    };
+    floor.wake(pair.strand);
+    floor.wake(pair.to);
+    let put = Entry {
+        strand: pair.strand,
+        stream: pair.output,
+    };
+    let taken = Entry {
+        strand: pair.to,
+        stream: 0,
+    };
+    let mut is_stale = false;
+    loop {
+        if journal.len() as u64 + 3 > limit {
+            break;
+        }
+        if !source.show(pair.output) {
+            break;
+        }
+        is_stale = true;
+        journal.push_reserved(put);
+        journal.push_reserved(taken);
+        gate.enter(pair.to);
+        let reader = &mut actors[pair.to as usize];
+        let bytes = bytes_shown(&source, reader.looks);
+        let reply = see(reader, alloc, 0, bytes);
+        if let Ok(Reply::Takes) = reply {
+            journal.push_reserved(taken);
+            floor.relay(pair.link);
+            continue;
+        }
+        floor.refill(pair.link, copied(room, source.shown()));
+        floor.show(pair.to, pair.link);
+        actors[pair.strand as usize].stage = Some(source);
+        let reader = &mut actors[pair.to as usize];
+        let Ok(_) = reply else {
+            give_up(reader, out, journal.len() as u64);
+            return Err(NoMemory);
+        };
+        let Ok(()) = floor.come_home(pair.to, false, &mut reader.asked) else {
+            give_up(reader, out, journal.len() as u64);
+            return Err(NoMemory);
+        };
+        return Ok(true);
+    }
+    if is_stale {
+        floor.refill(pair.link, copied(room, source.shown()));
+    }
+    actors[pair.strand as usize].stage = Some(source);
+    Ok(false)
+}
+
+// The bytes that a source showed last, where the strand that sees them looks.
+#[inline(always)]
+fn bytes_shown<S: Stage>(source: &S, looks: bool) -> &[u8]
+    ensures looks { looks ≡ true → result.now ≡ S.showing source.now }
+    ensures plain { looks ≡ false → result.now ≡ [] }
+{
+    if looks { source.shown() } else { &[] }
+}
+
+// The record of these bytes, in a room that holds them without growing.
+fn copied(room: Vec<u8>, bytes: &[u8]) -> Rec
+    requires empty { room.items ≡ [] }
+    requires short { length bytes.now ≤ vec_capacity room }
+    ensures { result ≡ bytes.now }
+{
+    let mut room = room;
+    room.extend_from_slice(bytes).unwrap();
+    Rec::from_vec(room)
+}
