@@ -25,6 +25,13 @@ pub enum Ahead {
     Put(u32, u16),
 }
 
+impl Ahead {
+    /// Whether it is that a record is seen. Nothing is proved of the answer.
+    pub(crate) fn is_sight(self) -> bool {
+        matches!(self, Ahead::Saw(..))
+    }
+}
+
 /// A net, and what is kept of a run of it besides coroutines and journal. Every strand that may go on is in the set of
 /// those that may be ready.
 pub(crate) struct Floor {

@@ -32,14 +32,6 @@ pub(crate) struct Pair {
     pub(crate) link: u32,
 }
 
-/// Whether neither a strand nor the next one passes on the record that it saw last, which costs less to ask than what follows: who
-/// passes records on takes none at once. Nothing is proved of the answer.
-#[inline(always)]
-pub(crate) fn may_relay<S: Stage>(actors: &[Actor<S>], strand: u32) -> bool {
-    let place = strand as usize;
-    place + 1 < actors.len() && !actors[place].passes && !actors[place + 1].passes
-}
-
 /// The two strands, where the one whose record is due to be put may show the next one to the other.
 #[inline(always)]
 pub(crate) fn pair_of<S: Stage>(
@@ -54,6 +46,10 @@ pub(crate) fn pair_of<S: Stage>(
     ensures pair { IfSome result (λ p. (grip : ℕ) × IsPair floor.now.net floor.now.desk floor.now.pool p grip) }
     ensures writer { IfSome result (IsWriter actors.now) }
 {
+    // What reads records has others to write than those of a text.
+    if floor.link_in(strand, 0).is_some() {
+        return None;
+    }
     let actor = &actors[strand as usize];
     if actor.passes || !writes_new(&actor.asked, output) {
         return None;

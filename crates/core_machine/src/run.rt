@@ -7,7 +7,7 @@ use crate::actor::{advance, ask, give_up, put, see};
 use crate::core_state::Core;
 use crate::floor::Ahead;
 use crate::job::RunEnd;
-use crate::relay::{may_relay, pair_of, relay};
+use crate::relay::{pair_of, relay};
 use crate::settling::ends;
 use outside::{Gate, OpenGate};
 use pipe_model::{Entry, NoMemory, Seen, Want};
@@ -113,7 +113,10 @@ impl<S: Stage> Core<S> {
         ensures lawful { IsLawful self.new }
     {
         let mut ahead = Ahead::Search;
+        // Whether the step before was that a strand saw a record. Where one is put then, that strand took it at once.
+        let mut has_taken = false;
         while self.len() < limit {
+            let is_sight = ahead.is_sight();
             ahead = match ahead {
                 Ahead::Search => match self.least_event() {
                     None => return Ok(()),
@@ -139,8 +142,11 @@ impl<S: Stage> Core<S> {
                     self.see(alloc, gate, strand, i, limit)?
                 }
                 Ahead::Took(strand, i) => self.go_on(alloc, gate, strand, i, Seen::Took(i))?,
-                Ahead::Put(strand, o) => self.put_on(alloc, gate, which, strand, o, limit)?,
+                Ahead::Put(strand, o) => self.put_on(
+                    alloc, gate, which, has_taken, strand, o, limit,
+                )?,
             };
+            has_taken = is_sight;
         }
         Ok(())
     }
@@ -246,14 +252,16 @@ impl<S: Stage> Core<S> {
         self.go_on(alloc, gate, strand, i, Seen::Saw(i))
     }
 
-    // The strand puts a record on an output, which is the least event that may be. Where that is a source, and the next strand takes
-    // its records, both go on as long as they do that, which runs of one thread alone allow: others' sights are short.
+    // The strand puts a record on an output, which is the least event that may be. Where that is a source, and the next strand, which
+    // took the record at once, takes those that follow, both go on as long as they do that. Runs of one thread alone allow it:
+    // others' sights are short.
     #[inline(always)]
     fn put_on<G: Gate>(
         &mut self,
         alloc: Global,
         gate: &G,
         which: Which,
+        has_taken: bool,
         strand: u32,
         o: u16,
         limit: u64,
@@ -270,7 +278,7 @@ impl<S: Stage> Core<S> {
         ensures lawful { IsLawful self.new }
     {
         if matches!(which, Which::All) {
-            if self.relay(alloc, gate, strand, o, limit)? {
+            if self.relay(alloc, gate, has_taken, strand, o, limit)? {
                 return Ok(Ahead::Search);
             }
             if self.journal.len() as u64 >= limit {
@@ -287,6 +295,7 @@ impl<S: Stage> Core<S> {
         &mut self,
         alloc: Global,
         gate: &G,
+        has_taken: bool,
         strand: u32,
         o: u16,
         limit: u64,
@@ -302,7 +311,10 @@ impl<S: Stage> Core<S> {
         ensures lacks { OnErr result (HasBroken self.old self.new) }
         ensures lawful { IsLawful self.new }
     {
-        if !may_relay(&self.actors, strand) {
+        if self.actors.len() < 2 {
+            return Ok(false);
+        }
+        if !has_taken {
             return Ok(false);
         }
         self.relay_apart(alloc, gate, strand, o, limit)
