@@ -4,7 +4,7 @@ use crate::literal::Literals;
 use crate::sink::sink;
 use crate::source::source;
 use pipe_model::{Kind, NoMemory, Seen, Strand, Want};
-use stage_steps::{Copies, Each, Listed, Reply, Stage, TextLines, line_shown, show_line};
+use stage_steps::{Copies, Each, Listed, Reply, Stage, TextLines, line_shown, put_line, show_line};
 use std::alloc::Global;
 
 /// A stage of a device.
@@ -94,7 +94,7 @@ impl Stage for DeviceStage {
     #[inline(never)]
     fn put(&mut self, alloc: Global, o: u16, asked: &mut Want) -> Result<(), NoMemory> {
         match self {
-            DeviceStage::Source(stage) => stage.put(alloc, o, asked),
+            DeviceStage::Source(stage) => put_line(stage, alloc, o, asked),
             DeviceStage::Absent(stage) => stage.put(alloc, o, asked),
             DeviceStage::Sink(stage) => stage.put(alloc, o, asked),
             DeviceStage::Literal(stage) => stage.put(alloc, o, asked),

@@ -14,7 +14,7 @@ use Rattle.stage_steps.specs.Drivers.{ListedStands}
 use Rattle.stage_steps.specs.Kept.{kept_after}
 use Rattle.stage_steps.specs.Lists.{GivesNext}
 use Rattle.stage_steps.specs.Outputs.{none_left}
-use Rattle.stage_steps.specs.Showings.{IsShowing, GivesShown}
+use Rattle.stage_steps.specs.Showings.{IsGiving, GivesShown}
 use Rattle.stage_steps.specs.Walk.{Hears, Fetches, Asks, WritesPlainly}
 use Rattle.stage_steps.proofs.Drives.{steps}
 use Rattle.stage_steps.proofs.Groups.{passes_none, fetches_one}
@@ -30,10 +30,10 @@ module _ {L : Type 0} (stands : L → Bool → Stream → Records → List Act �
         ((λ over t recs acts is. is, plain.1, ap (λ m. Write 0 (Fresh (unwrap_or m []))) (sym made_is)), plain.0.1),
       )
 
-  -- where the lists gave a new record that they show, the driver writes it, once the record was put that it wrote; where they gave none nothing has changed
-  pub shows : (source : Listed L) (y : L) → is_looking y ≡ is_looking source.lists → WritesPlainly source.walk → (given : Bool) → GivesShown stands made showing source.lists y given
-      → IsShowing (ListedStands stands is_looking) (λ (x : Listed L). showing x.lists) source (record { lists = y; walk = source.walk }) 0 given
-  shows source y looks_same plain true gives =
+  -- where the lists gave a new record that they show, of at most so many bytes, the driver writes it, once the record was put that it wrote; where they gave none nothing has changed
+  pub shows : (most : ℕ) (source : Listed L) (y : L) → is_looking y ≡ is_looking source.lists → WritesPlainly source.walk → (given : Bool) → GivesShown most stands made showing source.lists y given
+      → IsGiving most (ListedStands stands is_looking) (λ (x : Listed L). showing x.lists) source (record { lists = y; walk = source.walk }) 0 given
+  shows most source y looks_same plain true gives =
       let x = source.lists in
       let w = source.walk in (
         λ s h e t.
@@ -44,4 +44,4 @@ module _ {L : Type 0} (stands : L → Bool → Stream → Records → List Act �
             (asks_new x y w plain gives.0 gives.1),
         gives.2,
       )
-  shows source y looks_same plain false gives = ap (λ (l : L). record { lists = l; walk = source.walk }) gives
+  shows most source y looks_same plain false gives = ap (λ (l : L). record { lists = l; walk = source.walk }) gives

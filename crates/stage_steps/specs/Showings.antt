@@ -13,12 +13,16 @@ use Rattle.stage_steps.specs.Coroutine.{Resumes}
 use Rattle.stage_steps.specs.Lists.{GivesNext}
 use Rattle.stage_steps.specs.declared.group.Group.TheVariants.{New}
 
--- it was told that the record was put which it wrote on an output, and shows a new one of at most 256 bytes, which it writes there next; or nothing has changed
-abbrev pub IsShowing : {S : Type 0} → (S → Strand → List Event → Type 0) → (S → List ℕ) → S → S → ℕ → Bool → Type 0
-IsShowing stands showing x y o true = Resumes stands x y (Put o) [] (Write o (Fresh (showing y))) × (length (showing y) ≤ 256)
-IsShowing stands showing x y o false = y ≡ x
+-- it was told that the record was put which it wrote on an output, and gives a new one of at most so many bytes, which it writes there next; or nothing has changed
+abbrev pub IsGiving : {S : Type 0} → ℕ → (S → Strand → List Event → Type 0) → (S → List ℕ) → S → S → ℕ → Bool → Type 0
+IsGiving most stands showing x y o true = Resumes stands x y (Put o) [] (Write o (Fresh (showing y))) × (length (showing y) ≤ most)
+IsGiving most stands showing x y o false = y ≡ x
 
--- the lists gave a new record for output 0, of at most 256 bytes, which they show; or nothing has changed
-abbrev pub GivesShown : {L : Type 0} → (L → Bool → Stream → Records → List Act → Type 0) → (L → Option (List ℕ)) → (L → List ℕ) → L → L → Bool → Type 0
-GivesShown stands made showing x y true = GivesNext stands made x y (Some (New 0)) × (made y ≡ Some (showing y)) × (length (showing y) ≤ 256)
-GivesShown stands made showing x y false = y ≡ x
+-- the same for a record of at most 256 bytes, which it shows
+abbrev pub IsShowing : {S : Type 0} → (S → Strand → List Event → Type 0) → (S → List ℕ) → S → S → ℕ → Bool → Type 0
+IsShowing stands showing x y o given = IsGiving 256 stands showing x y o given
+
+-- the lists gave a new record for output 0, of at most so many bytes, which they show; or nothing has changed
+abbrev pub GivesShown : {L : Type 0} → ℕ → (L → Bool → Stream → Records → List Act → Type 0) → (L → Option (List ℕ)) → (L → List ℕ) → L → L → Bool → Type 0
+GivesShown most stands made showing x y true = GivesNext stands made x y (Some (New 0)) × (made y ≡ Some (showing y)) × (length (showing y) ≤ most)
+GivesShown most stands made showing x y false = y ≡ x

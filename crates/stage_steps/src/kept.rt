@@ -35,6 +35,7 @@ impl Kept {
     }
 
     // Adds a record that is seen.
+    #[inline(always)]
     fn add(&mut self, bytes: &[u8]) -> Result<(), NoMemory>
         ensures { IfOk result (λ _. self.new ≡ kept_after (Seen.Saw 0) bytes.now self.old) }
     {

@@ -67,7 +67,7 @@ impl<L: Lists> Stage for Listed<L> {
         ask(&mut self.lists, &mut self.walk, place, alloc)
     }
 
-    #[inline(always)]
+    #[inline(never)]
     fn see(&mut self, alloc: Global, bytes: &[u8], asked: &mut Want) -> Result<Reply, NoMemory> {
         if !looks_plainly(&self.walk) {
             let want = self.resume(alloc, Seen::Saw(0), bytes)?;

@@ -49,7 +49,7 @@ pub trait Stage: Sized + Drop {
 
     /// Tells it that the record which it wrote on an output was put, as `resume` by `Put(o)` does, and leaves what it wants
     /// then in `asked`, which may hold anything after want of memory.
-    #[inline(always)]
+    #[inline(never)]
     fn put(&mut self, alloc: Global, o: u16, asked: &mut Want) -> Result<(), NoMemory>
         requires { CanResume stands self.old (Seen.Put o) [] }
         ensures { IfOk result (λ _. Resumes stands self.old self.new (Seen.Put o) [] asked.new) }

@@ -1,5 +1,5 @@
 use crate::*;
-use pipe_model::{NoMemory, Range, Seen, Span, Times};
+use pipe_model::{NoMemory, Range, Rec, Seen, Span, Times};
 use std::alloc::Global;
 use std::process::Abort;
 use std::test::Fail;
@@ -206,6 +206,31 @@ fn it_passes_a_record_on_told_and_untold(rt: HostRuntime) -> Result<(), Fail> {
     let asked = format!(in alloc; "{:?}", told.resume(alloc, Seen::Took(0), b"")?)?;
     assert_eq!(rt; asked.as_str(), "Read(0)");
     assert!(rt; !told.passes());
+    Ok(())
+}
+
+#[test]
+fn a_source_shows_a_short_line_and_no_long_one(rt: HostRuntime) -> Result<(), Fail> {
+    let alloc = rt.alloc();
+    let long = [b'x'; 257];
+    let mut text = Vec::new(alloc);
+    text.extend_from_slice(b"a\n")?;
+    text.extend_from_slice(&long)?;
+    text.extend_from_slice(b"\nb")?;
+    let lines = TextLines::new(Rec::from_vec(text));
+    let mut source = Listed::new(alloc, lines, Order::WritesFirst, &[true], false)?;
+    source.resume(alloc, Seen::Up(-1, 0), b"")?;
+    source.resume(alloc, Seen::Up(0, 0), b"")?;
+    assert!(rt; line_shown(&source) == b"a".as_slice());
+    assert!(rt; !show_line(&mut source, 0));
+    source.resume(alloc, Seen::Put(0), b"")?;
+    assert!(rt; line_shown(&source) == long.as_slice());
+    assert!(rt; !show_line(&mut source, 1));
+    assert!(rt; show_line(&mut source, 0));
+    assert!(rt; line_shown(&source) == b"b".as_slice());
+    assert!(rt; !show_line(&mut source, 0));
+    let asked = format!(in alloc; "{:?}", source.resume(alloc, Seen::Put(0), b"")?)?;
+    assert_eq!(rt; asked.as_str(), "Done(0)");
     Ok(())
 }
 

@@ -1,15 +1,19 @@
-ghost use Rattle.std.specs.Prelude.{[], ◌≡◌, MatchOption};
+ghost use Rattle.std.specs.Prelude.{[], ◌≡◌, IfOk, MatchOption};
+ghost use Rattle.pipe_model.specs.declared.step.Seen.TheVariants as Seen;
 ghost use Rattle.pipe_model.specs.Records.{lines};
-ghost use Rattle.stage_steps.specs.Lines.{IsFirstLine};
+ghost use Rattle.stage_steps.specs.Coroutine.{CanResume, Resumes};
 ghost use Rattle.stage_steps.specs.Drivers.{ListedStands};
+ghost use Rattle.stage_steps.specs.Lines.{IsFirstLine};
 ghost use Rattle.stage_steps.specs.SharedLists.{LinesStand, lines_look, line_given};
-ghost use Rattle.stage_steps.specs.Showings.{IsShowing};
+ghost use Rattle.stage_steps.specs.Showings.{IsGiving, IsShowing};
 
 use crate::group::Group;
 use crate::listed::Listed;
 use crate::lists::Lists;
+use crate::reply::leave;
+use crate::stage::Stage;
 use crate::walk::writes_plainly;
-use pipe_model::{Lines, NoMemory, Rec, behind, front};
+use pipe_model::{Lines, NoMemory, Out, Rec, Want, behind, front};
 use std::alloc::Global;
 
 // A line of more bytes isn't shown, but written.
@@ -60,13 +64,13 @@ impl TextLines {
         self.at += size + 1;
     }
 
-    // Gives the next line, where one of at most 256 bytes is left; else nothing changes.
+    // Gives the next line, where one of at most so many bytes is left; else nothing changes.
     #[inline(always)]
-    fn give_short(&mut self) -> bool
-        ensures { GivesShown LinesStand (λ x. Some (line_given x)) line_given self.old self.new result }
+    fn give_within(&mut self, most: usize) -> bool
+        ensures { GivesShown most LinesStand (λ x. Some (line_given x)) line_given self.old self.new result }
     {
         match first_line(behind(self.bytes.bytes(), self.at)) {
-            Some(line) if line.len() <= SHORT_LINE => {
+            Some(line) if line.len() <= most => {
                 let size = line.len();
                 self.give(size);
                 true
@@ -90,10 +94,39 @@ impl TextLines {
 pub fn show_line(source: &mut Listed<TextLines>, o: u16) -> bool
     ensures { IsShowing (λ x s h. ListedStands LinesStand lines_look x s h) (λ x. line_given x.lists) source.old source.new o result }
 {
+    gives_line(source, o, SHORT_LINE)
+}
+
+/// Tells a source that the record was put which it wrote on an output, and leaves what it wants then in `asked`, as its `put` does.
+#[inline(never)]
+pub fn put_line(
+    source: &mut Listed<TextLines>,
+    alloc: Global,
+    o: u16,
+    asked: &mut Want,
+) -> Result<(), NoMemory>
+    requires { CanResume (λ x s h. ListedStands LinesStand lines_look x s h) source.old (Seen.Put o) [] }
+    ensures { IfOk result (λ _. Resumes (λ x s h. ListedStands LinesStand lines_look x s h) source.old source.new (Seen.Put o) [] asked.new) }
+{
+    if !gives_line(source, o, usize::MAX) {
+        return source.put(alloc, o, asked);
+    }
+    let lines = &source.lists;
+    let rec = lines.bytes.part(alloc, lines.from, lines.size)?;
+    leave(asked, Want::Write(o, Out::Fresh(rec)));
+    Ok(())
+}
+
+// Tells a source that the record was put which it wrote on an output, where it writes a line of at most so many bytes there next,
+// which it gives then; else nothing changes.
+#[inline(always)]
+fn gives_line(source: &mut Listed<TextLines>, o: u16, most: usize) -> bool
+    ensures { IsGiving most (λ x s h. ListedStands LinesStand lines_look x s h) (λ x. line_given x.lists) source.old source.new o result }
+{
     if o != 0 || !writes_plainly(&source.walk) {
         return false;
     }
-    source.lists.give_short()
+    source.lists.give_within(most)
 }
 
 /// The line that a source wrote last.
