@@ -1,6 +1,6 @@
 //! Two strands of which one writes records that the other takes: what their events do to the desk, where each record takes the
 //! place of the one before.
-ghost use Rattle.std.specs.Prelude.{◌≡◌, ◌<◌, ◌≤◌, ◌-◌, ◌^◌, ℕ, true, length, Some};
+ghost use Rattle.std.specs.Prelude.{◌≡◌, ◌<◌, ◌≤◌, ◌-◌, ◌^◌, ℕ, true, length, None, Some};
 ghost use Rattle.record_pool.specs.Places.{IsHeld};
 ghost use Rattle.connectors.specs.WireState.{is_due, IsHeldIn};
 ghost use Rattle.run_desk.specs.Relaying.{IsRelaying, desk_showing, desk_relayed, pool_refilled};
@@ -44,7 +44,8 @@ impl Desk {
         requires link { link < length self.now.wires }
         requires held { IsHeldIn pool.old (offer_on (Telling.through self.now.wires (Some link))) }
         requires short { length rec ≤ 256 }
-        ensures { (grip : ℕ) → offer_on (Telling.through self.now.wires (Some link)) ≡ Some grip → pool.new ≡ pool_refilled pool.old grip rec }
+        ensures pool { (grip : ℕ) → offer_on (Telling.through self.now.wires (Some link)) ≡ Some grip → pool.new ≡ pool_refilled pool.old grip rec }
+        ensures none { offer_on (Telling.through self.now.wires (Some link)) ≡ None → pool.new ≡ pool.old }
     {
         if let Some(offer) = self.wires[link as usize].offered() {
             pool.refill(offer, rec);
