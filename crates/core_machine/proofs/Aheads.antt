@@ -31,7 +31,7 @@ use Rattle.run_desk.proofs.Sees.{ask_is}
 use Rattle.core_machine.specs.declared.floor.Ahead.{Ahead}
 use Rattle.core_machine.specs.Ahead.{event_ahead, IsAheadOn, HasGoneQuietly, HasSeenOrPut, IsWriteOn}
 use Rattle.core_machine.specs.Woken.{LeastEventAwake, commits}
-use Rattle.core_machine.proofs.Lows.{has_come, doors_kept, low_still, low_offer, low_take, waits}
+use Rattle.core_machine.proofs.Lows.{has_come, doors_kept, low_still, low_offer, low_take, waits, writing}
 
 -- what is known of an event holds of the one that is meant
 pub known_of : (d : DeskState) (ahead : Ahead) (one : ℕ × ℕ × Seen) → event_ahead ahead ≡ Some one → LeastEventAwake d (Some one) → IsAheadOn d ahead
@@ -249,6 +249,23 @@ module _ (net : Net) (d : DeskState) (pool : PoolState) (s k i : ℕ) (wanted : 
   put_next = least_put n p o asks_put may_put
       (λ t m less. low_take net d pool s k (Took i) wanted n after gone i refl plain link (ap (link_through net.links) door ∙ at) t m (omega (arith, less, below)) (λ e. omega (arith, e, less))
       (λ q reader writes there. absurd (silent q writes)))
+
+-- a strand that came home to write asks for just that
+pub asks_write : (net : Net) (d : DeskState) (pool : PoolState) (s k : ℕ) (seen : Seen) (wanted : Want) (n : DeskState) (after : PoolState) → HasGoneQuietly net d pool s k seen wanted n after →
+    (o : ℕ) → IsWriteOn o wanted → Telling.ask_at n s ≡ Now.Write o
+asks_write net d pool s k seen wanted n after gone o writes =
+    ap (λ z. Telling.ask_at z s) come.home
+    ∙ ap Telling.ask_of (changed_here (desk_after_turn d s seen).seats (asking (Now.Write o)) s
+    ∙ ap (option_map (asking (Now.Write o))) (changed_here d.seats (seat_after seen) s ∙ ap (option_map (seat_after seen)) seat.1))
+  where
+    seat : (x : Seat) × (slice_get d.seats s ≡ Some x)
+    seat = at_some d.seats s (subst (λ z. s < z) (sym gone.used.kept.laid.seat_count) gone.strand)
+
+    is : (out : Out) × (wanted ≡ want.Write o out)
+    is = writing o wanted writes
+
+    come : HasCome (desk_after_turn d s seen) (pool_after_turn d pool s seen) s (want.Write o is.0) n after
+    come = subst (λ w. HasCome (desk_after_turn d s seen) (pool_after_turn d pool s seen) s w n after) is.1 (has_come net d pool s k seen wanted n after gone)
 
 -- who reads what is written sees it next, where it asks to and the record shows, and it stands below the strand that writes, or right behind it while that has to wait
 pub read_next : (net : Net) (d : DeskState) (pool : PoolState) (s k : ℕ) (seen : Seen) (wanted : Want) (n : DeskState) (after : PoolState) → HasGoneQuietly net d pool s k seen wanted n after →

@@ -20,6 +20,7 @@ pub mod PutsOn
 pub mod Quiet
 pub mod Relays
 pub mod Rounds
+pub mod RoundsOf
 pub mod Runs
 pub mod Sounds
 pub mod Starts

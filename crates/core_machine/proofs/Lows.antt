@@ -92,7 +92,7 @@ readers d links s (want.Cut i) set reads = tt
 readers d links s (want.Done code) set reads = tt
 
 -- who writes on an output asks for just that
-writing : (o : ℕ) (w : Want) → IsWriteOn o w → (out : Out) × (w ≡ want.Write o out)
+pub writing : (o : ℕ) (w : Want) → IsWriteOn o w → (out : Out) × (w ≡ want.Write o out)
 writing o (want.Write q out) writes = (out, ap (λ z. want.Write z out) writes)
 writing o (want.Commit level) writes = absurd writes
 writing o (want.Read i) writes = absurd writes

@@ -96,10 +96,6 @@ set_back [] i x at = refl
 set_back (z ∷ zs) zero x at = let same : z ≡ x = cc in ap (λ l. l ∷ zs) (sym same)
 set_back (z ∷ zs) (suc i) x at = ap (λ l. z ∷ l) (set_back zs i x at)
 
--- a round's three entries fit the limit
-pub round_fits : (journal : List Entry) (limit : ℕ) → length journal + 3 ≤ limit → length journal + 2 < limit
-round_fits journal limit fits = omega (arith, fits)
-
 -- a core that is sound up to a limit is so up to another, which is one of a core
 pub sound_up_to : {S : Type 0} (stands : S → Strand → List Event → Type 0) (net : Net) (budget limit : ℕ) (journal : List Entry) (out : List ℕ) (actors : List (Actor S)) (d : DeskState) (pool : PoolState) →
     IsSound stands net budget journal out actors d pool → length journal ≤ limit → limit ≤ 50000000 → IsSound stands net limit journal out actors d pool
@@ -115,9 +111,9 @@ sound_up_to stands net budget limit journal out actors d pool sound within bound
   strands = sound.strands;
 }
 
--- how far the two strands are: the writer's record is due to be put, and its coroutine is elsewhere, as is the record that it showed last, where it showed one
+-- how far the two strands are after so many rounds: the writer's record is due to be put, and its coroutine is elsewhere, as is the record that it showed last, where it showed one
 pub record AreRelaying {S : Type 0} (stands : S → Strand → List Event → Type 0) (showing : S → List ℕ) (limit : ℕ) (p : Pair) (net : Net) (start : List Entry) (out : List ℕ)
-    (floor : FloorState) (actors : List (Actor S)) (journal : List Entry) (source : S) (is_stale : Bool) : Type 0 where
+    (floor : FloorState) (actors : List (Actor S)) (journal : List Entry) (source : S) (rounds : ℕ) : Type 0 where
   pub net_is : floor.net ≡ net
   pub more : List Entry
   pub journal_is : journal ≡ start ++ more
@@ -131,8 +127,8 @@ pub record AreRelaying {S : Type 0} (stands : S → Strand → List Event → Ty
   pub there : slice_get actors p.strand ≡ Some (without_stage actor)
   pub grip : ℕ
   pub pool : PoolState
-  pub fresh : is_stale ≡ false → pool ≡ floor.pool
-  pub stale : is_stale ≡ true → (pool ≡ pool_refilled floor.pool grip (showing source)) × (length (showing source) ≤ 256)
+  pub fresh : rounds ≡ 0 → pool ≡ floor.pool
+  pub stale : 0 < rounds → (pool ≡ pool_refilled floor.pool grip (showing source)) × (length (showing source) ≤ 256)
   pub sound : IsSound stands net limit journal out (slice_set actors p.strand actor) floor.desk pool
   pub pair : IsPair net floor.desk pool p grip
   pub least : LeastEventAwake floor.desk (Some (p.strand, p.output, Put p.output))
@@ -146,8 +142,8 @@ read_is xs i x w at read =
 
 -- The writer showed the next record
 module _ {S : Type 0} {stands : S → Strand → List Event → Type 0} {showing : S → List ℕ} {limit : ℕ} {p : Pair} {net : Net} {start : List Entry} {out : List ℕ}
-    {floor : FloorState} {actors : List (Actor S)} {journal : List Entry} {source : S} {is_stale : Bool}
-    (r : AreRelaying stands showing limit p net start out floor actors journal source is_stale) (space : length journal + 2 < limit) where
+    {floor : FloorState} {actors : List (Actor S)} {journal : List Entry} {source : S} {rounds : ℕ}
+    (r : AreRelaying stands showing limit p net start out floor actors journal source rounds) (space : length journal + 2 < limit) where
   abbrev actors0 : List (Actor S)
   actors0 = slice_set actors p.strand r.actor
 
@@ -221,13 +217,13 @@ module _ {S : Type 0} {stands : S → Strand → List Event → Type 0} {showing
         read_is (slice_set (slice_set actors p.to first) p.strand m) p.to first w (get_set_other (slice_set actors p.to first) p.strand p.to m apart ∙ get_set_same actors p.to first b reader) read
 
     -- the pool, once the record is put there, is the one where it was put after the one before
-    pool_is : (stale : Bool) → (stale ≡ false → r.pool ≡ floor.pool) → (stale ≡ true → (r.pool ≡ pool_refilled floor.pool r.grip (showing source)) × (length (showing source) ≤ 256)) →
+    pool_is : (n : ℕ) → (n ≡ 0 → r.pool ≡ floor.pool) → (0 < n → (r.pool ≡ pool_refilled floor.pool r.grip (showing source)) × (length (showing source) ≤ 256)) →
         pool_refilled r.pool r.grip bytes ≡ pool_refilled floor.pool r.grip bytes
-    pool_is true fresh old = ap (λ z. pool_refilled z r.grip bytes) (old refl).0 ∙ refilled_twice floor.pool r.grip (showing source) bytes
-    pool_is false fresh old = ap (λ z. pool_refilled z r.grip bytes) (fresh refl)
+    pool_is zero fresh old = ap (λ z. pool_refilled z r.grip bytes) (fresh refl)
+    pool_is (suc n) fresh old = ap (λ z. pool_refilled z r.grip bytes) (old (omega arith)).0 ∙ refilled_twice floor.pool r.grip (showing source) bytes
 
     pub same_pool : pool_refilled r.pool r.grip bytes ≡ pool_refilled floor.pool r.grip bytes
-    same_pool = pool_is is_stale r.fresh r.stale
+    same_pool = pool_is rounds r.fresh r.stale
 
     -- the reader is home, and may see what is shown
     pub sees : (shown : List ℕ) → (b.looks ≡ true → shown ≡ bytes) → (b.looks ≡ false → shown ≡ []) → (x : S) × (b.stage ≡ Some x) × CanSee stands x 0 shown
@@ -281,7 +277,7 @@ module _ {S : Type 0} {stands : S → Strand → List Event → Type 0} {showing
         -- the two are as far as before, with three entries more
         pub goes_round : (floor' : FloorState) (actors' : List (Actor S)) (journal' : List Entry) → floor'.net ≡ floor.net → floor'.desk ≡ desk_relayed floor.desk p.link → floor'.pool ≡ floor.pool →
             floor'.ready ≡ floor.ready → actors' ≡ slice_set actors p.to gone → journal' ≡ ((journal ++ put ∷ []) ++ took ∷ []) ++ took ∷ [] →
-            AreRelaying stands showing limit p net start out floor' actors' journal' next true
+            AreRelaying stands showing limit p net start out floor' actors' journal' next (rounds + 1)
         goes_round floor' actors' journal' nets desks pools readies actors_are journals = record {
           net_is = nets ∙ r.net_is;
           more = ((r.more ++ put ∷ []) ++ took ∷ []) ++ took ∷ [];
@@ -296,8 +292,8 @@ module _ {S : Type 0} {stands : S → Strand → List Event → Type 0} {showing
           there = ap (λ l. slice_get l p.strand) actors_are ∙ get_set_other actors p.to p.strand gone two ∙ r.there;
           grip = r.grip;
           pool = pool_refilled r.pool r.grip bytes;
-          fresh = λ no. (let both : true ≡ false = no in cc);
-          stale = λ yes. (same_pool ∙ ap (λ z. pool_refilled z r.grip bytes) (sym pools), shows.1);
+          fresh = λ none_yet. absurd (let no : ⊥ = omega (arith, none_yet) in no);
+          stale = λ some. (same_pool ∙ ap (λ z. pool_refilled z r.grip bytes) (sym pools), shows.1);
           sound =
               subst (λ d. IsSound stands net limit journal' out (slice_set actors' p.strand second) d (pool_refilled r.pool r.grip bytes)) (sym desks)
               (subst (λ j. IsSound stands net limit j out (slice_set actors' p.strand second) (desk_relayed floor.desk p.link) (pool_refilled r.pool r.grip bytes)) (sym journals)
@@ -383,11 +379,11 @@ module _ {S : Type 0} (stands : S → Strand → List Event → Type 0) (showing
   -- its coroutine is taken out
   pub begins : IsWriter actors p → (source : S) → a.stage ≡ Some source → (floor : FloorState) → floor.net ≡ net → floor.desk ≡ d → floor.pool ≡ pool →
       is_member floor.ready p.strand ≡ true → is_member floor.ready p.to ≡ true → (actors' : List (Actor S)) → actors' ≡ slice_set actors p.strand (without_stage a) →
-      AreRelaying stands showing limit p net journal out floor actors' journal source false
+      AreRelaying stands showing limit p net journal out floor actors' (journal ++ []) source 0
   begins writer source was floor nets desks pools writes reads actors' actors_are = record {
     net_is = nets;
     more = [];
-    journal_is = sym (append_none journal);
+    journal_is = refl;
     steps = λ budget broken. tt;
     writes = writes;
     reads = reads;
@@ -398,11 +394,12 @@ module _ {S : Type 0} (stands : S → Strand → List Event → Type 0) (showing
     there = ap (λ l. slice_get l p.strand) actors_are ∙ get_set_same actors p.strand (without_stage a) a writer_at;
     grip = due.0.0;
     pool = pool;
-    fresh = λ no. sym pools;
-    stale = λ yes. (let both : false ≡ true = yes in cc);
-    sound = subst (λ z. IsSound stands net limit journal out (slice_set actors' p.strand a) z pool) (sym desks)
-        (subst (λ l. IsSound stands net limit journal out l d pool)
-        (sym (ap (λ l. slice_set l p.strand a) actors_are ∙ set_set actors p.strand (without_stage a) a ∙ set_back actors p.strand a writer_at)) sound);
+    fresh = λ none_yet. sym pools;
+    stale = λ some. absurd (let no : ⊥ = omega (arith, some) in no);
+    sound = subst (λ z. IsSound stands net limit (journal ++ []) out (slice_set actors' p.strand a) z pool) (sym desks)
+        (subst (λ l. IsSound stands net limit (journal ++ []) out l d pool)
+        (sym (ap (λ l. slice_set l p.strand a) actors_are ∙ set_set actors p.strand (without_stage a) a ∙ set_back actors p.strand a writer_at))
+        (subst (λ j. IsSound stands net limit j out actors d pool) (sym (append_none journal)) sound));
     pair = subst (λ z. IsPair net z pool p due.0.0) (sym desks) due.0.1;
     least = subst (λ z. LeastEventAwake z (Some (p.strand, p.output, Put p.output))) (sym desks) due.1;
   }
@@ -412,26 +409,26 @@ module _ {S : Type 0} (stands : S → Strand → List Event → Type 0) (showing
 
 -- The writer's coroutine comes back
 module _ {S : Type 0} {stands : S → Strand → List Event → Type 0} {showing : S → List ℕ} {limit : ℕ} {p : Pair} {net : Net} {start : List Entry} {out : List ℕ}
-    {floor : FloorState} {actors : List (Actor S)} {journal : List Entry} {source : S} {is_stale : Bool}
-    (r : AreRelaying stands showing limit p net start out floor actors journal source is_stale) where
+    {floor : FloorState} {actors : List (Actor S)} {journal : List Entry} {source : S} {rounds : ℕ}
+    (r : AreRelaying stands showing limit p net start out floor actors journal source rounds) where
   -- with the record that it showed last, where that isn't in the pool yet
-  pub last_pool : (pool' : PoolState) → (is_stale ≡ false → pool' ≡ floor.pool) → (is_stale ≡ true → pool' ≡ pool_refilled floor.pool r.grip (showing source)) → pool' ≡ r.pool
-  last_pool pool' kept put = by_case is_stale r.fresh r.stale kept put
+  pub last_pool : (pool' : PoolState) → (rounds ≡ 0 → pool' ≡ floor.pool) → (0 < rounds → pool' ≡ pool_refilled floor.pool r.grip (showing source)) → pool' ≡ r.pool
+  last_pool pool' kept put = by_case rounds r.fresh r.stale kept put
     where
-      by_case : (stale : Bool) → (stale ≡ false → r.pool ≡ floor.pool) → (stale ≡ true → (r.pool ≡ pool_refilled floor.pool r.grip (showing source)) × (length (showing source) ≤ 256)) →
-          (stale ≡ false → pool' ≡ floor.pool) → (stale ≡ true → pool' ≡ pool_refilled floor.pool r.grip (showing source)) → pool' ≡ r.pool
-      by_case true fresh old kept put = put refl ∙ sym (old refl).0
-      by_case false fresh old kept put = kept refl ∙ sym (fresh refl)
+      by_case : (n : ℕ) → (n ≡ 0 → r.pool ≡ floor.pool) → (0 < n → (r.pool ≡ pool_refilled floor.pool r.grip (showing source)) × (length (showing source) ≤ 256)) →
+          (n ≡ 0 → pool' ≡ floor.pool) → (0 < n → pool' ≡ pool_refilled floor.pool r.grip (showing source)) → pool' ≡ r.pool
+      by_case zero fresh old kept put = kept refl ∙ sym (fresh refl)
+      by_case (suc n) fresh old kept put = put (omega arith) ∙ sym (old (omega arith)).0
 
-  holders_still : (stale : Bool) → (stale ≡ false → r.pool ≡ floor.pool) → (stale ≡ true → (r.pool ≡ pool_refilled floor.pool r.grip (showing source)) × (length (showing source) ≤ 256)) →
+  holders_still : (n : ℕ) → (n ≡ 0 → r.pool ≡ floor.pool) → (0 < n → (r.pool ≡ pool_refilled floor.pool r.grip (showing source)) × (length (showing source) ≤ 256)) →
       holders_at floor.pool r.grip ≡ holders_at r.pool r.grip
-  holders_still true fresh old =
-      sym (ap (λ z. holders_at z r.grip) (old refl).0 ∙ ap holders_of (placed_here floor.pool.records r.grip (Some (refilled (showing source) (holders_at floor.pool r.grip)))))
-  holders_still false fresh old = ap (λ z. holders_at z r.grip) (sym (fresh refl))
+  holders_still zero fresh old = ap (λ z. holders_at z r.grip) (sym (fresh refl))
+  holders_still (suc n) fresh old =
+      sym (ap (λ z. holders_at z r.grip) (old (omega arith)).0 ∙ ap holders_of (placed_here floor.pool.records r.grip (Some (refilled (showing source) (holders_at floor.pool r.grip)))))
 
   -- what is offered is held, before the record that was shown is put there too
   pub held_still : offer_on (Telling.through floor.desk.wires (Some p.link)) ≡ Some r.grip → IsHeldIn floor.pool (offer_on (Telling.through floor.desk.wires (Some p.link)))
-  held_still offers = subst (IsHeldIn floor.pool) (sym offers) (some_held (record_at floor.pool r.grip) (holders_still is_stale r.fresh r.stale ∙ r.pair.relaying.two))
+  held_still offers = subst (IsHeldIn floor.pool) (sym offers) (some_held (record_at floor.pool r.grip) (holders_still rounds r.fresh r.stale ∙ r.pair.relaying.two))
     where
       some_held : (place : Option Held) → holders_of place ≡ 2 → IsSome place
       some_held None is = absurd (let no : ⊥ = omega (arith, is) in no)
@@ -458,9 +455,9 @@ module _ {S : Type 0} {stands : S → Strand → List Event → Type 0} {showing
   pub back_at : slice_set actors p.strand (with_stage source (without_stage r.actor)) ≡ slice_set actors p.strand r.actor
   back_at = ap (λ z. slice_set actors p.strand (record { stage = z; asked = r.actor.asked; looks = r.actor.looks; saw_end = r.actor.saw_end; passes = r.actor.passes })) (sym r.was)
 
-  pub sound_back : (net' : Net) (out' : List ℕ) (actors' : List (Actor S)) (desk' : DeskState) (pool' : PoolState) → net' ≡ net → out' ≡ out → actors' ≡ slice_set actors p.strand (with_stage source (without_stage r.actor)) →
-      desk' ≡ floor.desk → pool' ≡ r.pool → IsSound stands net' limit journal out' actors' desk' pool'
-  sound_back net' out' actors' desk' pool' nets outs actors_are desks pools = sound_at nets refl outs (actors_are ∙ back_at) desks pools r.sound
+  pub sound_back : (net' : Net) (journal' : List Entry) (out' : List ℕ) (actors' : List (Actor S)) (desk' : DeskState) (pool' : PoolState) → net' ≡ net → journal' ≡ journal → out' ≡ out → actors' ≡ slice_set actors p.strand (with_stage source (without_stage r.actor)) →
+      desk' ≡ floor.desk → pool' ≡ r.pool → IsSound stands net' limit journal' out' actors' desk' pool'
+  sound_back net' journal' out' actors' desk' pool' nets journals outs actors_are desks pools = sound_at nets journals outs (actors_are ∙ back_at) desks pools r.sound
 
   pub due_back : (net' : Net) (desk' : DeskState) (pool' : PoolState) → net' ≡ net → desk' ≡ floor.desk → pool' ≡ r.pool → IsDue net' desk' pool' p
   due_back net' desk' pool' nets desks pools = (

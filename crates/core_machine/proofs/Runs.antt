@@ -1,17 +1,23 @@
 -- A run is made of its steps, each of an event that it makes.
-use Rattle.std.proofs.Common.{◌≡◌, ◌≢◌, ◌≤◌, ◌<◌, ℕ, ◌+◌, Bool, false, true, not, List, [], ◌∷◌, ◌++◌, ◌⊎◌, inl, inr, length, length-append, refl, sym, ◌∙◌, ap, subst, arith, Some}
+use Rattle.std.proofs.Common.{◌≡◌, ◌≢◌, ◌≤◌, ◌<◌, ℕ, ◌+◌, Bool, false, true, not, List, [], ◌∷◌, ◌++◌, ◌⊎◌, inl, inr, length, length-append, refl, sym, ◌∙◌, ap, subst, arith, Some, None, Option, cond}
 use Rattle.std.specs.Prelude.{Result, Ok, Err, IfOk, OnOk, OnErr}
 use Rattle.pipe_model.specs.declared.step.Entry.{Entry}
 use Rattle.pipe_model.specs.declared.step.Seen.{Seen}
 use Rattle.pipe_model.specs.declared.step.Seen.TheVariants as Told
+use Rattle.pipe_model.specs.Event.{Event}
+use Rattle.pipe_model.specs.Licence.{Left, answer, licence, sight_of, want_after}
+use Rattle.pipe_model.specs.State.{State, past, strand_at}
+use Rattle.pipe_model.specs.declared.net.Net.{Net}
+use Rattle.pipe_model.specs.declared.net.Strand.{Strand}
 use Rattle.pipe_model.proofs.Lists.{length_more}
+use Rattle.std.proofs.lemmas.Option.{slice_get_within}
 use Rattle.core_machine.specs.declared.floor.Ahead.{Ahead}
 use Rattle.core_machine.specs.declared.floor.Ahead.TheVariants as Known
 use Rattle.core_machine.specs.declared.run.Which.{Which}
 use Rattle.core_machine.specs.declared.run.Which.TheVariants.{All, OfRecords, Quiet}
 use Rattle.core_machine.specs.Ahead.{event_ahead, IsAhead}
 use Rattle.core_machine.specs.Answered.{LeastReady, LeastEvent, AreLeast, HasRun, AreOnRecords, HasRunOnRecords, IsEndOnRecords, HasBroken, HasMade, is_of_record}
-use Rattle.core_machine.specs.Machine.{Machine}
+use Rattle.core_machine.specs.Machine.{Machine, left_by, state_of}
 use Rattle.core_machine.specs.Runs.{AreSteps, HasRunBy, IsEndBy, is_made, may_end}
 use Rattle.core_machine.proofs.Steps.{append_none, append_twice, append_three}
 
@@ -24,7 +30,7 @@ pub searches_once : (ahead : Ahead) → searches ahead ≤ 1
 searches_once Known.Search = omega arith
 searches_once (Known.Saw s i) = omega arith
 searches_once (Known.Took s i) = omega arith
-searches_once (Known.Put s o) = omega arith
+searches_once (Known.Put s o at_once) = omega arith
 
 -- what is of a record without sights is made by every run
 pub makes_quiet : (which : Which) (seen : Seen) → is_of_record false seen ≡ true → is_made which seen ≡ true
@@ -80,16 +86,16 @@ runs_go made m n k s i limit seen on few least is step =
       let a = on.3 in omega (arith, a, budget),
     )
 
--- it goes on by an event and maybe a second, by which the strand took a record
-pub runs_make : (made : Seen → Bool) (m n k : Machine) (s i limit : ℕ) (seen : Seen) → IsUnderWay made m limit n → length n.journal < limit → LeastEvent n (Some (s, i, seen)) →
-    made seen ≡ true → ((j : ℕ) → made (Told.Took j) ≡ true) → HasMade n (record { strand = s; stream = i }) limit k → IsUnderWay made m limit k
-runs_make made m n k s i limit seen on few least is takes (inl one) = runs_go made m n k s i limit seen on few least is one
+-- it goes on by an event and maybe a second, by which the strand took a record, where both have room
+pub runs_make : (made : Seen → Bool) (m n k : Machine) (s i limit : ℕ) (seen : Seen) → IsUnderWay made m limit n → length n.journal + 1 < limit → LeastEvent n (Some (s, i, seen)) →
+    made seen ≡ true → ((j : ℕ) → made (Told.Took j) ≡ true) → HasMade n (record { strand = s; stream = i }) k → IsUnderWay made m limit k
+runs_make made m n k s i limit seen on few least is takes (inl one) = runs_go made m n k s i limit seen on (omega (arith, few)) least is one
 runs_make made m n k s i limit seen on few least is takes (inr two) =
     let e : Entry = record { strand = s; stream = i } in
     let first : Machine = record n { journal = n.journal ++ e ∷ [] } in
-    let next = runs_go made m n first s i limit seen on few least is refl in
-    let more : length first.journal < limit = (let a = length_more n.journal e in let b = two.2 in omega (arith, a, b)) in
-    runs_go made m first k s two.0 limit (Told.Took two.0) next more two.1 (takes two.0) two.3
+    let next = runs_go made m n first s i limit seen on (omega (arith, few)) least is refl in
+    let more : length first.journal < limit = (let a = length_more n.journal e in omega (arith, a, few)) in
+    runs_go made m first k s two.0 limit (Told.Took two.0) next more two.1 (takes two.0) two.2
 
 -- two runs, one after the other, are one
 steps_join : (made : Seen → Bool) (m : Machine) (es fs : List Entry) → AreSteps made m es → AreSteps made (record m { journal = m.journal ++ es }) fs → AreSteps made m (es ++ fs)
@@ -189,7 +195,7 @@ pub search_over : (ahead : Ahead) → ahead ≢ Known.Search → searches ahead 
 search_over Known.Search other = absurd (other refl)
 search_over (Known.Saw s i) other = refl
 search_over (Known.Took s i) other = refl
-search_over (Known.Put s o) other = refl
+search_over (Known.Put s o at_once) other = refl
 
 -- what is known is the least event
 pub least_ahead : (n : Machine) (ahead known : Ahead) (e : ℕ × ℕ × Seen) → IsAhead n ahead → ahead ≡ known → event_ahead known ≡ Some e → LeastEvent n (Some e)
@@ -214,8 +220,24 @@ ok_each P Q (Ok x) f p = f x p
 ok_each P Q (Err e) f p = tt
 
 -- after a run an event is made, and maybe a second, by which its strand took a record
-pub run_then : (made : Seen → Bool) (m n k : Machine) (s i limit : ℕ) (seen : Seen) → m.is_broken ≡ false → limit ≤ m.budget → HasRunBy made m n → length n.journal < limit →
-    LeastEvent n (Some (s, i, seen)) → made seen ≡ true → ((j : ℕ) → made (Told.Took j) ≡ true) → HasMade n (record { strand = s; stream = i }) limit k → IsUnderWay made m limit k
+pub run_then : (made : Seen → Bool) (m n k : Machine) (s i limit : ℕ) (seen : Seen) → m.is_broken ≡ false → limit ≤ m.budget → HasRunBy made m n → length n.journal + 1 < limit →
+    LeastEvent n (Some (s, i, seen)) → made seen ≡ true → ((j : ℕ) → made (Told.Took j) ≡ true) → HasMade n (record { strand = s; stream = i }) k → IsUnderWay made m limit k
 run_then made m n k s i limit seen whole budget run few least is takes does =
     runs_make made m n k s i limit seen
     (run, ap (λ (z : Machine). z.is_broken) run.after ∙ whole, (omega (arith, few)), subst (λ b. limit ≤ b) (sym (ap (λ (z : Machine). z.budget) run.after)) budget) few least is takes does
+
+-- a strand that may have an event is one of the net
+licensed_inside : (net : Net) (st : State) (left : Left) (s k : ℕ) (e : Event) → licence net st left s k ≡ Some e → s < length net.strands
+licensed_inside net st left s k e may = go (strand_at net st s) refl
+  where
+    nothing : (b : Bool) → cond b None (want_after None (past st s)) ≡ None
+    nothing true = refl
+    nothing false = refl
+
+    go : (x : Option Strand) → strand_at net st s ≡ x → s < length net.strands
+    go None is = let none : licence net st left s k ≡ None = ap (λ x. answer (sight_of net st left s) k (cond (left s) None (want_after x (past st s)))) is ∙ ap (answer (sight_of net st left s) k) (nothing (left s)) in cc
+    go (Some p) is = slice_get_within net.strands s _ is
+
+-- so is that of the least event
+pub least_inside : (m : Machine) (s k : ℕ) (seen : Seen) → LeastEvent m (Some (s, k, seen)) → s < length m.net.strands
+least_inside m s k seen least = licensed_inside m.net (state_of m) (left_by m.journal m.out) s k least.1.0 least.1.1

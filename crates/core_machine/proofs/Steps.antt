@@ -31,11 +31,11 @@ run_spends m n k r run lawful full same ready =
     subst (λ (z : Machine). HasRun m z × Ends Spent z) (sym same) (run, (at, (r, ready)))
 
 -- by either it has more entries
-pub made_longer : (m k : Machine) (e : Entry) (limit : ℕ) → HasMade m e limit k → length m.journal < length k.journal
-made_longer m k e limit (inl one) = let long : length k.journal ≡ length (m.journal ++ e ∷ []) = ap (λ (z : Machine). length z.journal) one in let a = length_more m.journal e in omega (arith, a, long)
-made_longer m k e limit (inr two) =
+pub made_longer : (m k : Machine) (e : Entry) → HasMade m e k → length m.journal < length k.journal
+made_longer m k e (inl one) = let long : length k.journal ≡ length (m.journal ++ e ∷ []) = ap (λ (z : Machine). length z.journal) one in let a = length_more m.journal e in omega (arith, a, long)
+made_longer m k e (inr two) =
     let next : Entry = record { strand = e.strand; stream = two.0 } in
-    let long : length k.journal ≡ length ((m.journal ++ e ∷ []) ++ next ∷ []) = ap (λ (z : Machine). length z.journal) two.3 in
+    let long : length k.journal ≡ length ((m.journal ++ e ∷ []) ++ next ∷ []) = ap (λ (z : Machine). length z.journal) two.2 in
     let a = length_more m.journal e in
     let b = length_more (m.journal ++ e ∷ []) next in
     omega (arith, a, b, long)

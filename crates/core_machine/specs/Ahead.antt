@@ -24,7 +24,7 @@ abbrev pub event_ahead : Ahead → Option (ℕ × ℕ × Seen)
 event_ahead Known.Search = None
 event_ahead (Known.Saw s i) = Some (s, i, Saw i)
 event_ahead (Known.Took s i) = Some (s, i, Took i)
-event_ahead (Known.Put s o) = Some (s, o, Put o)
+event_ahead (Known.Put s o at_once) = Some (s, o, Put o)
 
 -- where one is known, it is the least that may be
 abbrev pub IsAheadOn : DeskState → Ahead → Type 0

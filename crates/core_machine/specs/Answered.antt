@@ -118,11 +118,11 @@ abbrev pub IsEndOnRecords : ℕ → ℕ → Machine → Type 0
 IsEndOnRecords most made m =
     (made ≡ most) ⊎ ((length m.journal ≡ m.budget) ⊎ (LeastEvent m None ⊎ ((r : ℕ × ℕ × Seen) × LeastEvent m (Some r) × (is_of_record false r.2 ≡ false))))
 
--- the event of the entry was made, and maybe a second of the strand, by which it took a record, where the journal has fewer entries than the limit then
-abbrev pub HasMade : Machine → Entry → ℕ → Machine → Type 0
-HasMade m e limit n =
+-- the event of the entry was made, and maybe a second of the strand, by which it took a record
+abbrev pub HasMade : Machine → Entry → Machine → Type 0
+HasMade m e n =
     (n ≡ record m { journal = m.journal ++ e ∷ [] })
-    ⊎ ((i : ℕ) × LeastEvent (record m { journal = m.journal ++ e ∷ [] }) (Some (e.strand, i, Took i)) × (length m.journal + 1 < limit)
+    ⊎ ((i : ℕ) × LeastEvent (record m { journal = m.journal ++ e ∷ [] }) (Some (e.strand, i, Took i))
     × (n ≡ record m { journal = (m.journal ++ e ∷ []) ++ (record { strand = e.strand; stream = i }) ∷ [] }))
 
 -- how a run ended

@@ -1,4 +1,4 @@
-ghost use Rattle.std.specs.Prelude.{◌≡◌, ◌≢◌, ◌<◌, ◌≤◌, ◌-◌, ◌^◌, ◌/◌, ◌*◌, ℕ, length, replicate, MatchOption, IfSome, IfOk};
+ghost use Rattle.std.specs.Prelude.{◌≡◌, ◌≢◌, ◌<◌, ◌≤◌, ◌-◌, ◌^◌, ◌/◌, ◌*◌, ℕ, length, replicate, MatchOption, IfSome, IfOk, ◌==◌};
 ghost use Rattle.core_machine.specs.Members.{has, word_at, low_word, IsLeastBit};
 
 use pipe_model::NoMemory;
@@ -48,6 +48,14 @@ impl Bits {
         ensures { result ≡ word_at self.now k }
     {
         self.words[k]
+    }
+
+    /// Whether a number is in.
+    pub fn holds(&self, s: u32) -> bool
+        requires { s / 64 < length self.now }
+        ensures { result ≡ (has self.now s == 1) }
+    {
+        (self.word_in((s / 64) as usize) >> (s % 64)) & 1 == 1
     }
 
     /// Puts a number in.

@@ -7,6 +7,7 @@ use crate::job::{Finished, Job, Turned};
 use pipe_model::{Entry, NoMemory, Seen, Want};
 use stage_steps::Stage;
 use std::marker::Model;
+use step_journal::StepJournal;
 
 /// A net, its coroutines, and how far they are: it makes one event after another, and keeps each as an entry of its
 /// journal.
@@ -16,7 +17,7 @@ pub struct Core<S: Stage> {
     pub(crate) actors: Vec<Actor<S>>,
     // the places of the jobs that are out
     pub(crate) out: Vec<u64>,
-    pub(crate) journal: Vec<Entry>,
+    pub(crate) journal: StepJournal,
     pub(crate) is_broken: bool,
 }
 
@@ -29,7 +30,7 @@ impl<S: Stage> Model for Core<S> {
 
     ghost view = { λ c. record { net = c.floor.net; budget = c.budget; journal = c.journal.items; out = c.out.items; is_broken = c.is_broken } };
 
-    ghost invariant = { λ c. IsSound S.stands c.floor.net c.budget c.journal.items c.out.items c.actors.items c.floor.desk c.floor.pool × (c.budget ≤ vec_capacity c.journal) × (length c.floor.net.strands ≤ vec_capacity c.out) };
+    ghost invariant = { λ c. IsSound S.stands c.floor.net c.budget c.journal.items c.out.items c.actors.items c.floor.desk c.floor.pool × (c.budget ≤ c.journal.room) × (length c.floor.net.strands ≤ vec_capacity c.out) };
 }
 
 impl<S: Stage> Core<S> {
@@ -132,7 +133,7 @@ impl<S: Stage> Core<S> {
         ensures capacity { vec_capacity room.old ≤ vec_capacity room.new }
         ensures lawful { IsLawful self.new }
     {
-        if self.journal.len() as u64 >= self.budget {
+        if self.journal.len() >= self.budget {
             return Turned::Spent;
         }
         let looks = self.looks(strand);
@@ -192,7 +193,7 @@ impl<S: Stage> Core<S> {
         let stage = send_out(&mut self.actors, strand as usize, seen);
         self.floor.make(strand, seen);
         self.journal.push_reserved(Entry { strand, stream });
-        let place = self.journal.len() as u64;
+        let place = self.journal.len();
         self.out.push_reserved(place);
         Job {
             strand,

@@ -21,14 +21,24 @@ pub enum Ahead {
     Saw(u32, u16),
     /// The record seen on an input is taken.
     Took(u32, u16),
-    /// A record is put on an output.
-    Put(u32, u16),
+    /// A record is put on an output. The last is whether the strand there took it as soon as it saw it, as far as is known:
+    /// nothing is proved of that.
+    Put(u32, u16, bool),
 }
 
 impl Ahead {
-    /// Whether it is that a record is seen. Nothing is proved of the answer.
-    pub(crate) fn is_sight(self) -> bool {
-        matches!(self, Ahead::Saw(..))
+    ghost use Rattle.std.specs.Prelude.{◌≡◌};
+    ghost use Rattle.core_machine.specs.Ahead.{event_ahead};
+
+    /// The same after a strand took a record as soon as it saw it.
+    #[inline(always)]
+    pub(crate) fn at_once(self) -> Ahead
+        ensures { event_ahead result ≡ event_ahead self }
+    {
+        match self {
+            Ahead::Put(strand, o, _) => Ahead::Put(strand, o, true),
+            ahead => ahead,
+        }
     }
 }
 
@@ -297,7 +307,7 @@ impl Floor {
         if its.queue || its.from >= strand {
             return Ahead::Search;
         }
-        Ahead::Put(its.from, its.output)
+        Ahead::Put(its.from, its.output, false)
     }
 
     // After a strand offered a record its consumer may see it: that is next where the consumer stands before the strand that writes, or right
@@ -327,7 +337,7 @@ impl Floor {
         ensures { (d : DeskState) (pool : PoolState) (stream : ℕ) (seen : SeenIs) (o : ℕ) (asked : Asked) → HasGoneQuietly self.now.net d pool strand stream seen asked self.now.desk self.now.pool →
             HasSeenOrPut self.now.net d strand seen → IsWriteOn o asked → Telling.out_door self.now.desk strand o ≡ Some link → IsAheadOn self.now.desk result }
     {
-        let is_near = its.to < strand || its.to - strand == 1;
+        let is_near = (its.to as u64) < strand as u64 + 2;
         if is_near && self.desk.waits(link) && self.desk.reads(its.to, its.input) {
             Ahead::Saw(its.to, its.input)
         } else {

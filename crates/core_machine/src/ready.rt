@@ -54,6 +54,21 @@ impl Ready {
         ensures others { (t : ℕ) → t ≢ strand → is_member self.new t ≡ is_member self.old t }
         ensures size { self.new.size ≡ self.old.size }
     {
+        // Most often it is there.
+        if !self.members.holds(strand) {
+            self.insert_new(strand);
+        }
+    }
+
+    // Puts a strand in that may not be there.
+    #[cold]
+    #[inline(never)]
+    fn insert_new(&mut self, strand: u32)
+        requires { strand < self.old.size }
+        ensures here { is_member self.new strand ≡ true }
+        ensures others { (t : ℕ) → t ≢ strand → is_member self.new t ≡ is_member self.old t }
+        ensures size { self.new.size ≡ self.old.size }
+    {
         self.members.insert(strand);
         self.summary.insert(strand / 64);
     }

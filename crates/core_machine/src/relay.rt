@@ -18,6 +18,7 @@ use pipe_model::{Entry, NoMemory, Out, Rec, Want};
 use stage_steps::{Reply, Stage};
 use std::alloc::Global;
 use std::mem;
+use step_journal::StepJournal;
 
 // A record of more bytes isn't shown, but put in the pool.
 const SHORT_RECORD: usize = 256;
@@ -87,7 +88,7 @@ fn writes_new(asked: &Want, output: u16) -> bool
 pub(crate) fn relay<S: Stage, G: Gate>(
     floor: &mut Floor,
     actors: &mut Vec<Actor<S>>,
-    journal: &mut Vec<Entry>,
+    journal: &mut StepJournal,
     out: &mut Vec<u64>,
     alloc: Global,
     gate: &G,
@@ -97,7 +98,7 @@ pub(crate) fn relay<S: Stage, G: Gate>(
     requires sound { IsSound S.stands floor.old.net limit journal.old.items out.old.items actors.old.items floor.old.desk floor.old.pool }
     requires due { IsDue floor.old.net floor.old.desk floor.old.pool pair }
     requires writer { IsWriter actors.old.items pair }
-    requires room { limit ≤ vec_capacity journal.old }
+    requires room { limit ≤ journal.old.room }
     requires room_out { length floor.old.net.strands ≤ vec_capacity out.old }
     ensures net { floor.new.net ≡ floor.old.net }
     ensures sound { IsSound S.stands floor.new.net limit journal.new.items out.new.items actors.new.items floor.new.desk floor.new.pool }
@@ -107,7 +108,7 @@ pub(crate) fn relay<S: Stage, G: Gate>(
     ensures out { OnOk result (out.new.items ≡ out.old.items) }
     ensures due { IfOk result (λ over. over ≡ false → IsDue floor.new.net floor.new.desk floor.new.pool pair) }
     ensures lacks { OnErr result (IsLonger journal.old.items journal.new.items × (length journal.old.items < length journal.new.items) × (out.new.items ≡ out.old.items ++ length journal.new.items ∷ [])) }
-    ensures capacity { vec_capacity journal.new ≡ vec_capacity journal.old }
+    ensures capacity { journal.new.room ≡ journal.old.room }
     ensures capacity_out { vec_capacity out.new ≡ vec_capacity out.old }
 {
     let Ok(room) = Vec::with_capacity(alloc, SHORT_RECORD) else {
@@ -126,41 +127,41 @@ pub(crate) fn relay<S: Stage, G: Gate>(
         strand: pair.to,
         stream: 0,
     };
-    let mut is_stale = false;
-    loop {
-        if journal.len() as u64 + 3 > limit {
-            break;
-        }
+    // As many rounds are left as have room for their three entries.
+    let most = (limit - journal.len()) / 3;
+    let mut rounds = 0;
+    while rounds < most {
         if !source.show(pair.output) {
             break;
         }
-        is_stale = true;
-        journal.push_reserved(put);
-        journal.push_reserved(taken);
         gate.enter(pair.to);
         let reader = &mut actors[pair.to as usize];
         let bytes = bytes_shown(&source, reader.looks);
         let reply = see(reader, alloc, 0, bytes);
         if let Ok(Reply::Takes) = reply {
-            journal.push_reserved(taken);
             floor.relay(pair.link);
+            rounds += 1;
             continue;
         }
+        journal.push_rounds(put, taken, taken, rounds);
+        journal.push_reserved(put);
+        journal.push_reserved(taken);
         floor.refill(pair.link, copied(room, source.shown()));
         floor.show(pair.to, pair.link);
         actors[pair.strand as usize].stage = Some(source);
         let reader = &mut actors[pair.to as usize];
         let Ok(_) = reply else {
-            give_up(reader, out, journal.len() as u64);
+            give_up(reader, out, journal.len());
             return Err(NoMemory);
         };
         let Ok(()) = floor.come_home(pair.to, false, &mut reader.asked) else {
-            give_up(reader, out, journal.len() as u64);
+            give_up(reader, out, journal.len());
             return Err(NoMemory);
         };
         return Ok(true);
     }
-    if is_stale {
+    journal.push_rounds(put, taken, taken, rounds);
+    if rounds > 0 {
         floor.refill(pair.link, copied(room, source.shown()));
     }
     actors[pair.strand as usize].stage = Some(source);

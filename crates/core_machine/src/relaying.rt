@@ -251,6 +251,7 @@ impl Floor {
         ensures desk { self.new.desk ≡ self.old.desk }
         ensures ready { self.new.ready ≡ self.old.ready }
         ensures pool { (grip : ℕ) → offer_on (Telling.through self.old.desk.wires (Some link)) ≡ Some grip → self.new.pool ≡ pool_refilled self.old.pool grip rec }
+        ensures none { offer_on (Telling.through self.old.desk.wires (Some link)) ≡ None → self.new.pool ≡ self.old.pool }
     {
         self.desk.refill(&mut self.pool, link, rec);
     }

@@ -113,10 +113,8 @@ impl<S: Stage> Core<S> {
         ensures lawful { IsLawful self.new }
     {
         let mut ahead = Ahead::Search;
-        // Whether the step before was that a strand saw a record. Where one is put then, that strand took it at once.
-        let mut has_taken = false;
-        while self.len() < limit {
-            let is_sight = ahead.is_sight();
+        // Each step of the loop has room for two events.
+        while self.len() + 1 < limit {
             ahead = match ahead {
                 Ahead::Search => match self.least_event() {
                     None => return Ok(()),
@@ -139,14 +137,45 @@ impl<S: Stage> Core<S> {
                     if !is_made {
                         return Ok(());
                     }
-                    self.see(alloc, gate, strand, i, limit)?
+                    self.see(alloc, gate, strand, i)?
                 }
                 Ahead::Took(strand, i) => self.go_on(alloc, gate, strand, i, Seen::Took(i))?,
-                Ahead::Put(strand, o) => self.put_on(
-                    alloc, gate, which, has_taken, strand, o, limit,
+                Ahead::Put(strand, o, at_once) => self.put_on(
+                    alloc, gate, which, at_once, strand, o, limit,
                 )?,
             };
-            has_taken = is_sight;
+        }
+        self.run_last(alloc, gate, which, limit)
+    }
+
+    // The same where one event has room at most.
+    #[cold]
+    #[inline(never)]
+    fn run_last<G: Gate>(
+        &mut self,
+        alloc: Global,
+        gate: &G,
+        which: Which,
+        limit: u64,
+    ) -> Result<(), NoMemory>
+        requires whole { self.old.is_broken ≡ false }
+        requires limit { limit ≤ self.old.budget }
+        requires within { length self.old.journal ≤ limit }
+        requires last { limit ≤ length self.old.journal + 1 }
+        ensures runs { IfOk result (λ _. HasRunBy (is_made which) self.old self.new) }
+        ensures within { IfOk result (λ _. length self.new.journal ≤ limit) }
+        ensures ends { IfOk result (λ _. IsEndBy (may_end which) limit self.new) }
+        ensures lacks { OnErr result (HasBroken self.old self.new) }
+        ensures lawful { IsLawful self.new }
+    {
+        if self.len() >= limit {
+            return Ok(());
+        }
+        let Some((strand, stream, seen)) = self.least_event() else {
+            return Ok(());
+        };
+        if which.makes(seen) {
+            self.go_on_otherwise(alloc, gate, strand, stream, seen)?;
         }
         Ok(())
     }
@@ -189,20 +218,15 @@ impl<S: Stage> Core<S> {
         gate: &G,
         strand: u32,
         i: u16,
-        limit: u64,
     ) -> Result<Ahead, NoMemory>
         requires least { LeastEvent self.old (Some (strand, i, Told.Saw i)) }
-        requires space { length self.old.journal < limit }
-        requires limit { limit ≤ self.old.budget }
+        requires space { length self.old.journal + 1 < self.old.budget }
         requires whole { self.old.is_broken ≡ false }
-        ensures goes { OnOk result (HasMade self.old (record { strand = strand; stream = i }) limit self.new) }
+        ensures goes { OnOk result (HasMade self.old (record { strand = strand; stream = i }) self.new) }
         ensures ahead { IfOk result (IsAhead self.new) }
         ensures lacks { OnErr result (HasBroken self.old self.new) }
         ensures lawful { IsLawful self.new }
     {
-        if self.journal.len() as u64 + 1 >= limit {
-            return self.see_otherwise(alloc, gate, strand, i);
-        }
         if self.floor.may_settle(strand, Seen::Saw(i)) {
             return self.see_otherwise(alloc, gate, strand, i);
         }
@@ -215,23 +239,27 @@ impl<S: Stage> Core<S> {
         let bytes = self.floor.bytes_ahead(actor.looks, from);
         let Ok(reply) = see(actor, alloc, i, bytes) else {
             self.floor.see_in_vain(strand, i);
-            give_up(actor, &mut self.out, self.journal.len() as u64);
+            give_up(actor, &mut self.out, self.journal.len());
             self.is_broken = true;
             return Err(NoMemory);
         };
         if matches!(reply, Reply::Takes) {
             self.journal.push_reserved(Entry { strand, stream: 0 });
-            return Ok(self.floor.take_after(strand, Seen::Saw(0), None, 0, from));
+            return Ok(
+                self.floor
+                    .take_after(strand, Seen::Saw(0), None, 0, from)
+                    .at_once(),
+            );
         }
         let Ok(ahead) = self.floor.see(strand, i, from, &mut actor.asked) else {
-            give_up(actor, &mut self.out, self.journal.len() as u64);
+            give_up(actor, &mut self.out, self.journal.len());
             self.is_broken = true;
             return Err(NoMemory);
         };
         Ok(ahead)
     }
 
-    // The same where the sight may settle something for many strands, or no second event has room.
+    // The same where the sight may settle something for many strands.
     #[cold]
     #[inline(never)]
     fn see_otherwise<G: Gate>(
@@ -261,13 +289,13 @@ impl<S: Stage> Core<S> {
         alloc: Global,
         gate: &G,
         which: Which,
-        has_taken: bool,
+        at_once: bool,
         strand: u32,
         o: u16,
         limit: u64,
     ) -> Result<Ahead, NoMemory>
         requires least { LeastEvent self.old (Some (strand, o, Told.Put o)) }
-        requires space { length self.old.journal < limit }
+        requires space { length self.old.journal + 1 < limit }
         requires limit { limit ≤ self.old.budget }
         requires whole { self.old.is_broken ≡ false }
         ensures goes { OnOk result (HasRunBy (is_made which) self.old self.new) }
@@ -277,52 +305,33 @@ impl<S: Stage> Core<S> {
         ensures lacks { OnErr result (HasBroken self.old self.new) }
         ensures lawful { IsLawful self.new }
     {
-        if matches!(which, Which::All) {
-            if self.relay(alloc, gate, has_taken, strand, o, limit)? {
-                return Ok(Ahead::Search);
-            }
-            if self.journal.len() as u64 >= limit {
-                return Ok(Ahead::Put(strand, o));
+        if at_once {
+            if matches!(which, Which::All) {
+                if self.is_first(strand) {
+                    if self.relay(alloc, gate, strand, o, limit)? {
+                        return Ok(Ahead::Search);
+                    }
+                    if self.len() + 1 >= limit {
+                        return Ok(Ahead::Put(strand, o, false));
+                    }
+                }
             }
         }
-        self.put(alloc, gate, strand, o, limit)
+        self.put(alloc, gate, strand, o)
+    }
+
+    // Whether no link leads to a strand's input 0.
+    #[inline(always)]
+    fn is_first(&self, strand: u32) -> bool
+        requires { strand < length self.now.net.strands }
+    {
+        self.floor.link_in(strand, 0).is_none()
     }
 
     // The same as long as records are shown, and maybe not at all. The answer is whether another event follows than that the strand
     // puts a record on the output.
-    #[inline(always)]
-    fn relay<G: Gate>(
-        &mut self,
-        alloc: Global,
-        gate: &G,
-        has_taken: bool,
-        strand: u32,
-        o: u16,
-        limit: u64,
-    ) -> Result<bool, NoMemory>
-        requires least { LeastEvent self.old (Some (strand, o, Told.Put o)) }
-        requires space { length self.old.journal < limit }
-        requires limit { limit ≤ self.old.budget }
-        requires whole { self.old.is_broken ≡ false }
-        ensures goes { OnOk result (HasRunBy (is_made Makes.All) self.old self.new) }
-        ensures more { IfOk result (λ over. over ≡ true → length self.old.journal < length self.new.journal) }
-        ensures within { OnOk result (length self.new.journal ≤ limit) }
-        ensures due { IfOk result (λ over. over ≡ false → LeastEvent self.new (Some (strand, o, Told.Put o))) }
-        ensures lacks { OnErr result (HasBroken self.old self.new) }
-        ensures lawful { IsLawful self.new }
-    {
-        if self.actors.len() < 2 {
-            return Ok(false);
-        }
-        if !has_taken {
-            return Ok(false);
-        }
-        self.relay_apart(alloc, gate, strand, o, limit)
-    }
-
-    // The same, apart from the loop.
     #[inline(never)]
-    fn relay_apart<G: Gate>(
+    fn relay<G: Gate>(
         &mut self,
         alloc: Global,
         gate: &G,
@@ -369,13 +378,11 @@ impl<S: Stage> Core<S> {
         gate: &G,
         strand: u32,
         o: u16,
-        limit: u64,
     ) -> Result<Ahead, NoMemory>
         requires least { LeastEvent self.old (Some (strand, o, Told.Put o)) }
-        requires space { length self.old.journal < limit }
-        requires limit { limit ≤ self.old.budget }
+        requires space { length self.old.journal + 1 < self.old.budget }
         requires whole { self.old.is_broken ≡ false }
-        ensures goes { OnOk result (HasMade self.old (record { strand = strand; stream = o }) limit self.new) }
+        ensures goes { OnOk result (HasMade self.old (record { strand = strand; stream = o }) self.new) }
         ensures ahead { IfOk result (IsAhead self.new) }
         ensures lacks { OnErr result (HasBroken self.old self.new) }
         ensures lawful { IsLawful self.new }
@@ -385,7 +392,7 @@ impl<S: Stage> Core<S> {
         };
         self.journal.push_reserved(Entry { strand, stream: o });
         let actor = &mut self.actors[strand as usize];
-        if actor.passes && (self.journal.len() as u64) < limit {
+        if actor.passes {
             if let Some(from) = self.floor.link_in(strand, 0) {
                 self.journal.push_reserved(Entry { strand, stream: 0 });
                 ask(actor, Want::Read(0));
@@ -397,12 +404,12 @@ impl<S: Stage> Core<S> {
         }
         let Ok(()) = put(actor, alloc, o) else {
             self.floor.put_in_vain(strand, o);
-            give_up(actor, &mut self.out, self.journal.len() as u64);
+            give_up(actor, &mut self.out, self.journal.len());
             self.is_broken = true;
             return Err(NoMemory);
         };
         let Ok(ahead) = self.floor.put(strand, o, link, &mut actor.asked) else {
-            give_up(actor, &mut self.out, self.journal.len() as u64);
+            give_up(actor, &mut self.out, self.journal.len());
             self.is_broken = true;
             return Err(NoMemory);
         };
@@ -456,12 +463,12 @@ impl<S: Stage> Core<S> {
         let actor = &mut self.actors[strand as usize];
         let bytes = self.floor.bytes_told(actor.looks, strand, seen);
         let Ok(()) = advance(actor, alloc, seen, bytes) else {
-            give_up(actor, &mut self.out, self.journal.len() as u64);
+            give_up(actor, &mut self.out, self.journal.len());
             self.is_broken = true; // its coroutine isn't resumed again
             return Err(NoMemory);
         };
         let Ok(()) = self.floor.come_home(strand, ends(seen), &mut actor.asked) else {
-            give_up(actor, &mut self.out, self.journal.len() as u64);
+            give_up(actor, &mut self.out, self.journal.len());
             self.is_broken = true;
             return Err(NoMemory);
         };
@@ -491,7 +498,7 @@ fn known(strand: u32, stream: u16, seen: Seen) -> Ahead
     match seen {
         Seen::Saw(i) if i == stream => Ahead::Saw(strand, i),
         Seen::Took(i) if i == stream => Ahead::Took(strand, i),
-        Seen::Put(o) if o == stream => Ahead::Put(strand, o),
+        Seen::Put(o) if o == stream => Ahead::Put(strand, o, false),
         _ => Ahead::Search,
     }
 }

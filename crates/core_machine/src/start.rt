@@ -15,6 +15,7 @@ use crate::floor::Floor;
 use pipe_model::{Net, NoMemory, Want};
 use stage_steps::Stage;
 use std::alloc::Global;
+use step_journal::StepJournal;
 
 impl<S: Stage> Core<S> {
     ghost use Rattle.std.specs.Prelude.{◌≡◌, ◌≤◌, IfOk};
@@ -31,7 +32,7 @@ impl<S: Stage> Core<S> {
         ensures { IfOk result (λ core. core ≡ started net budget) }
     {
         let strands = net.strands.as_slice().len();
-        let journal = Vec::with_capacity(alloc, budget as usize)?;
+        let journal = StepJournal::with_room(alloc, budget as usize)?;
         let out = Vec::with_capacity(alloc, strands)?;
         let mut actors = new_actors(alloc, stages)?;
         let mut floor = Floor::new(alloc, net)?;

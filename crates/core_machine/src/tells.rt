@@ -1,9 +1,10 @@
 use crate::core_state::Core;
-use pipe_model::{Entry, Net, Want};
+use pipe_model::{Entry, Net, NoMemory, Want};
 use stage_steps::Stage;
+use std::alloc::Global;
 
 impl<S: Stage> Core<S> {
-    ghost use Rattle.std.specs.Prelude.{◌≡◌, ◌<◌, ◌≤◌, ◌-◌, Some, None, true, false, length, slice_get, MatchOption};
+    ghost use Rattle.std.specs.Prelude.{◌≡◌, ◌<◌, ◌≤◌, ◌-◌, Some, None, true, false, length, slice_get, MatchOption, IfOk};
     ghost use Rattle.pipe_model.specs.declared.net.Strand.{Strand as StrandIs};
     ghost use Rattle.pipe_model.specs.Event.{Want as Wanted, has_seen_end};
     ghost use Rattle.pipe_model.specs.State.{past, strand_at, nothing_yet};
@@ -59,7 +60,7 @@ impl<S: Stage> Core<S> {
         ensures length { result ≡ length self.now.journal }
         ensures lawful { IsLawful self.now }
     {
-        self.journal.len() as u64
+        self.journal.len()
     }
 
     /// The entry at a place of the journal, counted from 1.
@@ -68,15 +69,15 @@ impl<S: Stage> Core<S> {
         requires within { k ≤ length self.now.journal }
         ensures { slice_get self.now.journal (k - 1) ≡ Some result }
     {
-        self.journal[k as usize - 1]
+        self.journal.entry(k)
     }
 
     /// The entries of the journal one by one.
-    pub fn entries(&self) -> &[Entry]
-        ensures all { result.now ≡ self.now.journal }
+    pub fn entries(&self, alloc: Global) -> Result<Vec<Entry>, NoMemory>
+        ensures all { IfOk result (λ all. all.items ≡ self.now.journal) }
         ensures lawful { IsLawful self.now }
     {
-        &self.journal
+        self.journal.entries(alloc)
     }
 
     /// What a strand wants, unless it is out or has ended. A new record that it writes is shown as an empty one.

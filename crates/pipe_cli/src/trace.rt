@@ -34,7 +34,7 @@ pub(crate) fn trace_of(
     match name {
         None => Ok(None),
         Some(name) => {
-            let text = text_of(alloc, core.entries())?;
+            let text = text_of(alloc, &core.entries(alloc)?)?;
             let fault = Rec::from_vec(shelf_fault(alloc, name.bytes())?);
             Ok(Some(Trace { name, text, fault }))
         }

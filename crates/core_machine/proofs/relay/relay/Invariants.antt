@@ -1,11 +1,13 @@
-use Rattle.std.proofs.Common.{◌≡◌, ◌-◌, length, vec_capacity}
+use Rattle.std.proofs.Common.{◌≡◌, ◌≤◌, ◌-◌, ◌++◌}
 use Rattle.core_machine.proofs.Rounds.{AreRelaying}
+use Rattle.core_machine.proofs.RoundsOf.{rounds}
 use Rattle.core_machine.proofs.relay.relay.Given as goal
 
-abbrev pub invariant-loop-alloc : goal.invariant-loop-alloc
-invariant-loop-alloc g l =
-    AreRelaying g.S.Stage.stands g.S.Stage.showing l.limit l.pair l.fn.floor.net l.fn.journal.items l.fn.out.items l.floor l.actors.items l.journal.items l.source l.is_stale
-    × (l.out ≡ l.fn.out) × (vec_capacity l.journal ≡ vec_capacity l.fn.journal)
+-- The rounds are not in the journal yet, and the core is sound with them.
+abbrev pub invariant-loop-rounds : goal.invariant-loop-rounds
+invariant-loop-rounds g l =
+    AreRelaying g.S.Stage.stands g.S.Stage.showing l.limit l.pair l.fn.floor.net l.fn.journal.items l.fn.out.items l.floor l.actors.items (l.fn.journal.items ++ rounds l.pair l.rounds) l.source l.rounds
+    × (l.out ≡ l.fn.out) × (l.journal ≡ l.fn.journal) × (l.rounds ≤ l.most)
 
-abbrev pub decreases-loop-alloc : goal.decreases-loop-alloc
-decreases-loop-alloc g l = l.limit - length l.journal.items
+abbrev pub decreases-loop-rounds : goal.decreases-loop-rounds
+decreases-loop-rounds g l = l.most - l.rounds

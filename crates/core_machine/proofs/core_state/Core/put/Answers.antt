@@ -2,6 +2,7 @@
 use Rattle.std.proofs.Common.{rules, ◌≡◌, ◌<◌, ◌≤◌, ◌+◌, inr, [], Some, true, ◌++◌, ◌∷◌, suc, length, arith, refl, slice_set, vec_capacity, sym, ◌∙◌, ap, subst}
 use Rattle.pipe_model.specs.declared.net.Net.{Net}
 use Rattle.pipe_model.specs.declared.step.Entry.{Entry}
+use Rattle.pipe_model.proofs.Lists.{length_more}
 use Rattle.pipe_model.specs.declared.step.Seen.TheVariants.{Took, Put}
 use Rattle.run_desk.specs.Telling as Telling
 use Rattle.run_desk.specs.Turns.{desk_after_turn, pool_after_turn}
@@ -53,20 +54,18 @@ link_in-requires g c =
 -- It takes the record at hand at once
 
 pub take_after-requires-clause-can : goal.take_after-requires-clause-can
-take_after-requires-clause-can g c = makes (offer c.args.self.now c.self.view_is c.self.invariant.0 c.requires.least c.requires.space c.requires.limit c.index_mut-actor.ensures.value)
+take_after-requires-clause-can g c = makes (offer c.args.self.now c.self.view_is c.self.invariant.0 c.requires.least c.requires.space c.index_mut-actor.ensures.value)
 
 pub take_after-requires-clause-awake : goal.take_after-requires-clause-awake
-take_after-requires-clause-awake g c = (c.args.o, (offer c.args.self.now c.self.view_is c.self.invariant.0 c.requires.least c.requires.space c.requires.limit c.index_mut-actor.ensures.value).least)
+take_after-requires-clause-awake g c = (c.args.o, (offer c.args.self.now c.self.view_is c.self.invariant.0 c.requires.least c.requires.space c.index_mut-actor.ensures.value).least)
 
 pub take_after-requires-clause-used : goal.take_after-requires-clause-used
 take_after-requires-clause-used g c =
     let i = c.self.inside in
     let v : ◌≡◌ {A = Machine} (record { net = i.floor.net; budget = i.budget; journal = i.journal.items; out = i.out.items; is_broken = i.is_broken }) c.args.self.now = c.self.view_is in
-    let t = (offer c.args.self.now c.self.view_is c.self.invariant.0 c.requires.least c.requires.space c.requires.limit c.index_mut-actor.ensures.value) in
-    let limit = subst (λ (z : Machine). c.args.limit ≤ z.budget) (sym v) c.requires.limit in
+    let t = (offer c.args.self.now c.self.view_is c.self.invariant.0 c.requires.least c.requires.space c.index_mut-actor.ensures.value) in
     let passes : c.index_mut-actor.result.now.passes ≡ true = search rules in
-    let below : length i.journal.items + 1 < c.args.limit = search rules in
-    let space : length i.journal.items + 1 < i.budget = omega (arith, limit, below) in
+    let space : length i.journal.items + 1 < i.budget = subst (λ (z : Machine). length z.journal + 1 < z.budget) (sym v) c.requires.space in
     let to_one = plain i.floor.net.links (Telling.out_door i.floor.desk c.args.strand c.args.o) c.in-Some.link c.in-Some.ensures.0 c.in-Some.ensures.1 in
     used t passes space to_one
 
@@ -74,11 +73,9 @@ pub take_after-requires-clause-early : goal.take_after-requires-clause-early
 take_after-requires-clause-early g c =
     let i = c.self.inside in
     let v : ◌≡◌ {A = Machine} (record { net = i.floor.net; budget = i.budget; journal = i.journal.items; out = i.out.items; is_broken = i.is_broken }) c.args.self.now = c.self.view_is in
-    let t = (offer c.args.self.now c.self.view_is c.self.invariant.0 c.requires.least c.requires.space c.requires.limit c.index_mut-actor.ensures.value) in
-    let limit = subst (λ (z : Machine). c.args.limit ≤ z.budget) (sym v) c.requires.limit in
+    let t = (offer c.args.self.now c.self.view_is c.self.invariant.0 c.requires.least c.requires.space c.index_mut-actor.ensures.value) in
     let passes : c.index_mut-actor.result.now.passes ≡ true = search rules in
-    let below : length i.journal.items + 1 < c.args.limit = search rules in
-    let space : length i.journal.items + 1 < i.budget = omega (arith, limit, below) in
+    let space : length i.journal.items + 1 < i.budget = subst (λ (z : Machine). length z.journal + 1 < z.budget) (sym v) c.requires.space in
     let to_one = plain i.floor.net.links (Telling.out_door i.floor.desk c.args.strand c.args.o) c.in-Some.link c.in-Some.ensures.0 c.in-Some.ensures.1 in
     early t passes space to_one
 
@@ -86,11 +83,9 @@ pub take_after-requires-clause-takes : goal.take_after-requires-clause-takes
 take_after-requires-clause-takes g c =
     let i = c.self.inside in
     let v : ◌≡◌ {A = Machine} (record { net = i.floor.net; budget = i.budget; journal = i.journal.items; out = i.out.items; is_broken = i.is_broken }) c.args.self.now = c.self.view_is in
-    let t = (offer c.args.self.now c.self.view_is c.self.invariant.0 c.requires.least c.requires.space c.requires.limit c.index_mut-actor.ensures.value) in
-    let limit = subst (λ (z : Machine). c.args.limit ≤ z.budget) (sym v) c.requires.limit in
+    let t = (offer c.args.self.now c.self.view_is c.self.invariant.0 c.requires.least c.requires.space c.index_mut-actor.ensures.value) in
     let passes : c.index_mut-actor.result.now.passes ≡ true = search rules in
-    let below : length i.journal.items + 1 < c.args.limit = search rules in
-    let space : length i.journal.items + 1 < i.budget = omega (arith, limit, below) in
+    let space : length i.journal.items + 1 < i.budget = subst (λ (z : Machine). length z.journal + 1 < z.budget) (sym v) c.requires.space in
     let to_one = plain i.floor.net.links (Telling.out_door i.floor.desk c.args.strand c.args.o) c.in-Some.link c.in-Some.ensures.0 c.in-Some.ensures.1 in
     takes t passes space to_one
 
@@ -98,11 +93,9 @@ pub take_after-requires-clause-used_last : goal.take_after-requires-clause-used_
 take_after-requires-clause-used_last g c =
     let i = c.self.inside in
     let v : ◌≡◌ {A = Machine} (record { net = i.floor.net; budget = i.budget; journal = i.journal.items; out = i.out.items; is_broken = i.is_broken }) c.args.self.now = c.self.view_is in
-    let t = (offer c.args.self.now c.self.view_is c.self.invariant.0 c.requires.least c.requires.space c.requires.limit c.index_mut-actor.ensures.value) in
-    let limit = subst (λ (z : Machine). c.args.limit ≤ z.budget) (sym v) c.requires.limit in
+    let t = (offer c.args.self.now c.self.view_is c.self.invariant.0 c.requires.least c.requires.space c.index_mut-actor.ensures.value) in
     let passes : c.index_mut-actor.result.now.passes ≡ true = search rules in
-    let below : length i.journal.items + 1 < c.args.limit = search rules in
-    let space : length i.journal.items + 1 < i.budget = omega (arith, limit, below) in
+    let space : length i.journal.items + 1 < i.budget = subst (λ (z : Machine). length z.journal + 1 < z.budget) (sym v) c.requires.space in
     let to_one = plain i.floor.net.links (Telling.out_door i.floor.desk c.args.strand c.args.o) c.in-Some.link c.in-Some.ensures.0 c.in-Some.ensures.1 in
     used_last t passes space to_one
 
@@ -110,11 +103,9 @@ pub take_after-requires-clause-early_last : goal.take_after-requires-clause-earl
 take_after-requires-clause-early_last g c =
     let i = c.self.inside in
     let v : ◌≡◌ {A = Machine} (record { net = i.floor.net; budget = i.budget; journal = i.journal.items; out = i.out.items; is_broken = i.is_broken }) c.args.self.now = c.self.view_is in
-    let t = (offer c.args.self.now c.self.view_is c.self.invariant.0 c.requires.least c.requires.space c.requires.limit c.index_mut-actor.ensures.value) in
-    let limit = subst (λ (z : Machine). c.args.limit ≤ z.budget) (sym v) c.requires.limit in
+    let t = (offer c.args.self.now c.self.view_is c.self.invariant.0 c.requires.least c.requires.space c.index_mut-actor.ensures.value) in
     let passes : c.index_mut-actor.result.now.passes ≡ true = search rules in
-    let below : length i.journal.items + 1 < c.args.limit = search rules in
-    let space : length i.journal.items + 1 < i.budget = omega (arith, limit, below) in
+    let space : length i.journal.items + 1 < i.budget = subst (λ (z : Machine). length z.journal + 1 < z.budget) (sym v) c.requires.space in
     let to_one = plain i.floor.net.links (Telling.out_door i.floor.desk c.args.strand c.args.o) c.in-Some.link c.in-Some.ensures.0 c.in-Some.ensures.1 in
     early_last t passes space to_one
 
@@ -122,11 +113,9 @@ pub take_after-requires-clause-least : goal.take_after-requires-clause-least
 take_after-requires-clause-least g c =
     let i = c.self.inside in
     let v : ◌≡◌ {A = Machine} (record { net = i.floor.net; budget = i.budget; journal = i.journal.items; out = i.out.items; is_broken = i.is_broken }) c.args.self.now = c.self.view_is in
-    let t = (offer c.args.self.now c.self.view_is c.self.invariant.0 c.requires.least c.requires.space c.requires.limit c.index_mut-actor.ensures.value) in
-    let limit = subst (λ (z : Machine). c.args.limit ≤ z.budget) (sym v) c.requires.limit in
+    let t = (offer c.args.self.now c.self.view_is c.self.invariant.0 c.requires.least c.requires.space c.index_mut-actor.ensures.value) in
     let passes : c.index_mut-actor.result.now.passes ≡ true = search rules in
-    let below : length i.journal.items + 1 < c.args.limit = search rules in
-    let space : length i.journal.items + 1 < i.budget = omega (arith, limit, below) in
+    let space : length i.journal.items + 1 < i.budget = subst (λ (z : Machine). length z.journal + 1 < z.budget) (sym v) c.requires.space in
     let to_one = plain i.floor.net.links (Telling.out_door i.floor.desk c.args.strand c.args.o) c.in-Some.link c.in-Some.ensures.0 c.in-Some.ensures.1 in
     (0, takes_next t passes space to_one)
 
@@ -134,11 +123,9 @@ pub invariant_of-self : goal.invariant_of-self
 invariant_of-self g c =
     let i = c.self.inside in
     let v : ◌≡◌ {A = Machine} (record { net = i.floor.net; budget = i.budget; journal = i.journal.items; out = i.out.items; is_broken = i.is_broken }) c.args.self.now = c.self.view_is in
-    let t = (offer c.args.self.now c.self.view_is c.self.invariant.0 c.requires.least c.requires.space c.requires.limit c.index_mut-actor.ensures.value) in
-    let limit = subst (λ (z : Machine). c.args.limit ≤ z.budget) (sym v) c.requires.limit in
+    let t = (offer c.args.self.now c.self.view_is c.self.invariant.0 c.requires.least c.requires.space c.index_mut-actor.ensures.value) in
     let passes : c.index_mut-actor.result.now.passes ≡ true = search rules in
-    let below : length i.journal.items + 1 < c.args.limit = search rules in
-    let space : length i.journal.items + 1 < i.budget = omega (arith, limit, below) in
+    let space : length i.journal.items + 1 < i.budget = subst (λ (z : Machine). length z.journal + 1 < z.budget) (sym v) c.requires.space in
     let to_one = plain i.floor.net.links (Telling.out_door i.floor.desk c.args.strand c.args.o) c.in-Some.link c.in-Some.ensures.0 c.in-Some.ensures.1 in
     let e2 : Entry = record { strand = c.args.strand; stream = 0 } in
     let journal = c.push_reserved-in-Some-link_in.ensures.items ∙ ap (λ j. j ++ e2 ∷ []) c.push_reserved.ensures.items in
@@ -149,11 +136,9 @@ pub returns-in-Some-link_in-clause-goes : goal.returns-in-Some-link_in-clause-go
 returns-in-Some-link_in-clause-goes g c =
     let i = c.self.inside in
     let v : ◌≡◌ {A = Machine} (record { net = i.floor.net; budget = i.budget; journal = i.journal.items; out = i.out.items; is_broken = i.is_broken }) c.args.self.now = c.self.view_is in
-    let t = (offer c.args.self.now c.self.view_is c.self.invariant.0 c.requires.least c.requires.space c.requires.limit c.index_mut-actor.ensures.value) in
-    let limit = subst (λ (z : Machine). c.args.limit ≤ z.budget) (sym v) c.requires.limit in
+    let t = (offer c.args.self.now c.self.view_is c.self.invariant.0 c.requires.least c.requires.space c.index_mut-actor.ensures.value) in
     let passes : c.index_mut-actor.result.now.passes ≡ true = search rules in
-    let below : length i.journal.items + 1 < c.args.limit = search rules in
-    let space : length i.journal.items + 1 < i.budget = omega (arith, limit, below) in
+    let space : length i.journal.items + 1 < i.budget = subst (λ (z : Machine). length z.journal + 1 < z.budget) (sym v) c.requires.space in
     let to_one = plain i.floor.net.links (Telling.out_door i.floor.desk c.args.strand c.args.o) c.in-Some.link c.in-Some.ensures.0 c.in-Some.ensures.1 in
     let e2 : Entry = record { strand = c.args.strand; stream = 0 } in
     let journal = c.push_reserved-in-Some-link_in.ensures.items ∙ ap (λ j. j ++ e2 ∷ []) c.push_reserved.ensures.items in
@@ -162,7 +147,6 @@ returns-in-Some-link_in-clause-goes g c =
     inr (
       0,
       subst (λ (z : Machine). LeastEvent (record z { journal = z.journal ++ e ∷ [] }) (Some (c.args.strand, 0, Took 0))) v next,
-      subst (λ (z : Machine). length z.journal + 1 < c.args.limit) v below,
       ap (λ n. record { net = n; budget = i.budget; journal = c.push_reserved-in-Some-link_in.new.self.items; out = i.out.items; is_broken = i.is_broken }) c.take_after.ensures.net
           ∙ ap (λ j. record { net = i.floor.net; budget = i.budget; journal = j; out = i.out.items; is_broken = i.is_broken }) journal
           ∙ ap (λ (z : Machine). record z { journal = (z.journal ++ e ∷ []) ++ e2 ∷ [] }) v,
@@ -172,11 +156,9 @@ pub returns-in-Some-link_in-clause-ahead : goal.returns-in-Some-link_in-clause-a
 returns-in-Some-link_in-clause-ahead g c =
     let i = c.self.inside in
     let v : ◌≡◌ {A = Machine} (record { net = i.floor.net; budget = i.budget; journal = i.journal.items; out = i.out.items; is_broken = i.is_broken }) c.args.self.now = c.self.view_is in
-    let t = (offer c.args.self.now c.self.view_is c.self.invariant.0 c.requires.least c.requires.space c.requires.limit c.index_mut-actor.ensures.value) in
-    let limit = subst (λ (z : Machine). c.args.limit ≤ z.budget) (sym v) c.requires.limit in
+    let t = (offer c.args.self.now c.self.view_is c.self.invariant.0 c.requires.least c.requires.space c.index_mut-actor.ensures.value) in
     let passes : c.index_mut-actor.result.now.passes ≡ true = search rules in
-    let below : length i.journal.items + 1 < c.args.limit = search rules in
-    let space : length i.journal.items + 1 < i.budget = omega (arith, limit, below) in
+    let space : length i.journal.items + 1 < i.budget = subst (λ (z : Machine). length z.journal + 1 < z.budget) (sym v) c.requires.space in
     let to_one = plain i.floor.net.links (Telling.out_door i.floor.desk c.args.strand c.args.o) c.in-Some.link c.in-Some.ensures.0 c.in-Some.ensures.1 in
     let e2 : Entry = record { strand = c.args.strand; stream = 0 } in
     let journal = c.push_reserved-in-Some-link_in.ensures.items ∙ ap (λ j. j ++ e2 ∷ []) c.push_reserved.ensures.items in
@@ -190,11 +172,9 @@ pub returns-in-Some-link_in-clause-lawful : goal.returns-in-Some-link_in-clause-
 returns-in-Some-link_in-clause-lawful g c =
     let i = c.self.inside in
     let v : ◌≡◌ {A = Machine} (record { net = i.floor.net; budget = i.budget; journal = i.journal.items; out = i.out.items; is_broken = i.is_broken }) c.args.self.now = c.self.view_is in
-    let t = (offer c.args.self.now c.self.view_is c.self.invariant.0 c.requires.least c.requires.space c.requires.limit c.index_mut-actor.ensures.value) in
-    let limit = subst (λ (z : Machine). c.args.limit ≤ z.budget) (sym v) c.requires.limit in
+    let t = (offer c.args.self.now c.self.view_is c.self.invariant.0 c.requires.least c.requires.space c.index_mut-actor.ensures.value) in
     let passes : c.index_mut-actor.result.now.passes ≡ true = search rules in
-    let below : length i.journal.items + 1 < c.args.limit = search rules in
-    let space : length i.journal.items + 1 < i.budget = omega (arith, limit, below) in
+    let space : length i.journal.items + 1 < i.budget = subst (λ (z : Machine). length z.journal + 1 < z.budget) (sym v) c.requires.space in
     let to_one = plain i.floor.net.links (Telling.out_door i.floor.desk c.args.strand c.args.o) c.in-Some.link c.in-Some.ensures.0 c.in-Some.ensures.1 in
     let e2 : Entry = record { strand = c.args.strand; stream = 0 } in
     let journal = c.push_reserved-in-Some-link_in.ensures.items ∙ ap (λ j. j ++ e2 ∷ []) c.push_reserved.ensures.items in
@@ -206,18 +186,18 @@ returns-in-Some-link_in-clause-lawful g c =
 
 pub put-requires-clause-can : goal.put-requires-clause-can
 put-requires-clause-can g c =
-    let t = (offer c.args.self.now c.self.view_is c.self.invariant.0 c.requires.least c.requires.space c.requires.limit c.index_mut-actor.ensures.value) in
+    let t = (offer c.args.self.now c.self.view_is c.self.invariant.0 c.requires.least c.requires.space c.index_mut-actor.ensures.value) in
     (t.stage, t.was, resumes_it t [] (no_bytes_put c.index_mut-actor.result.now.looks (desk_after_turn c.self.inside.floor.desk c.args.strand (Put c.args.o)) (pool_after_turn c.self.inside.floor.desk c.self.inside.floor.pool c.args.strand (Put c.args.o)) c.args.strand c.args.o))
 
 pub put-requires-clause-passes : goal.put-requires-clause-passes
-put-requires-clause-passes g c = does (offer c.args.self.now c.self.view_is c.self.invariant.0 c.requires.least c.requires.space c.requires.limit c.index_mut-actor.ensures.value)
+put-requires-clause-passes g c = does (offer c.args.self.now c.self.view_is c.self.invariant.0 c.requires.least c.requires.space c.index_mut-actor.ensures.value)
 
 pub put_in_vain-requires : goal.put_in_vain-requires
-put_in_vain-requires g c = makes (offer c.args.self.now c.self.view_is c.self.invariant.0 c.requires.least c.requires.space c.requires.limit c.index_mut-actor.ensures.value)
+put_in_vain-requires g c = makes (offer c.args.self.now c.self.view_is c.self.invariant.0 c.requires.least c.requires.space c.index_mut-actor.ensures.value)
 
 pub give_up-requires : goal.give_up-requires
 give_up-requires g c =
-    let few = room_out (offer c.args.self.now c.self.view_is c.self.invariant.0 c.requires.least c.requires.space c.requires.limit c.index_mut-actor.ensures.value) in
+    let few = room_out (offer c.args.self.now c.self.view_is c.self.invariant.0 c.requires.least c.requires.space c.index_mut-actor.ensures.value) in
     let room = c.self.invariant.2 in
     search (rules, few, room)
 
@@ -225,50 +205,50 @@ pub invariant_of-self-in_default-put : goal.invariant_of-self-in_default-put
 invariant_of-self-in_default-put g c =
     let i = c.self.inside in
     let on = c.put.ensures in
-    let place : c.len-in_default-put.result ≡ suc (length i.journal.items) = search rules in
-    let sound = sound_broken (offer c.args.self.now c.self.view_is c.self.invariant.0 c.requires.least c.requires.space c.requires.limit c.index_mut-actor.ensures.value) on.0 on.1 on.2 on.3 on.4 c.len-in_default-put.result place c.put_in_vain.ensures.net c.push_reserved.ensures.items c.give_up.ensures.out
+    let place : c.len.result ≡ suc (length i.journal.items) = c.len.ensures ∙ ap length c.push_reserved.ensures.items ∙ length_more i.journal.items (record { strand = c.args.strand; stream = c.args.o }) in
+    let sound = sound_broken (offer c.args.self.now c.self.view_is c.self.invariant.0 c.requires.least c.requires.space c.index_mut-actor.ensures.value) on.0 on.1 on.2 on.3 on.4 c.len.result place c.put_in_vain.ensures.net c.push_reserved.ensures.items c.give_up.ensures.out
     (c.give_up.ensures.actor ∙ ap (λ (z : Actor g.row.S.Denot). given_up z) on.5) c.put_in_vain.ensures.desk c.put_in_vain.ensures.pool in
     (sound, search rules, search rules)
 
 pub returns-in_default-put-clause-lawful : goal.returns-in_default-put-clause-lawful
-returns-in_default-put-clause-lawful g c = lawful_broken (offer c.args.self.now c.self.view_is c.self.invariant.0 c.requires.least c.requires.space c.requires.limit c.index_mut-actor.ensures.value) c.give_up.new.out.items c.put_in_vain.ensures.net c.push_reserved.ensures.items
+returns-in_default-put-clause-lawful g c = lawful_broken (offer c.args.self.now c.self.view_is c.self.invariant.0 c.requires.least c.requires.space c.index_mut-actor.ensures.value) c.give_up.new.out.items c.put_in_vain.ensures.net c.push_reserved.ensures.items
 
 -- It comes home with what it wants next
 
 pub put-requires-2-clause-can : goal.put-requires-2-clause-can
-put-requires-2-clause-can g c = makes (offer c.args.self.now c.self.view_is c.self.invariant.0 c.requires.least c.requires.space c.requires.limit c.index_mut-actor.ensures.value)
+put-requires-2-clause-can g c = makes (offer c.args.self.now c.self.view_is c.self.invariant.0 c.requires.least c.requires.space c.index_mut-actor.ensures.value)
 
 pub put-requires-2-clause-least : goal.put-requires-2-clause-least
-put-requires-2-clause-least g c = (c.args.o, (offer c.args.self.now c.self.view_is c.self.invariant.0 c.requires.least c.requires.space c.requires.limit c.index_mut-actor.ensures.value).least)
+put-requires-2-clause-least g c = (c.args.o, (offer c.args.self.now c.self.view_is c.self.invariant.0 c.requires.least c.requires.space c.index_mut-actor.ensures.value).least)
 
 pub put-requires-2-clause-used : goal.put-requires-2-clause-used
 put-requires-2-clause-used g c =
     let on = c.in-Ok.ensures in
-    used_out (with_stage (offer c.args.self.now c.self.view_is c.self.invariant.0 c.requires.least c.requires.space c.requires.limit c.index_mut-actor.ensures.value) on.0 on.4) on.1 on.2 on.3
+    used_out (with_stage (offer c.args.self.now c.self.view_is c.self.invariant.0 c.requires.least c.requires.space c.index_mut-actor.ensures.value) on.0 on.4) on.1 on.2 on.3
 
 pub put-requires-2-clause-live : goal.put-requires-2-clause-live
 put-requires-2-clause-live g c =
     let on = c.in-Ok.ensures in
-    live (offer c.args.self.now c.self.view_is c.self.invariant.0 c.requires.least c.requires.space c.requires.limit c.index_mut-actor.ensures.value) on.0 on.1 on.2 on.3 on.4 [] (no_bytes_put c.index_mut-actor.result.now.looks (desk_after_turn c.self.inside.floor.desk c.args.strand (Put c.args.o)) (pool_after_turn c.self.inside.floor.desk c.self.inside.floor.pool c.args.strand (Put c.args.o)) c.args.strand c.args.o) on.6.0 refl on.5
+    live (offer c.args.self.now c.self.view_is c.self.invariant.0 c.requires.least c.requires.space c.index_mut-actor.ensures.value) on.0 on.1 on.2 on.3 on.4 [] (no_bytes_put c.index_mut-actor.result.now.looks (desk_after_turn c.self.inside.floor.desk c.args.strand (Put c.args.o)) (pool_after_turn c.self.inside.floor.desk c.self.inside.floor.pool c.args.strand (Put c.args.o)) c.args.strand c.args.o) on.6.0 refl on.5
 
 pub put-requires-2-clause-home : goal.put-requires-2-clause-home
 put-requires-2-clause-home g c =
     let on = c.in-Ok.ensures in
-    home (offer c.args.self.now c.self.view_is c.self.invariant.0 c.requires.least c.requires.space c.requires.limit c.index_mut-actor.ensures.value) on.0 on.1 on.2 on.3 on.4 [] (no_bytes_put c.index_mut-actor.result.now.looks (desk_after_turn c.self.inside.floor.desk c.args.strand (Put c.args.o)) (pool_after_turn c.self.inside.floor.desk c.self.inside.floor.pool c.args.strand (Put c.args.o)) c.args.strand c.args.o) on.6.0 refl on.5
+    home (offer c.args.self.now c.self.view_is c.self.invariant.0 c.requires.least c.requires.space c.index_mut-actor.ensures.value) on.0 on.1 on.2 on.3 on.4 [] (no_bytes_put c.index_mut-actor.result.now.looks (desk_after_turn c.self.inside.floor.desk c.args.strand (Put c.args.o)) (pool_after_turn c.self.inside.floor.desk c.self.inside.floor.pool c.args.strand (Put c.args.o)) c.args.strand c.args.o) on.6.0 refl on.5
 
 pub put-requires-2-clause-early : goal.put-requires-2-clause-early
 put-requires-2-clause-early g c =
     let on = c.in-Ok.ensures in
-    home_early (offer c.args.self.now c.self.view_is c.self.invariant.0 c.requires.least c.requires.space c.requires.limit c.index_mut-actor.ensures.value) on.0 on.1 on.2 on.3 on.4 [] (no_bytes_put c.index_mut-actor.result.now.looks (desk_after_turn c.self.inside.floor.desk c.args.strand (Put c.args.o)) (pool_after_turn c.self.inside.floor.desk c.self.inside.floor.pool c.args.strand (Put c.args.o)) c.args.strand c.args.o) on.6.0 refl on.5
+    home_early (offer c.args.self.now c.self.view_is c.self.invariant.0 c.requires.least c.requires.space c.index_mut-actor.ensures.value) on.0 on.1 on.2 on.3 on.4 [] (no_bytes_put c.index_mut-actor.result.now.looks (desk_after_turn c.self.inside.floor.desk c.args.strand (Put c.args.o)) (pool_after_turn c.self.inside.floor.desk c.self.inside.floor.pool c.args.strand (Put c.args.o)) c.args.strand c.args.o) on.6.0 refl on.5
 
 pub put-requires-2-clause-used_home : goal.put-requires-2-clause-used_home
 put-requires-2-clause-used_home g c =
     let on = c.in-Ok.ensures in
-    home_used (offer c.args.self.now c.self.view_is c.self.invariant.0 c.requires.least c.requires.space c.requires.limit c.index_mut-actor.ensures.value) on.0 on.1 on.2 on.3 on.4 [] (no_bytes_put c.index_mut-actor.result.now.looks (desk_after_turn c.self.inside.floor.desk c.args.strand (Put c.args.o)) (pool_after_turn c.self.inside.floor.desk c.self.inside.floor.pool c.args.strand (Put c.args.o)) c.args.strand c.args.o) on.6.0 refl on.5 on.6.1
+    home_used (offer c.args.self.now c.self.view_is c.self.invariant.0 c.requires.least c.requires.space c.index_mut-actor.ensures.value) on.0 on.1 on.2 on.3 on.4 [] (no_bytes_put c.index_mut-actor.result.now.looks (desk_after_turn c.self.inside.floor.desk c.args.strand (Put c.args.o)) (pool_after_turn c.self.inside.floor.desk c.self.inside.floor.pool c.args.strand (Put c.args.o)) c.args.strand c.args.o) on.6.0 refl on.5 on.6.1
 
 pub give_up-requires-in_default-put-2 : goal.give_up-requires-in_default-put-2
 give_up-requires-in_default-put-2 g c =
-    let few = room_out (offer c.args.self.now c.self.view_is c.self.invariant.0 c.requires.least c.requires.space c.requires.limit c.index_mut-actor.ensures.value) in
+    let few = room_out (offer c.args.self.now c.self.view_is c.self.invariant.0 c.requires.least c.requires.space c.index_mut-actor.ensures.value) in
     let room = c.self.invariant.2 in
     search (rules, few, room)
 
@@ -276,20 +256,20 @@ pub invariant_of-self-in_default-put-2 : goal.invariant_of-self-in_default-put-2
 invariant_of-self-in_default-put-2 g c =
     let i = c.self.inside in
     let on = c.in-Ok.ensures in
-    let place : c.len-in_default-put-2.result ≡ suc (length i.journal.items) = search rules in
-    let sound = sound_broken (offer c.args.self.now c.self.view_is c.self.invariant.0 c.requires.least c.requires.space c.requires.limit c.index_mut-actor.ensures.value) on.0 on.1 c.put-2.new.want on.3 on.4 c.len-in_default-put-2.result place c.put-2.ensures.net c.push_reserved.ensures.items c.give_up-in_default-put-2.ensures.out
+    let place : c.len-in_default-put-2.result ≡ suc (length i.journal.items) = c.len-in_default-put-2.ensures ∙ ap length c.push_reserved.ensures.items ∙ length_more i.journal.items (record { strand = c.args.strand; stream = c.args.o }) in
+    let sound = sound_broken (offer c.args.self.now c.self.view_is c.self.invariant.0 c.requires.least c.requires.space c.index_mut-actor.ensures.value) on.0 on.1 c.put-2.new.want on.3 on.4 c.len-in_default-put-2.result place c.put-2.ensures.net c.push_reserved.ensures.items c.give_up-in_default-put-2.ensures.out
     (c.give_up-in_default-put-2.ensures.actor ∙ ap (λ (z : Actor g.row.S.Denot). given_up (asking_for c.put-2.new.want z)) on.5) c.in_default-put-2.ensures.err c.in_default-put-2.ensures.err_pool in
     (sound, search rules, search rules)
 
 pub returns-in_default-put-2-clause-lawful : goal.returns-in_default-put-2-clause-lawful
-returns-in_default-put-2-clause-lawful g c = lawful_broken (offer c.args.self.now c.self.view_is c.self.invariant.0 c.requires.least c.requires.space c.requires.limit c.index_mut-actor.ensures.value) c.give_up-in_default-put-2.new.out.items c.put-2.ensures.net c.push_reserved.ensures.items
+returns-in_default-put-2-clause-lawful g c = lawful_broken (offer c.args.self.now c.self.view_is c.self.invariant.0 c.requires.least c.requires.space c.index_mut-actor.ensures.value) c.give_up-in_default-put-2.new.out.items c.put-2.ensures.net c.push_reserved.ensures.items
 
 came : (g : Over) (c : In-Ok-put g) →
     IsSound g.S.Stage.stands c.put-2.new.self.net c.self.inside.budget c.push_reserved.new.self.items c.self.inside.out.items
     (slice_set c.self.inside.actors.items c.args.strand (asking_for c.put-2.new.want c.put.new.actor)) c.put-2.new.self.desk c.put-2.new.self.pool
 came g c =
     let on = c.in-Ok.ensures in
-    home_sound (offer c.args.self.now c.self.view_is c.self.invariant.0 c.requires.least c.requires.space c.requires.limit c.index_mut-actor.ensures.value) on.0 on.1 on.2 on.3 on.4 [] (no_bytes_put c.index_mut-actor.result.now.looks (desk_after_turn c.self.inside.floor.desk c.args.strand (Put c.args.o)) (pool_after_turn c.self.inside.floor.desk c.self.inside.floor.pool c.args.strand (Put c.args.o)) c.args.strand c.args.o) on.6.0 refl on.5 on.6.1
+    home_sound (offer c.args.self.now c.self.view_is c.self.invariant.0 c.requires.least c.requires.space c.index_mut-actor.ensures.value) on.0 on.1 on.2 on.3 on.4 [] (no_bytes_put c.index_mut-actor.result.now.looks (desk_after_turn c.self.inside.floor.desk c.args.strand (Put c.args.o)) (pool_after_turn c.self.inside.floor.desk c.self.inside.floor.pool c.args.strand (Put c.args.o)) c.args.strand c.args.o) on.6.0 refl on.5 on.6.1
     c.put-2.ensures.net c.push_reserved.ensures.items c.put-2.ensures.bare c.in-Ok-put.ensures.home
 
 pub invariant_of-self-in-Ok-put-2 : goal.invariant_of-self-in-Ok-put-2

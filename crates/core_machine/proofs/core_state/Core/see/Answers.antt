@@ -2,6 +2,7 @@
 use Rattle.std.proofs.Common.{rules, ◌≡◌, ◌≤◌, ◌<◌, ◌+◌, inr, Some, [], ◌∷◌, ◌++◌, true, suc, length, slice_set, arith, refl, sym, ◌∙◌, ap, subst, vec_capacity}
 use Rattle.pipe_model.specs.declared.net.Net.{Net}
 use Rattle.pipe_model.specs.declared.step.Entry.{Entry}
+use Rattle.pipe_model.proofs.Lists.{length_more}
 use Rattle.pipe_model.specs.declared.step.Seen.TheVariants.{Saw, Took}
 use Rattle.stage_steps.specs.Coroutine.{Resumes}
 use Rattle.stage_steps.specs.PassesOn.{PassesOn}
@@ -18,31 +19,30 @@ use Rattle.core_machine.proofs.Tellings.{makes, looks_it, room_out, used_out, wi
 use Rattle.core_machine.proofs.Twice.{IsTwice, twice}
 use Rattle.core_machine.proofs.core_state.Core.see.Given.{Over}
 use Rattle.core_machine.proofs.core_state.Core.see.Goals as goal
-use Rattle.core_machine.proofs.core_state.Core.see.Goals.{Then-matches, Else-matches, After-take_after, In-Ok-see, in-Takes, in_default-matches}
+use Rattle.core_machine.proofs.core_state.Core.see.Goals.{Then-matches, Else-matches, After-at_once, In-Ok-see, in-Takes, in_default-matches}
 mod Sight
 use Rattle.core_machine.proofs.core_state.Core.see.Answers.Sight.{sight, bytes_right, asks}
 
 pub bytes_ahead-bytes-requires-clause-held : goal.bytes_ahead-bytes-requires-clause-held
 bytes_ahead-bytes-requires-clause-held g c =
-    held_ahead c.self.inside.floor.desk c.self.inside.floor.pool c.args.strand c.args.i c.in-Some.from (makes (sight c.args.self.now c.self.view_is c.self.invariant.0 c.requires.least c.requires.space c.requires.limit c.index_mut-actor.ensures.value)).can (sym c.in-Some.ensures.door)
+    held_ahead c.self.inside.floor.desk c.self.inside.floor.pool c.args.strand c.args.i c.in-Some.from (makes (sight c.args.self.now c.self.view_is c.self.invariant.0 c.requires.least c.requires.space c.index_mut-actor.ensures.value)).can (sym c.in-Some.ensures.door)
 
 pub see-requires : goal.see-requires
 see-requires g c =
     let i = c.self.inside in
     let v : ◌≡◌ {A = Machine} (record { net = i.floor.net; budget = i.budget; journal = i.journal.items; out = i.out.items; is_broken = i.is_broken }) c.args.self.now = c.self.view_is in
-    let t = (sight c.args.self.now c.self.view_is c.self.invariant.0 c.requires.least c.requires.space c.requires.limit c.index_mut-actor.ensures.value) in
-    let most : c.args.limit ≤ i.budget = subst (λ (z : Machine). c.args.limit ≤ z.budget) (sym v) c.requires.limit in
-    let below : length i.journal.items + 1 < c.args.limit = search rules in
-    (t.stage, t.was, looks_it t c.args.i refl (omega (arith, most, below)) c.bytes_ahead-bytes.result.now (bytes_right (sight c.args.self.now c.self.view_is c.self.invariant.0 c.requires.least c.requires.space c.requires.limit c.index_mut-actor.ensures.value) c.in-Some.ensures.door c.bytes_ahead-bytes.ensures))
+    let t = (sight c.args.self.now c.self.view_is c.self.invariant.0 c.requires.least c.requires.space c.index_mut-actor.ensures.value) in
+    let space : length i.journal.items + 1 < i.budget = subst (λ (z : Machine). length z.journal + 1 < z.budget) (sym v) c.requires.space in
+    (t.stage, t.was, looks_it t c.args.i refl space c.bytes_ahead-bytes.result.now (bytes_right (sight c.args.self.now c.self.view_is c.self.invariant.0 c.requires.least c.requires.space c.index_mut-actor.ensures.value) c.in-Some.ensures.door c.bytes_ahead-bytes.ensures))
 
 pub see_in_vain-requires : goal.see_in_vain-requires
-see_in_vain-requires g c = makes (sight c.args.self.now c.self.view_is c.self.invariant.0 c.requires.least c.requires.space c.requires.limit c.index_mut-actor.ensures.value)
+see_in_vain-requires g c = makes (sight c.args.self.now c.self.view_is c.self.invariant.0 c.requires.least c.requires.space c.index_mut-actor.ensures.value)
 
 -- The coroutine wanted memory
 
 pub give_up-requires : goal.give_up-requires
 give_up-requires g c =
-    let few = room_out (sight c.args.self.now c.self.view_is c.self.invariant.0 c.requires.least c.requires.space c.requires.limit c.index_mut-actor.ensures.value) in
+    let few = room_out (sight c.args.self.now c.self.view_is c.self.invariant.0 c.requires.least c.requires.space c.index_mut-actor.ensures.value) in
     let room = c.self.invariant.2 in
     search (rules, few, room)
 
@@ -50,13 +50,13 @@ pub invariant_of-self : goal.invariant_of-self
 invariant_of-self g c =
     let i = c.self.inside in
     let on = c.see.ensures in
-    let place : c.len-in_default-see.result ≡ suc (length i.journal.items) = search rules in
-    let sound = sound_broken (sight c.args.self.now c.self.view_is c.self.invariant.0 c.requires.least c.requires.space c.requires.limit c.index_mut-actor.ensures.value) on.0 on.1 on.2 on.3 on.4 c.len-in_default-see.result place c.see_in_vain.ensures.net c.push_reserved.ensures.items c.give_up.ensures.out
+    let place : c.len.result ≡ suc (length i.journal.items) = c.len.ensures ∙ ap length c.push_reserved.ensures.items ∙ length_more i.journal.items (record { strand = c.args.strand; stream = c.args.i }) in
+    let sound = sound_broken (sight c.args.self.now c.self.view_is c.self.invariant.0 c.requires.least c.requires.space c.index_mut-actor.ensures.value) on.0 on.1 on.2 on.3 on.4 c.len.result place c.see_in_vain.ensures.net c.push_reserved.ensures.items c.give_up.ensures.out
     (c.give_up.ensures.actor ∙ ap (λ (z : Actor g.row.S.Denot). given_up z) on.5) c.see_in_vain.ensures.desk c.see_in_vain.ensures.pool in
     (sound, search rules, search rules)
 
 pub returns-in_default-see-clause-lawful : goal.returns-in_default-see-clause-lawful
-returns-in_default-see-clause-lawful g c = lawful_broken (sight c.args.self.now c.self.view_is c.self.invariant.0 c.requires.least c.requires.space c.requires.limit c.index_mut-actor.ensures.value) c.give_up.new.out.items c.see_in_vain.ensures.net c.push_reserved.ensures.items
+returns-in_default-see-clause-lawful g c = lawful_broken (sight c.args.self.now c.self.view_is c.self.invariant.0 c.requires.least c.requires.space c.index_mut-actor.ensures.value) c.give_up.new.out.items c.see_in_vain.ensures.net c.push_reserved.ensures.items
 
 -- It takes the record at once
 
@@ -76,11 +76,10 @@ taking g c =
     let i = c.self.inside in
     let v : ◌≡◌ {A = Machine} (record { net = i.floor.net; budget = i.budget; journal = i.journal.items; out = i.out.items; is_broken = i.is_broken }) c.args.self.now = c.self.view_is in
     let on = c.in-Ok.ensures in
-    let most : c.args.limit ≤ i.budget = subst (λ (z : Machine). c.args.limit ≤ z.budget) (sym v) c.requires.limit in
-    let below : length i.journal.items + 1 < c.args.limit = search rules in
-    twice (sight c.args.self.now c.self.view_is c.self.invariant.0 c.requires.least c.requires.space c.requires.limit c.index_mut-actor.ensures.value) (omega (arith, most, below)) (sym c.if-may_settle.ensures) (bytes_right (sight c.args.self.now c.self.view_is c.self.invariant.0 c.requires.least c.requires.space c.requires.limit c.index_mut-actor.ensures.value) c.in-Some.ensures.door c.bytes_ahead-bytes.ensures) on.0 on.1 on.2 on.3 on.4 on.5 (took g c)
+    let space : length i.journal.items + 1 < i.budget = subst (λ (z : Machine). length z.journal + 1 < z.budget) (sym v) c.requires.space in
+    twice (sight c.args.self.now c.self.view_is c.self.invariant.0 c.requires.least c.requires.space c.index_mut-actor.ensures.value) space (sym c.if-may_settle.ensures) (bytes_right (sight c.args.self.now c.self.view_is c.self.invariant.0 c.requires.least c.requires.space c.index_mut-actor.ensures.value) c.in-Some.ensures.door c.bytes_ahead-bytes.ensures) on.0 on.1 on.2 on.3 on.4 on.5 (took g c)
 
-both : (g : Over) (c : After-take_after g) →
+both : (g : Over) (c : After-at_once g) →
     IsTwice g.S.Stage.stands c.self.inside.floor.net c.self.inside.budget c.self.inside.journal.items c.self.inside.out.items c.self.inside.actors.items c.self.inside.floor.desk c.self.inside.floor.pool
     c.args.strand c.args.i 0 c.see.new.actor →
     IsSound g.S.Stage.stands c.take_after.new.self.net c.self.inside.budget c.push_reserved-then-matches.new.self.items c.self.inside.out.items
@@ -125,12 +124,10 @@ returns-then-matches-clause-goes g c =
     let v : ◌≡◌ {A = Machine} (record { net = i.floor.net; budget = i.budget; journal = i.journal.items; out = i.out.items; is_broken = i.is_broken }) c.args.self.now = c.self.view_is in
     let e : Entry = record { strand = c.args.strand; stream = c.args.i } in
     let e2 : Entry = record { strand = c.args.strand; stream = 0 } in
-    let below : length i.journal.items + 1 < c.args.limit = search rules in
     let second = c.push_reserved-then-matches.ensures.items ∙ ap (λ j. j ++ e2 ∷ []) c.push_reserved.ensures.items in
     inr (
       0,
       subst (λ (z : Machine). LeastEvent (record z { journal = z.journal ++ e ∷ [] }) (Some (c.args.strand, 0, Took 0))) v ((taking g (goal.at.returns-then-matches-clause-goes g c).Then-matches).taking i.is_broken),
-      subst (λ (z : Machine). length z.journal + 1 < c.args.limit) v below,
       ap (λ n. record { net = n; budget = i.budget; journal = c.push_reserved-then-matches.new.self.items; out = i.out.items; is_broken = i.is_broken }) c.take_after.ensures.net
           ∙ ap (λ j. record { net = i.floor.net; budget = i.budget; journal = j; out = i.out.items; is_broken = i.is_broken }) second
           ∙ ap (λ (z : Machine). record { net = z.net; budget = z.budget; journal = (z.journal ++ e ∷ []) ++ e2 ∷ []; out = z.out; is_broken = z.is_broken }) v,
@@ -139,7 +136,7 @@ returns-then-matches-clause-goes g c =
 pub returns-then-matches-clause-ahead : goal.returns-then-matches-clause-ahead
 returns-then-matches-clause-ahead g c = λ r named.
     event_is g.S.Stage.stands c.take_after.new.self.net c.self.inside.budget c.push_reserved-then-matches.new.self.items c.self.inside.out.items
-    (slice_set c.self.inside.actors.items c.args.strand c.see.new.actor) c.take_after.new.self.desk c.take_after.new.self.pool (both g c (taking g (goal.at.returns-then-matches-clause-ahead g c).Then-matches)) c.self.inside.is_broken (Some r) (c.take_after.ensures.ahead r named)
+    (slice_set c.self.inside.actors.items c.args.strand c.see.new.actor) c.take_after.new.self.desk c.take_after.new.self.pool (both g c (taking g (goal.at.returns-then-matches-clause-ahead g c).Then-matches)) c.self.inside.is_broken (Some r) (c.take_after.ensures.ahead r (sym c.at_once.ensures ∙ named))
 
 pub returns-then-matches-clause-lawful : goal.returns-then-matches-clause-lawful
 returns-then-matches-clause-lawful g c =
@@ -157,10 +154,10 @@ went g c =
     ]) c.in-Ok.ensures.6
 
 pub see-requires-2-clause-can : goal.see-requires-2-clause-can
-see-requires-2-clause-can g c = makes (sight c.args.self.now c.self.view_is c.self.invariant.0 c.requires.least c.requires.space c.requires.limit c.index_mut-actor.ensures.value)
+see-requires-2-clause-can g c = makes (sight c.args.self.now c.self.view_is c.self.invariant.0 c.requires.least c.requires.space c.index_mut-actor.ensures.value)
 
 pub see-requires-2-clause-least : goal.see-requires-2-clause-least
-see-requires-2-clause-least g c = (c.args.i, (sight c.args.self.now c.self.view_is c.self.invariant.0 c.requires.least c.requires.space c.requires.limit c.index_mut-actor.ensures.value).least)
+see-requires-2-clause-least g c = (c.args.i, (sight c.args.self.now c.self.view_is c.self.invariant.0 c.requires.least c.requires.space c.index_mut-actor.ensures.value).least)
 
 pub see-requires-2-clause-quiet : goal.see-requires-2-clause-quiet
 see-requires-2-clause-quiet g c = sym c.if-may_settle.ensures
@@ -168,35 +165,35 @@ see-requires-2-clause-quiet g c = sym c.if-may_settle.ensures
 pub see-requires-2-clause-used : goal.see-requires-2-clause-used
 see-requires-2-clause-used g c =
     let on = c.in-Ok.ensures in
-    used_out (with_stage (sight c.args.self.now c.self.view_is c.self.invariant.0 c.requires.least c.requires.space c.requires.limit c.index_mut-actor.ensures.value) on.0 on.4) on.1 on.2 on.3
+    used_out (with_stage (sight c.args.self.now c.self.view_is c.self.invariant.0 c.requires.least c.requires.space c.index_mut-actor.ensures.value) on.0 on.4) on.1 on.2 on.3
 
 pub see-requires-2-clause-live : goal.see-requires-2-clause-live
 see-requires-2-clause-live g c =
     let on = c.in-Ok.ensures in
     let so = went g (goal.at.see-requires-2-clause-live g c).Else-matches in
-    live (sight c.args.self.now c.self.view_is c.self.invariant.0 c.requires.least c.requires.space c.requires.limit c.index_mut-actor.ensures.value) on.0 on.1 on.2 on.3 on.4 c.bytes_ahead-bytes.result.now (bytes_right (sight c.args.self.now c.self.view_is c.self.invariant.0 c.requires.least c.requires.space c.requires.limit c.index_mut-actor.ensures.value) c.in-Some.ensures.door c.bytes_ahead-bytes.ensures) so.0 refl on.5
+    live (sight c.args.self.now c.self.view_is c.self.invariant.0 c.requires.least c.requires.space c.index_mut-actor.ensures.value) on.0 on.1 on.2 on.3 on.4 c.bytes_ahead-bytes.result.now (bytes_right (sight c.args.self.now c.self.view_is c.self.invariant.0 c.requires.least c.requires.space c.index_mut-actor.ensures.value) c.in-Some.ensures.door c.bytes_ahead-bytes.ensures) so.0 refl on.5
 
 pub see-requires-2-clause-home : goal.see-requires-2-clause-home
 see-requires-2-clause-home g c =
     let on = c.in-Ok.ensures in
     let so = went g (goal.at.see-requires-2-clause-home g c).Else-matches in
-    home (sight c.args.self.now c.self.view_is c.self.invariant.0 c.requires.least c.requires.space c.requires.limit c.index_mut-actor.ensures.value) on.0 on.1 on.2 on.3 on.4 c.bytes_ahead-bytes.result.now (bytes_right (sight c.args.self.now c.self.view_is c.self.invariant.0 c.requires.least c.requires.space c.requires.limit c.index_mut-actor.ensures.value) c.in-Some.ensures.door c.bytes_ahead-bytes.ensures) so.0 refl on.5
+    home (sight c.args.self.now c.self.view_is c.self.invariant.0 c.requires.least c.requires.space c.index_mut-actor.ensures.value) on.0 on.1 on.2 on.3 on.4 c.bytes_ahead-bytes.result.now (bytes_right (sight c.args.self.now c.self.view_is c.self.invariant.0 c.requires.least c.requires.space c.index_mut-actor.ensures.value) c.in-Some.ensures.door c.bytes_ahead-bytes.ensures) so.0 refl on.5
 
 pub see-requires-2-clause-early : goal.see-requires-2-clause-early
 see-requires-2-clause-early g c =
     let on = c.in-Ok.ensures in
     let so = went g (goal.at.see-requires-2-clause-early g c).Else-matches in
-    home_early (sight c.args.self.now c.self.view_is c.self.invariant.0 c.requires.least c.requires.space c.requires.limit c.index_mut-actor.ensures.value) on.0 on.1 on.2 on.3 on.4 c.bytes_ahead-bytes.result.now (bytes_right (sight c.args.self.now c.self.view_is c.self.invariant.0 c.requires.least c.requires.space c.requires.limit c.index_mut-actor.ensures.value) c.in-Some.ensures.door c.bytes_ahead-bytes.ensures) so.0 refl on.5
+    home_early (sight c.args.self.now c.self.view_is c.self.invariant.0 c.requires.least c.requires.space c.index_mut-actor.ensures.value) on.0 on.1 on.2 on.3 on.4 c.bytes_ahead-bytes.result.now (bytes_right (sight c.args.self.now c.self.view_is c.self.invariant.0 c.requires.least c.requires.space c.index_mut-actor.ensures.value) c.in-Some.ensures.door c.bytes_ahead-bytes.ensures) so.0 refl on.5
 
 pub see-requires-2-clause-used_home : goal.see-requires-2-clause-used_home
 see-requires-2-clause-used_home g c =
     let on = c.in-Ok.ensures in
     let so = went g (goal.at.see-requires-2-clause-used_home g c).Else-matches in
-    home_used (sight c.args.self.now c.self.view_is c.self.invariant.0 c.requires.least c.requires.space c.requires.limit c.index_mut-actor.ensures.value) on.0 on.1 on.2 on.3 on.4 c.bytes_ahead-bytes.result.now (bytes_right (sight c.args.self.now c.self.view_is c.self.invariant.0 c.requires.least c.requires.space c.requires.limit c.index_mut-actor.ensures.value) c.in-Some.ensures.door c.bytes_ahead-bytes.ensures) so.0 refl on.5 so.1
+    home_used (sight c.args.self.now c.self.view_is c.self.invariant.0 c.requires.least c.requires.space c.index_mut-actor.ensures.value) on.0 on.1 on.2 on.3 on.4 c.bytes_ahead-bytes.result.now (bytes_right (sight c.args.self.now c.self.view_is c.self.invariant.0 c.requires.least c.requires.space c.index_mut-actor.ensures.value) c.in-Some.ensures.door c.bytes_ahead-bytes.ensures) so.0 refl on.5 so.1
 
 pub give_up-requires-in_default-see-2 : goal.give_up-requires-in_default-see-2
 give_up-requires-in_default-see-2 g c =
-    let few = room_out (sight c.args.self.now c.self.view_is c.self.invariant.0 c.requires.least c.requires.space c.requires.limit c.index_mut-actor.ensures.value) in
+    let few = room_out (sight c.args.self.now c.self.view_is c.self.invariant.0 c.requires.least c.requires.space c.index_mut-actor.ensures.value) in
     let room = c.self.invariant.2 in
     search (rules, few, room)
 
@@ -204,13 +201,13 @@ pub invariant_of-self-in_default-see-2 : goal.invariant_of-self-in_default-see-2
 invariant_of-self-in_default-see-2 g c =
     let i = c.self.inside in
     let on = c.in-Ok.ensures in
-    let place : c.len-in_default-see-2.result ≡ suc (length i.journal.items) = search rules in
-    let sound = sound_broken (sight c.args.self.now c.self.view_is c.self.invariant.0 c.requires.least c.requires.space c.requires.limit c.index_mut-actor.ensures.value) on.0 on.1 c.see-2.new.want on.3 on.4 c.len-in_default-see-2.result place c.see-2.ensures.net c.push_reserved.ensures.items c.give_up-in_default-see-2.ensures.out
+    let place : c.len-in_default-see-2.result ≡ suc (length i.journal.items) = c.len-in_default-see-2.ensures ∙ ap length c.push_reserved.ensures.items ∙ length_more i.journal.items (record { strand = c.args.strand; stream = c.args.i }) in
+    let sound = sound_broken (sight c.args.self.now c.self.view_is c.self.invariant.0 c.requires.least c.requires.space c.index_mut-actor.ensures.value) on.0 on.1 c.see-2.new.want on.3 on.4 c.len-in_default-see-2.result place c.see-2.ensures.net c.push_reserved.ensures.items c.give_up-in_default-see-2.ensures.out
     (c.give_up-in_default-see-2.ensures.actor ∙ ap (λ (z : Actor g.row.S.Denot). given_up (asking_for c.see-2.new.want z)) on.5) c.in_default-see-2.ensures.err c.in_default-see-2.ensures.err_pool in
     (sound, search rules, search rules)
 
 pub returns-in_default-see-2-clause-lawful : goal.returns-in_default-see-2-clause-lawful
-returns-in_default-see-2-clause-lawful g c = lawful_broken (sight c.args.self.now c.self.view_is c.self.invariant.0 c.requires.least c.requires.space c.requires.limit c.index_mut-actor.ensures.value) c.give_up-in_default-see-2.new.out.items c.see-2.ensures.net c.push_reserved.ensures.items
+returns-in_default-see-2-clause-lawful g c = lawful_broken (sight c.args.self.now c.self.view_is c.self.invariant.0 c.requires.least c.requires.space c.index_mut-actor.ensures.value) c.give_up-in_default-see-2.new.out.items c.see-2.ensures.net c.push_reserved.ensures.items
 
 came : (g : Over) (c : In-Ok-see g) →
     Resumes g.S.Stage.stands c.in-Ok.ensures.0 c.in-Ok.ensures.1 (Saw c.args.i) c.bytes_ahead-bytes.result.now c.in-Ok.ensures.2
@@ -219,7 +216,7 @@ came : (g : Over) (c : In-Ok-see g) →
     (slice_set c.self.inside.actors.items c.args.strand (asking_for c.see-2.new.want c.see.new.actor)) c.see-2.new.self.desk c.see-2.new.self.pool
 came g c so =
     let on = c.in-Ok.ensures in
-    home_sound (sight c.args.self.now c.self.view_is c.self.invariant.0 c.requires.least c.requires.space c.requires.limit c.index_mut-actor.ensures.value) on.0 on.1 on.2 on.3 on.4 c.bytes_ahead-bytes.result.now (bytes_right (sight c.args.self.now c.self.view_is c.self.invariant.0 c.requires.least c.requires.space c.requires.limit c.index_mut-actor.ensures.value) c.in-Some.ensures.door c.bytes_ahead-bytes.ensures) so.0 refl on.5 so.1
+    home_sound (sight c.args.self.now c.self.view_is c.self.invariant.0 c.requires.least c.requires.space c.index_mut-actor.ensures.value) on.0 on.1 on.2 on.3 on.4 c.bytes_ahead-bytes.result.now (bytes_right (sight c.args.self.now c.self.view_is c.self.invariant.0 c.requires.least c.requires.space c.index_mut-actor.ensures.value) c.in-Some.ensures.door c.bytes_ahead-bytes.ensures) so.0 refl on.5 so.1
     c.see-2.ensures.net c.push_reserved.ensures.items c.see-2.ensures.bare c.in-Ok-see.ensures.home
 
 pub invariant_of-self-in-Ok-see-2 : goal.invariant_of-self-in-Ok-see-2

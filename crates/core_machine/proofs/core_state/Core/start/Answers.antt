@@ -29,7 +29,7 @@ invariant_of-result g c =
     let called_here = subst (λ (n : Net). IsCalled g.S.Stage.stands n (length n.strands) new.actors.items new.floor.desk new.floor.pool) net called in
     let sound = all_called g.S.Stage.stands c.args.net c.requires.formed new.actors.items new.floor.desk new.floor.pool c.args.budget c.requires.bounded called_here in (
       subst (λ n. IsSound g.S.Stage.stands n c.args.budget c.in_ok-journal.journal.items c.in_ok-out.out.items new.actors.items new.floor.desk new.floor.pool) (sym (c.call_all-called.ensures.net ∙ net))
-          (subst (λ j. IsSound g.S.Stage.stands c.args.net c.args.budget j c.in_ok-out.out.items new.actors.items new.floor.desk new.floor.pool) (sym c.in_ok-journal.ensures.items)
+          (subst (λ j. IsSound g.S.Stage.stands c.args.net c.args.budget j c.in_ok-out.out.items new.actors.items new.floor.desk new.floor.pool) (sym c.in_ok-journal.ensures.empty)
           (subst (λ o. IsSound g.S.Stage.stands c.args.net c.args.budget [] o new.actors.items new.floor.desk new.floor.pool) (sym c.in_ok-out.ensures.items) sound)),
       search rules,
       search rules,
@@ -39,4 +39,4 @@ pub returns : goal.returns
 returns g c =
     let M : Net → List Entry → List ℕ → Machine = λ n j o. record { net = n; budget = c.args.budget; journal = j; out = o; is_broken = false } in
     ap (λ n. M n c.in_ok-journal.journal.items c.in_ok-out.out.items) (c.call_all-called.ensures.net ∙ c.in_ok-floor.ensures.net)
-    ∙ ap (λ j. M c.args.net j c.in_ok-out.out.items) c.in_ok-journal.ensures.items ∙ ap (M c.args.net []) c.in_ok-out.ensures.items
+    ∙ ap (λ j. M c.args.net j c.in_ok-out.out.items) c.in_ok-journal.ensures.empty ∙ ap (M c.args.net []) c.in_ok-out.ensures.items

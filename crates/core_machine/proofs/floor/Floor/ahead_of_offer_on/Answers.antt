@@ -1,24 +1,31 @@
 -- Where the consumer stands below the strand that writes, or right behind it while that waits, nobody below it may go on.
-use Rattle.std.proofs.Common.{rules, arith, ℕ, ◌≡◌, ◌<◌, ◌⊎◌, inl, inr, ◌+◌, ◌-◌, ◌||◌, not, Bool, length, Some, true, false, refl, sym, ◌∙◌, ap, subst, slice_get}
-use Rattle.std.proofs.lemmas.Bool.{eqb-true}
+use Rattle.std.proofs.Common.{rules, arith, ℕ, ◌≡◌, ◌≢◌, ◌<◌, ◌⊎◌, inl, inr, ◌+◌, ◌||◌, not, Bool, length, Some, true, false, refl, sym, ◌∙◌, ap, subst, slice_get}
 use Rattle.std.proofs.lemmas.Option.{slice_get_within}
+use Rattle.pipe_model.proofs.Numbers.{equal_or_not}
 use Rattle.pipe_model.proofs.Truths.{both}
 use Rattle.pipe_model.specs.declared.step.Seen.TheVariants.{Saw}
 use Rattle.run_desk.specs.Telling as Telling
+use Rattle.run_desk.specs.declared.seat.Ask.TheVariants as Now
 use Rattle.core_machine.specs.Ahead.{HasGoneQuietly, HasSeenOrPut, IsAheadOn}
 use Rattle.core_machine.specs.Floor.{FloorState}
 use Rattle.core_machine.specs.declared.floor.Ahead.TheVariants as Known
-use Rattle.core_machine.proofs.Aheads.{known_of, reads_as, read_next}
+use Rattle.core_machine.proofs.Aheads.{asks_write, known_of, reads_as, read_next}
 use Rattle.core_machine.proofs.Plays.{links_inside}
-use Rattle.core_machine.proofs.floor.Floor.ahead_of_offer_on.Goals.{then-its-strand, else-its-strand}
 use Rattle.core_machine.proofs.floor.Floor.ahead_of_offer_on.Goals as goal
 
 denied : (b : Bool) → not b ≡ true → b ≡ false
 denied true e = cc
 denied false e = refl
 
-one_more : (to s : ℕ) → to - s ≡ 1 → to ≡ s + 1
-one_more to s apart = omega (arith, apart)
+-- a strand that is at most one behind stands below, right behind, or is the same
+near_is : (to s : ℕ) → to < s + 2 → (to < s) ⊎ ((to ≡ s + 1) ⊎ (to ≡ s))
+near_is to s near = elim (equal_or_not to s) [
+  | inl e ↦ inr (inr e)
+  | inr apart ↦ elim (equal_or_not to (s + 1)) [ inl e ↦ inr (inl e) | inr other ↦ inl (below to s near apart other) ]
+]
+  where
+    below : (a b : ℕ) → a < b + 2 → a ≢ b → a ≢ b + 1 → a < b
+    below a b p q r = grind arith
 
 pub waits-requires : goal.waits-requires
 waits-requires c =
@@ -49,13 +56,15 @@ returns-then-reads c = λ d pool k seen o asked gone told writes door.
     let waits = both (Telling.shows wire) (not (Telling.can_put wire || Telling.can_refuse wire)) (sym c.waits.ensures ∙ c.if-waits.true) in
     let shut : (Telling.can_put (Telling.wire_out f.desk s o) || Telling.can_refuse (Telling.wire_out f.desk s o)) ≡ false =
     ap (λ z. Telling.can_put (Telling.through f.desk.wires z) || Telling.can_refuse (Telling.through f.desk.wires z)) there ∙ denied (Telling.can_put wire || Telling.can_refuse wire) waits.1 in
-    let near : (link.to < s) ⊎ ((link.to ≡ s + 1) × ((Telling.can_put (Telling.wire_out f.desk s o) || Telling.can_refuse (Telling.wire_out f.desk s o)) ≡ false)) = elim c.if-its-strand.branch [
-      | then-its-strand w ↦ inl w.if-its-strand.true
-      | else-its-strand w ↦ inr (one_more link.to s (eqb-true _ _ (sym w.is_near-is ∙ c.if-is_near.true)), shut)
-    ] in
     let asks = reads_as (Telling.ask_at f.desk link.to) link.input (sym c.reads.ensures ∙ c.if-reads.true) in
+    let went = subst (λ (z : FloorState). HasGoneQuietly z.net d pool s k seen asked z.desk z.pool) (sym v) gone in
+    let near : (link.to < s) ⊎ ((link.to ≡ s + 1) × ((Telling.can_put (Telling.wire_out f.desk s o) || Telling.can_refuse (Telling.wire_out f.desk s o)) ≡ false)) = elim (near_is link.to s c.if-is_near.true) [
+      | inl below ↦ inl below
+      | inr (inl behind) ↦ inr (behind, shut)
+      | inr (inr same) ↦ let no : Now.Read link.input ≡ Now.Write o = sym asks ∙ ap (Telling.ask_at f.desk) same ∙ asks_write f.net d pool s k seen asked f.desk f.pool went o writes in cc no
+    ] in
     subst (λ (z : FloorState). IsAheadOn z.desk (Known.Saw link.to link.input)) v
     (known_of f.desk (Known.Saw link.to link.input) (link.to, link.input, Saw link.input) refl
     (read_next f.net d pool s k seen asked f.desk f.pool
-    (subst (λ (z : FloorState). HasGoneQuietly z.net d pool s k seen asked z.desk z.pool) (sym v) gone) (subst (λ (z : FloorState). HasSeenOrPut z.net d s seen) (sym v) told)
+    went (subst (λ (z : FloorState). HasSeenOrPut z.net d s seen) (sym v) told)
     o writes j link there at near waits.0 asks))

@@ -39,7 +39,7 @@ sound_broken g c =
     let at = actor_at g.S.Stage.stands i.floor.net i.budget i.journal.items i.out.items i.actors.items i.floor.desk i.floor.pool c.self.invariant.0 c.args.strand a (in_range g.S.Stage.stands i.floor.net i.budget i.journal.items i.out.items i.actors.items i.floor.desk i.floor.pool c.self.invariant.0 c.args.strand c.args.stream c.requires.least.1.0 may) c.index_mut-actor.ensures.value in
     let moved = c.make.new.self in
     let on = c.advance.ensures in
-    let place : c.len.result ≡ suc (length i.journal.items) = search rules in
+    let place : c.len.result ≡ suc (length i.journal.items) = c.len.ensures ∙ ap length c.push_reserved.ensures.items ∙ length_more i.journal.items (record { strand = c.args.strand; stream = c.args.stream }) in
     let actor_is = c.give_up.ensures.actor ∙ ap (λ (z : Actor g.row.S.Denot). given_up z) on.5 in
     let out_is : c.give_up.new.out.items ≡ i.out.items ++ suc (length i.journal.items) ∷ [] = c.give_up.ensures.out ∙ ap (λ p. i.out.items ++ p ∷ []) place in
     let gone = lost g.S.Stage.stands i.floor.net i.budget i.journal.items i.out.items i.actors.items i.floor.desk i.floor.pool c.self.invariant.0 c.args.strand c.args.stream c.requires.least.1.0 may a on.0 at on.4 c.args.seen c.requires.least.1.2 space moved.desk moved.pool c.make.ensures.desk c.make.ensures.pool on.1 on.2 on.3 in
@@ -70,7 +70,7 @@ sound_broken_home g c =
     let at = actor_at g.S.Stage.stands i.floor.net i.budget i.journal.items i.out.items i.actors.items i.floor.desk i.floor.pool c.self.invariant.0 c.args.strand a (in_range g.S.Stage.stands i.floor.net i.budget i.journal.items i.out.items i.actors.items i.floor.desk i.floor.pool c.self.invariant.0 c.args.strand c.args.stream c.requires.least.1.0 may) c.index_mut-actor.ensures.value in
     let moved = c.make.new.self in
     let on = c.advance.ensures in
-    let place : c.len-in_default-come_home.result ≡ suc (length i.journal.items) = search rules in
+    let place : c.len-in_default-come_home.result ≡ suc (length i.journal.items) = c.len-in_default-come_home.ensures ∙ ap length c.push_reserved.ensures.items ∙ length_more i.journal.items (record { strand = c.args.strand; stream = c.args.stream }) in
     let actor_is = c.give_up-in_default-come_home.ensures.actor ∙ ap (λ (z : Actor g.row.S.Denot). given_up (asking_for c.come_home.new.want z)) on.5 in
     let out_is : c.give_up-in_default-come_home.new.out.items ≡ i.out.items ++ suc (length i.journal.items) ∷ [] = c.give_up-in_default-come_home.ensures.out ∙ ap (λ p. i.out.items ++ p ∷ []) place in
     let gone = lost g.S.Stage.stands i.floor.net i.budget i.journal.items i.out.items i.actors.items i.floor.desk i.floor.pool c.self.invariant.0 c.args.strand c.args.stream c.requires.least.1.0 may a on.0 at on.4 c.args.seen c.requires.least.1.2 space moved.desk moved.pool c.make.ensures.desk c.make.ensures.pool on.1 c.come_home.new.want on.3 in

@@ -1,5 +1,5 @@
 -- The strand is told that its record was put, which is the least event.
-use Rattle.std.proofs.Common.{◌≡◌, ℕ, Bool, false, ◌<◌, ◌≤◌, List, Option, Some, length, slice_get, arith, sym, ◌∙◌, ap, subst}
+use Rattle.std.proofs.Common.{◌≡◌, ℕ, Bool, false, ◌+◌, ◌<◌, List, Option, Some, length, slice_get, arith, sym, ◌∙◌, ap, subst}
 use Rattle.std.specs.Prelude.{slice_index_or}
 use Rattle.pipe_model.specs.declared.net.Link.{Link}
 use Rattle.pipe_model.specs.declared.net.Net.{Net}
@@ -18,11 +18,11 @@ use Rattle.core_machine.proofs.Tellings.{IsTelling, telling}
 
 -- the core is sound, and the strand is home, with its coroutine
 pub offer : {S : Type 0} {stands : S → Strand → List Event → Type 0} {net : Net} {budget : ℕ} {journal : List Entry} {out : List ℕ} {actors : List (Actor S)} {d : DeskState} {pool : PoolState} {b : Bool}
-    {s o limit : ℕ} {a : Actor S} (m : Machine) → ◌≡◌ {A = Machine} (record { net = net; budget = budget; journal = journal; out = out; is_broken = b }) m →
-    IsSound stands net budget journal out actors d pool → LeastEvent m (Some (s, o, Put o)) → length m.journal < limit → limit ≤ m.budget → a ≡ slice_index_or actors s a →
+    {s o : ℕ} {a : Actor S} (m : Machine) → ◌≡◌ {A = Machine} (record { net = net; budget = budget; journal = journal; out = out; is_broken = b }) m →
+    IsSound stands net budget journal out actors d pool → LeastEvent m (Some (s, o, Put o)) → length m.journal + 1 < m.budget → a ≡ slice_index_or actors s a →
     IsTelling stands net budget journal out actors d pool s o (Put o) a
-offer {S} {stands} {net} {budget} {journal} {out} {actors} {d} {pool} {b} {s} {o} {limit} {a} m view sound least few most read =
-    let below : length m.journal < m.budget = omega (arith, few, most) in
+offer {S} {stands} {net} {budget} {journal} {out} {actors} {d} {pool} {b} {s} {o} {a} m view sound least space read =
+    let below : length m.journal < m.budget = omega (arith, space) in
     telling stands net budget journal out actors d pool b s o (Put o) a sound (subst (λ (z : Machine). LeastEvent z (Some (s, o, Put o))) (sym view) least)
     (subst (λ (z : Machine). length z.journal < z.budget) (sym view) below) read
 

@@ -1,6 +1,6 @@
 use Rattle.std.proofs.Common.{rules, ◌<◌}
 use Rattle.core_machine.proofs.Summaries.{inserted}
-use Rattle.core_machine.proofs.ready.Ready.insert.Goals as goal
+use Rattle.core_machine.proofs.ready.Ready.insert_new.Goals as goal
 
 pub invariant_of-self : goal.invariant_of-self
 invariant_of-self c =
