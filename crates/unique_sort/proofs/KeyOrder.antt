@@ -35,7 +35,7 @@ abbrev pub by_keys : List SortKey → List ℕ → List ℕ → Ordering
 by_keys [] rec other = Equal
 by_keys (key ∷ keys) rec other = ordering_then (by_key key rec other) (by_keys keys rec other)
 
-directed_total : (descending : Bool) {order : List ℕ → List ℕ → Ordering} → IsTotalOrder order → IsTotalOrder (directed descending order)
+pub directed_total : (descending : Bool) {order : List ℕ → List ℕ → Ordering} → IsTotalOrder order → IsTotalOrder (directed descending order)
 directed_total false total = total
 directed_total true total = back_total total
 

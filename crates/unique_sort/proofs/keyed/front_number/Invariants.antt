@@ -5,6 +5,6 @@ use Rattle.unique_sort.proofs.keyed.front_number.Given as goal
 -- behind the digits so far, those of the rest are still to come
 abbrev pub invariant-loop : goal.invariant-loop
 invariant-loop l = record {
-  value : front_on (8 - l.counter) l.number l.rest ≡ front_on 8 0 l.key;
+  value : front_on (7 - l.counter) l.number l.rest ≡ front_on 7 0 l.key;
   small : l.number < 256 ^ l.counter;
 }
