@@ -29,7 +29,7 @@ use Rattle.run_desk.specs.Turns.{Behind, CanCome, bare, desk_after_turn, offer_o
 use Rattle.run_desk.proofs.Limits.{offers_held}
 use Rattle.core_machine.specs.declared.actor.Actor.{Actor}
 use Rattle.core_machine.specs.declared.relay.Pair.{Pair}
-use Rattle.core_machine.specs.declared.run.Which.TheVariants.{All}
+use Rattle.core_machine.specs.declared.run.Which.TheVariants.{OfRecords}
 use Rattle.core_machine.specs.Actors.{HasSeen, gone_on, given_up}
 use Rattle.core_machine.specs.Floor.{FloorState, IsCovered, IsInUse, StaysEarly}
 use Rattle.core_machine.specs.Answered.{LeastEvent}
@@ -117,7 +117,7 @@ pub record AreRelaying {S : Type 0} (stands : S → Strand → List Event → Ty
   pub net_is : floor.net ≡ net
   pub more : List Entry
   pub journal_is : journal ≡ start ++ more
-  pub steps : (budget : ℕ) (broken : Bool) → AreSteps (is_made All) (record { net = net; budget = budget; journal = start; out = out; is_broken = broken }) more
+  pub steps : (budget : ℕ) (broken : Bool) → AreSteps (is_made OfRecords) (record { net = net; budget = budget; journal = start; out = out; is_broken = broken }) more
   pub writes : is_member floor.ready p.strand ≡ true
   pub reads : is_member floor.ready p.to ≡ true
   pub actor : Actor S
@@ -232,14 +232,14 @@ module _ {S : Type 0} {stands : S → Strand → List Event → Type 0} {showing
         (home.0, home.1, Pairs.can_see p r.grip t r.pair r.asked r.plain space next bytes shows.0 b there home.0 home.1 shown all none)
 
     -- two entries more
-    pub two_steps : (budget : ℕ) (broken : Bool) → AreSteps (is_made All) (record { net = net; budget = budget; journal = start; out = out; is_broken = broken }) ((r.more ++ put ∷ []) ++ took ∷ [])
+    pub two_steps : (budget : ℕ) (broken : Bool) → AreSteps (is_made OfRecords) (record { net = net; budget = budget; journal = start; out = out; is_broken = broken }) ((r.more ++ put ∷ []) ++ took ∷ [])
     two_steps budget broken =
         let m : Machine = record { net = net; budget = budget; journal = start; out = out; is_broken = broken } in
         let at : List Entry → Machine = λ j. record { net = net; budget = budget; journal = j; out = out; is_broken = broken } in
         let first = Pairs.puts_least p r.grip t r.pair r.asked r.plain space next bytes shows.0 b there budget broken in
-        let one = steps_more (is_made All) m r.more put (r.steps budget broken) (Put p.output) (subst (λ j. LeastEvent (at j) (Some (p.strand, p.output, Put p.output))) r.journal_is first) refl in
+        let one = steps_more (is_made OfRecords) m r.more put (r.steps budget broken) (Put p.output) (subst (λ j. LeastEvent (at j) (Some (p.strand, p.output, Put p.output))) r.journal_is first) refl in
         let then = Pairs.sees_least p r.grip t r.pair r.asked r.plain space next bytes shows.0 b there budget broken in
-        steps_more (is_made All) m (r.more ++ put ∷ []) took one (Saw 0)
+        steps_more (is_made OfRecords) m (r.more ++ put ∷ []) took one (Saw 0)
         (subst (λ j. LeastEvent (at j) (Some (p.to, 0, Saw 0))) (ap (λ j. j ++ put ∷ []) r.journal_is ∙ append_three start r.more (put ∷ [])) then) refl
 
     pub two_longer : (journal ++ put ∷ []) ++ took ∷ [] ≡ start ++ ((r.more ++ put ∷ []) ++ took ∷ [])
@@ -267,12 +267,12 @@ module _ {S : Type 0} {stands : S → Strand → List Event → Type 0} {showing
             (covered.size ∙ ap (λ (n : Net). length n.strands) r.net_is) r.writes r.reads covered.covers
 
         pub three_steps : (budget : ℕ) (broken : Bool) →
-            AreSteps (is_made All) (record { net = net; budget = budget; journal = start; out = out; is_broken = broken }) (((r.more ++ put ∷ []) ++ took ∷ []) ++ took ∷ [])
+            AreSteps (is_made OfRecords) (record { net = net; budget = budget; journal = start; out = out; is_broken = broken }) (((r.more ++ put ∷ []) ++ took ∷ []) ++ took ∷ [])
         three_steps budget broken =
             let m : Machine = record { net = net; budget = budget; journal = start; out = out; is_broken = broken } in
             let at : List Entry → Machine = λ j. record { net = net; budget = budget; journal = j; out = out; is_broken = broken } in
             let last = Pairs.takes_least p r.grip t r.pair r.asked r.plain space next bytes shows.0 b there x y was asked' passes' shown all none seen budget broken in
-            steps_more (is_made All) m ((r.more ++ put ∷ []) ++ took ∷ []) took (two_steps budget broken) (Took 0) (subst (λ j. LeastEvent (at j) (Some (p.to, 0, Took 0))) two_longer last) refl
+            steps_more (is_made OfRecords) m ((r.more ++ put ∷ []) ++ took ∷ []) took (two_steps budget broken) (Took 0) (subst (λ j. LeastEvent (at j) (Some (p.to, 0, Took 0))) two_longer last) refl
 
         -- the two are as far as before, with three entries more
         pub goes_round : (floor' : FloorState) (actors' : List (Actor S)) (journal' : List Entry) → floor'.net ≡ floor.net → floor'.desk ≡ desk_relayed floor.desk p.link → floor'.pool ≡ floor.pool →

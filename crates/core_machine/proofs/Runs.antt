@@ -130,6 +130,14 @@ runs_break made m n k run lacks =
       out = lacks.out ∙ ap (λ (z : Machine). z.out ++ length k.journal ∷ []) run.after;
     }
 
+-- a run that makes events of one kind is one that makes events of a wider kind
+steps_wider : (made wider : Seen → Bool) → ((seen : Seen) → made seen ≡ true → wider seen ≡ true) → (m : Machine) (es : List Entry) → AreSteps made m es → AreSteps wider m es
+steps_wider made wider more m [] steps = tt
+steps_wider made wider more m (e ∷ es) steps = ((steps.0.0, steps.0.1, more steps.0.0 steps.0.2), steps_wider made wider more (record m { journal = m.journal ++ e ∷ [] }) es steps.1)
+
+pub runs_wider : (made wider : Seen → Bool) → ((seen : Seen) → made seen ≡ true → wider seen ≡ true) → (m n : Machine) → HasRunBy made m n → HasRunBy wider m n
+runs_wider made wider more m n run = record { more = run.more; steps = steps_wider made wider more m run.more run.steps; after = run.after }
+
 -- the journal has no fewer entries after a run
 pub run_longer : (made : Seen → Bool) (m n : Machine) → HasRunBy made m n → length m.journal ≤ length n.journal
 run_longer made m n run =
@@ -227,7 +235,7 @@ run_then made m n k s i limit seen whole budget run few least is takes does =
     (run, ap (λ (z : Machine). z.is_broken) run.after ∙ whole, (omega (arith, few)), subst (λ b. limit ≤ b) (sym (ap (λ (z : Machine). z.budget) run.after)) budget) few least is takes does
 
 -- a strand that may have an event is one of the net
-licensed_inside : (net : Net) (st : State) (left : Left) (s k : ℕ) (e : Event) → licence net st left s k ≡ Some e → s < length net.strands
+pub licensed_inside : (net : Net) (st : State) (left : Left) (s k : ℕ) (e : Event) → licence net st left s k ≡ Some e → s < length net.strands
 licensed_inside net st left s k e may = go (strand_at net st s) refl
   where
     nothing : (b : Bool) → cond b None (want_after None (past st s)) ≡ None

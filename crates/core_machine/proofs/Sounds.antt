@@ -51,6 +51,7 @@ use Rattle.core_machine.specs.Machine.{is_of, is_at, left_by, without, is_among,
 use Rattle.core_machine.specs.Sound.{IsLast, IsActor, AreActors, IsSound}
 use Rattle.core_machine.specs.Woken.{AsksEarly, HasReturned, LeastAwake, LeastEventAwake}
 use Rattle.core_machine.proofs.Away.{left_turned, last_turned, apart_turned, left_home, apart_home, last_home, among_last, among_left, one_strand, fewer_out}
+use Rattle.core_machine.proofs.Runs.{licensed_inside}
 use Rattle.core_machine.proofs.Plays.{get_take, looks_here, looks_nowhere, play_length, end_seen, shows_bare, early_on}
 
 -- what holds on a floor holds on another that differs by the set alone
@@ -251,16 +252,7 @@ module _ {S : Type 0} (stands : S → Strand → List Event → Type 0) (net : N
     now = play_last net nothing_yet journal entry ∙ ap (with_some_event st s) may_all
 
     pub in_range : s < length net.strands
-    in_range = go (strand_at net st s) refl
-      where
-        go : (x : Option Strand) → strand_at net st s ≡ x → s < length net.strands
-        go None is =
-            let none : licence net st left s k ≡ None = ap (λ x. answer (sight_of net st left s) k (cond (left s) None (want_after x (past st s)))) is ∙ ap (answer (sight_of net st left s) k) (nothing (left s)) in cc
-          where
-            nothing : (b : Bool) → cond b None (want_after None (past st s)) ≡ None
-            nothing true = refl
-            nothing false = refl
-        go (Some p) is = slice_get_within net.strands s _ is
+    in_range = licensed_inside net st left s k e may
 
     pub out_room : length out < length net.strands
     out_room = fewer_out net journal out s sound.last sound.apart in_range is_home

@@ -1,12 +1,10 @@
 -- A run is made of its steps.
-use Rattle.std.proofs.Common.{◌≡◌, ◌<◌, ◌≤◌, ℕ, true, false, List, [], ◌∷◌, ◌++◌, inl, inr, length, refl, sym, ◌∙◌, ap, subst, arith, Some, None}
+use Rattle.std.proofs.Common.{◌≡◌, ◌<◌, ◌≤◌, ℕ, List, [], ◌∷◌, ◌++◌, inl, inr, length, refl, sym, ◌∙◌, ap, subst, arith, Some, None}
 use Rattle.std.specs.Prelude.{Result, Ok, Err, OnErr}
 use Rattle.pipe_model.specs.declared.step.Entry.{Entry}
-use Rattle.pipe_model.specs.declared.step.Seen.{Seen}
-use Rattle.pipe_model.specs.declared.step.Seen.TheVariants.{Took}
 use Rattle.pipe_model.proofs.Lists.{length_more}
 use Rattle.core_machine.specs.declared.job.RunEnd.TheVariants.{Complete, Spent}
-use Rattle.core_machine.specs.Answered.{LeastReady, LeastEvent, AreLeast, HasRun, HasMade, Ends}
+use Rattle.core_machine.specs.Answered.{LeastReady, HasRun, HasMade, Ends}
 use Rattle.core_machine.specs.Machine.{Machine, IsLawful}
 
 pub append_twice : (xs : List Entry) (x : Entry) (ys : List Entry) → (xs ++ x ∷ []) ++ ys ≡ xs ++ x ∷ ys

@@ -60,6 +60,10 @@ pub(crate) fn pair_of<S: Stage>(
     if to <= strand || to - strand != 1 || to as usize >= actors.len() {
         return None;
     }
+    // Others needn't wait for work that is long.
+    if floor.has_long_sights(to) {
+        return None;
+    }
     match floor.link_in(to, 0) {
         Some(from) if from == link && floor.relays(to, link) => Some(Pair {
             strand,
@@ -103,7 +107,7 @@ pub(crate) fn relay<S: Stage, G: Gate>(
     ensures net { floor.new.net ≡ floor.old.net }
     ensures sound { IsSound S.stands floor.new.net limit journal.new.items out.new.items actors.new.items floor.new.desk floor.new.pool }
     ensures goes { IfOk result (λ _. (more : List EntryIs) × (journal.new.items ≡ journal.old.items ++ more)
-        × ((budget : ℕ) (broken : Bool) → AreSteps (is_made Makes.All) (record { net = floor.old.net; budget = budget; journal = journal.old.items; out = out.old.items; is_broken = broken }) more)) }
+        × ((budget : ℕ) (broken : Bool) → AreSteps (is_made Makes.OfRecords) (record { net = floor.old.net; budget = budget; journal = journal.old.items; out = out.old.items; is_broken = broken }) more)) }
     ensures more { IfOk result (λ over. over ≡ true → length journal.old.items < length journal.new.items) }
     ensures out { OnOk result (out.new.items ≡ out.old.items) }
     ensures due { IfOk result (λ over. over ≡ false → IsDue floor.new.net floor.new.desk floor.new.pool pair) }

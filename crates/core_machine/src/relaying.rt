@@ -60,11 +60,21 @@ impl Floor {
         requires strand { strand < length self.now.net.strands }
         requires held { IsHeldIn self.now.pool (hand_on (Telling.wire_in self.now.desk strand i)) }
     {
-        let has_many = match &self.net.strands.as_slice()[strand as usize].kind {
+        if self.has_long_sights(strand) {
+            return true;
+        }
+        self.desk.size_at_hand(&self.pool, strand, i) > SHORT_RECORD
+    }
+
+    /// Whether a strand's work on a record of any size may take more than some five microseconds. Nothing is proved of the
+    /// answer.
+    pub(crate) fn has_long_sights(&self, strand: u32) -> bool
+        requires { strand < length self.now.net.strands }
+    {
+        match &self.net.strands.as_slice()[strand as usize].kind {
             Kind::Specs { items, .. } => items.as_slice().len() > FEW_ITEMS,
             _ => false,
-        };
-        has_many || self.desk.size_at_hand(&self.pool, strand, i) > SHORT_RECORD
+        }
     }
 
     /// A strand sees the record at hand on an input, to which this link leads, and comes home with what it wants next, out of

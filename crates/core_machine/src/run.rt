@@ -27,7 +27,8 @@ pub(crate) enum Which {
 impl Which {
     ghost use Rattle.std.specs.Prelude.{◌≡◌, true};
     ghost use Rattle.core_machine.specs.Runs.{is_made, may_end};
-    ghost use Rattle.pipe_model.specs.declared.step.Seen.TheVariants as Told;
+    ghost use Rattle.core_machine.specs.Answered.{is_of_record};
+    ghost use Rattle.pipe_model.specs.declared.step.Seen.{Seen as Told};
 
     // Whether an event is made.
     fn makes(self, seen: Seen) -> bool
@@ -35,6 +36,13 @@ impl Which {
         ensures ends { result ≡ false → may_end self seen ≡ true }
     {
         matches!(self, Which::All) || is_quiet(seen)
+    }
+
+    // Whether it makes each event by which a record is seen, taken or put.
+    fn makes_sights(self) -> bool
+        ensures { result ≡ true → (seen : Told) → is_of_record true seen ≡ true → is_made self seen ≡ true }
+    {
+        !matches!(self, Which::Quiet)
     }
 }
 
@@ -281,8 +289,8 @@ impl<S: Stage> Core<S> {
     }
 
     // The strand puts a record on an output, which is the least event that may be. Where that is a source, and the next strand, which
-    // took the record at once, takes those that follow, both go on as long as they do that. Runs of one thread alone allow it:
-    // others' sights are short.
+    // took the record at once, takes those that follow, both go on as long as they do that. Runs that make no sights don't
+    // allow it. That it is tried there is a matter of speed: nothing is proved of it.
     #[inline(always)]
     fn put_on<G: Gate>(
         &mut self,
@@ -306,7 +314,7 @@ impl<S: Stage> Core<S> {
         ensures lawful { IsLawful self.new }
     {
         if at_once {
-            if matches!(which, Which::All) {
+            if which.makes_sights() {
                 if self.is_first(strand) {
                     if self.relay(alloc, gate, strand, o, limit)? {
                         return Ok(Ahead::Search);
@@ -320,7 +328,7 @@ impl<S: Stage> Core<S> {
         self.put(alloc, gate, strand, o)
     }
 
-    // Whether no link leads to a strand's input 0.
+    // Whether no link leads to a strand's input 0. Nothing is proved of the answer.
     #[inline(always)]
     fn is_first(&self, strand: u32) -> bool
         requires { strand < length self.now.net.strands }
@@ -343,7 +351,7 @@ impl<S: Stage> Core<S> {
         requires space { length self.old.journal < limit }
         requires limit { limit ≤ self.old.budget }
         requires whole { self.old.is_broken ≡ false }
-        ensures goes { OnOk result (HasRunBy (is_made Makes.All) self.old self.new) }
+        ensures goes { OnOk result (HasRunBy (is_made Makes.OfRecords) self.old self.new) }
         ensures more { IfOk result (λ over. over ≡ true → length self.old.journal < length self.new.journal) }
         ensures within { OnOk result (length self.new.journal ≤ limit) }
         ensures due { IfOk result (λ over. over ≡ false → LeastEvent self.new (Some (strand, o, Told.Put o))) }

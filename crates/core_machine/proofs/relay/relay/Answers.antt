@@ -7,7 +7,7 @@ use Rattle.run_desk.specs.Desk.{DeskState}
 use Rattle.run_desk.specs.Relaying.{desk_showing, pool_refilled}
 use Rattle.run_desk.specs.Telling.{ended_at}
 use Rattle.run_desk.specs.Turns.{CanCome, bare, offer_on}
-use Rattle.core_machine.specs.declared.run.Which.TheVariants.{All}
+use Rattle.core_machine.specs.declared.run.Which.TheVariants.{OfRecords}
 use Rattle.core_machine.specs.Actors.{HasSeen, asking_for, given_up}
 use Rattle.core_machine.specs.Floor.{FloorState, IsInUse, StaysEarly}
 use Rattle.core_machine.specs.Pairs.{with_stage}
@@ -40,7 +40,7 @@ longer g c =
 
 -- by steps of the core
 pushed_more : (g : Over) (c : After-copied g) → (more : List Entry) × (c.push_reserved-in-loop-rounds.new.self.items ≡ c.args.journal.now.items ++ more)
-    × ((budget : ℕ) (broken : Bool) → AreSteps (is_made All) (record { net = c.args.floor.now.net; budget = budget; journal = c.args.journal.now.items; out = c.args.out.now.items; is_broken = broken }) more)
+    × ((budget : ℕ) (broken : Bool) → AreSteps (is_made OfRecords) (record { net = c.args.floor.now.net; budget = budget; journal = c.args.journal.now.items; out = c.args.out.now.items; is_broken = broken }) more)
 pushed_more g c =
     let r = c.loop-rounds.invariant.0 in
     let space = round_space c.args.pair c.args.journal.now.items c.args.limit c.len.result c.loop-rounds.rounds c.len.ensures c.loop-rounds-test.true in

@@ -3,7 +3,7 @@ use Rattle.std.proofs.Common.{◌≡◌, ◌<◌, ◌≤◌, ◌++◌, ◌∷◌
 use Rattle.pipe_model.specs.declared.net.Net.{Net}
 use Rattle.pipe_model.specs.declared.step.Entry.{Entry}
 use Rattle.pipe_model.specs.declared.step.Seen.TheVariants.{Put}
-use Rattle.core_machine.specs.declared.run.Which.TheVariants.{All}
+use Rattle.core_machine.specs.declared.run.Which.TheVariants.{OfRecords}
 use Rattle.core_machine.specs.Answered.{LeastEvent, HasBroken, IsLonger}
 use Rattle.core_machine.specs.Machine.{Machine}
 use Rattle.core_machine.specs.Pairs.{IsDue}
@@ -70,9 +70,9 @@ returns-else-is_err-clause-goes g c =
     let n = c.relay-relayed.new in
     let v : ◌≡◌ {A = Machine} (record { net = i.floor.net; budget = i.budget; journal = i.journal.items; out = i.out.items; is_broken = i.is_broken }) c.args.self.now = c.self.view_is in
     ok_both ((more : List Entry) × (n.journal.items ≡ i.journal.items ++ more)
-    × ((budget : ℕ) (broken : Bool) → AreSteps (is_made All) (record { net = i.floor.net; budget = budget; journal = i.journal.items; out = i.out.items; is_broken = broken }) more))
-    (n.out.items ≡ i.out.items) (HasRunBy (is_made All) c.args.self.now (record { net = n.floor.net; budget = i.budget; journal = n.journal.items; out = n.out.items; is_broken = i.is_broken })) c.relay-relayed.result
-    (λ goes outs. subst (λ (z : Machine). HasRunBy (is_made All) z (record { net = n.floor.net; budget = i.budget; journal = n.journal.items; out = n.out.items; is_broken = i.is_broken })) v (record {
+    × ((budget : ℕ) (broken : Bool) → AreSteps (is_made OfRecords) (record { net = i.floor.net; budget = budget; journal = i.journal.items; out = i.out.items; is_broken = broken }) more))
+    (n.out.items ≡ i.out.items) (HasRunBy (is_made OfRecords) c.args.self.now (record { net = n.floor.net; budget = i.budget; journal = n.journal.items; out = n.out.items; is_broken = i.is_broken })) c.relay-relayed.result
+    (λ goes outs. subst (λ (z : Machine). HasRunBy (is_made OfRecords) z (record { net = n.floor.net; budget = i.budget; journal = n.journal.items; out = n.out.items; is_broken = i.is_broken })) v (record {
       more = goes.0;
       steps = goes.2 i.budget i.is_broken;
       after = ap (λ x. record { net = x; budget = i.budget; journal = n.journal.items; out = n.out.items; is_broken = i.is_broken }) c.relay-relayed.ensures.net

@@ -1,14 +1,13 @@
 -- Each step of the loop makes the event that is known ahead, or finds it, or makes another one.
-use Rattle.std.proofs.Common.{◌≡◌, ◌≤◌, ◌<◌, ◌+◌, ◌∷◌, [], ◌++◌, ℕ, Some, None, inl, inr, true, false, not, length, refl, sym, ◌∙◌, ap, subst, arith}
+use Rattle.std.proofs.Common.{◌≡◌, ◌≤◌, ◌<◌, ◌+◌, ◌∷◌, [], ◌++◌, ℕ, Some, None, inl, inr, true, false, length, refl, sym, ◌∙◌, ap, subst, arith}
 use Rattle.pipe_model.specs.declared.step.Seen.{Seen}
 use Rattle.pipe_model.specs.declared.step.Seen.TheVariants.{Saw, Took, Put}
 use Rattle.core_machine.specs.declared.floor.Ahead.TheVariants as Known
 use Rattle.core_machine.specs.declared.run.Which.{Which}
-use Rattle.core_machine.specs.Answered.{LeastEvent, HasBroken, HasMade}
+use Rattle.core_machine.specs.Answered.{LeastEvent, HasBroken}
 use Rattle.core_machine.specs.Machine.{Machine}
 use Rattle.core_machine.specs.Runs.{HasRunBy, is_made, may_end}
-use Rattle.core_machine.proofs.Steps.{made_longer}
-use Rattle.core_machine.proofs.Runs.{IsUnderWay, err_so, ok_each, runs_begin, runs_break, runs_go, runs_join, runs_make, runs_on, makes_quiet, ahead_known, least_ahead, search_over, searches_once}
+use Rattle.core_machine.proofs.Runs.{IsUnderWay, err_so, ok_each, runs_begin, runs_break, runs_go, runs_join, runs_make, runs_on, makes_quiet, ahead_known, least_ahead}
 use Rattle.core_machine.proofs.core_state.Core.run.Goals as goal
 use Rattle.core_machine.proofs.core_state.Core.run.Goals.{in-All, in-OfRecords, in-Quiet}
 

@@ -1,11 +1,8 @@
 -- No event has room, or the least one is made, where the run makes it.
-use Rattle.std.proofs.Common.{◌≡◌, ◌≤◌, ◌<◌, ◌+◌, ◌∷◌, [], ◌++◌, ℕ, Some, None, inl, inr, true, false, length, refl, sym, ◌∙◌, ap, subst, arith}
+use Rattle.std.proofs.Common.{◌≡◌, ◌≤◌, ◌<◌, ◌+◌, ◌∷◌, [], ◌++◌, ℕ, Some, None, inl, inr, false, sym, ◌∙◌, subst}
 use Rattle.pipe_model.specs.declared.step.Seen.{Seen}
 use Rattle.core_machine.specs.Answered.{LeastEvent}
 use Rattle.core_machine.specs.Machine.{Machine}
-use Rattle.core_machine.specs.Runs.{HasRunBy, is_made}
-use Rattle.core_machine.proofs.Steps.{made_longer}
-use Rattle.core_machine.proofs.Runs.{IsUnderWay, runs_begin, runs_go}
 use Rattle.core_machine.proofs.core_state.Core.run_last.Goals as goal
 
 pub go_on_otherwise-requires-clause-least : goal.go_on_otherwise-requires-clause-least

@@ -1,5 +1,5 @@
 -- The strand sees the record at hand, and takes it at once where that is all that it does: the core is sound after it.
-use Rattle.std.proofs.Common.{rules, ◌≡◌, ◌≤◌, ◌<◌, ◌+◌, inr, Some, [], ◌∷◌, ◌++◌, true, suc, length, slice_set, arith, refl, sym, ◌∙◌, ap, subst, vec_capacity}
+use Rattle.std.proofs.Common.{rules, ◌≡◌, ◌≤◌, ◌<◌, ◌+◌, inr, Some, [], ◌∷◌, ◌++◌, true, suc, length, slice_set, refl, sym, ◌∙◌, ap, subst, vec_capacity}
 use Rattle.pipe_model.specs.declared.net.Net.{Net}
 use Rattle.pipe_model.specs.declared.step.Entry.{Entry}
 use Rattle.pipe_model.proofs.Lists.{length_more}

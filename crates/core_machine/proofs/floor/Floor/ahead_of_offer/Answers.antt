@@ -1,5 +1,5 @@
 -- What is known is what the link at the output tells.
-use Rattle.std.proofs.Common.{◌≡◌, ◌<◌, length, Some, sym, subst, slice_get, slice_index_or}
+use Rattle.std.proofs.Common.{◌≡◌, ◌<◌, Some, sym, subst, slice_get, slice_index_or}
 use Rattle.run_desk.specs.Telling as Telling
 use Rattle.core_machine.specs.Floor.{FloorState, IsInUse}
 use Rattle.core_machine.proofs.Relays.{none, link_of}

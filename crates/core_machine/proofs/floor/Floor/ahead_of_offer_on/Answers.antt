@@ -1,5 +1,5 @@
 -- Where the consumer stands below the strand that writes, or right behind it while that waits, nobody below it may go on.
-use Rattle.std.proofs.Common.{rules, arith, ℕ, ◌≡◌, ◌≢◌, ◌<◌, ◌⊎◌, inl, inr, ◌+◌, ◌||◌, not, Bool, length, Some, true, false, refl, sym, ◌∙◌, ap, subst, slice_get}
+use Rattle.std.proofs.Common.{arith, ℕ, ◌≡◌, ◌≢◌, ◌<◌, ◌⊎◌, inl, inr, ◌+◌, ◌||◌, not, Bool, length, Some, true, false, refl, sym, ◌∙◌, ap, subst, slice_get}
 use Rattle.std.proofs.lemmas.Option.{slice_get_within}
 use Rattle.pipe_model.proofs.Numbers.{equal_or_not}
 use Rattle.pipe_model.proofs.Truths.{both}
