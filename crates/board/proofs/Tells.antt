@@ -10,6 +10,7 @@ use Rattle.board.specs.Pass.{HasParts, the_view, IsPass}
 use Rattle.board.specs.Holding.{IfKept, IsAtRest}
 use Rattle.board.specs.Calls.{GoesOn, IsBusy, less_one_try, Held, TurnTold, TryTurnTold, AnyTold, TryAnyTold, FinishTold, FinishOnTold, WasLost, FellShort, TryFinishTold, HasNoJob, HasNone, Ends}
 use Rattle.board.specs.declared.view.View.{View}
+use Rattle.board.specs.declared.answers.AtOnce.{AtOnce}
 use Rattle.board.specs.declared.answers.TryTurn.{TryTurn}
 use Rattle.board.specs.declared.answers.TryTurn.TheVariants.{Work, NotReady, Spent, Room, Broken, Busy}
 use Rattle.board.specs.declared.answers.TryAny.{TryAny}
@@ -93,10 +94,10 @@ module _ {S : Type 0} (v w : View) (some : 0 < v.tries) where
   try_finish_left done (End.Busy back) parts t = record { left = busy_left v w some parts t.0; made = ap (λ (x : View). x.mine) t.0.0 }
 
   -- a finish that went on leaves more of its own
-  pub finish_on_left : (place : ℕ) (sights : Bool) (most : ℕ) (answer : TryFinish S) → FinishOnTold v place sights most answer w → Left v w
-  finish_on_left place sights most End.Home t = held_left v w t.0 some t.1.held
-  finish_on_left place sights most End.NoMemory t = ⊎_elim (λ (lost : WasLost (less_one_try v) t.0 place w). held_left v w t.0 some lost.held) (λ (short : FellShort (less_one_try v) t.0 place w). held_left v w t.0 some short.held) t.1
-  finish_on_left place sights most (End.Busy back) t = absurd t.1
+  pub finish_on_left : (place : ℕ) (sights : Bool) (at_once : AtOnce) (answer : TryFinish S) → FinishOnTold v place sights at_once answer w → Left v w
+  finish_on_left place sights at_once End.Home t = held_left v w t.0 some t.1.held
+  finish_on_left place sights at_once End.NoMemory t = ⊎_elim (λ (lost : WasLost (less_one_try v) t.0 place w). held_left v w t.0 some lost.held) (λ (short : FellShort (less_one_try v) t.0 place w). held_left v w t.0 some short.held) t.1
+  finish_on_left place sights at_once (End.Busy back) t = absurd t.1
 
 -- what the one who took the core for good knows of it
 pub ends_so : (v : View) (k : Kept) → 0 < v.shares → Sees v k → Ends v k.0

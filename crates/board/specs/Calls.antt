@@ -1,5 +1,5 @@
 -- What the calls of a board say of a pass: v is its view before the call, w its view after, and m the core that the call found in the slot.
-use Rattle.std.specs.Prelude.{◌≡◌, ◌≢◌, ℕ, ◌+◌, ◌-◌, ◌<◌, ◌≤◌, Bool, true, false, List, [], ◌∷◌, ◌++◌, length, Some, None, is_some, ◌⊎◌}
+use Rattle.std.specs.Prelude.{◌≡◌, ◌≢◌, ℕ, zero, suc, ◌+◌, ◌-◌, ◌<◌, ◌≤◌, Bool, true, false, List, [], ◌∷◌, ◌++◌, length, Some, None, is_some, ◌⊎◌}
 use mathlib.Core.List.{IsPrefix}
 use Rattle.pipe_model.specs.declared.net.Strand.{Strand}
 use Rattle.pipe_model.specs.declared.step.Entry.{Entry}
@@ -17,9 +17,19 @@ use Rattle.board.specs.declared.view.View.{View}
 use Rattle.board.specs.declared.answers.TryTurn.{TryTurn}
 use Rattle.board.specs.declared.answers.TryTurn.TheVariants.{Work, NotReady, Spent, Room, Broken, Busy}
 use Rattle.board.specs.declared.answers.TryAny.{TryAny}
+use Rattle.board.specs.declared.answers.AtOnce.{AtOnce}
 use Rattle.board.specs.declared.answers.TryAny.TheVariants as OfAny
 use Rattle.board.specs.declared.answers.TryFinish.{TryFinish}
 use Rattle.board.specs.declared.answers.TryFinish.TheVariants as End
+
+-- how many steps are made at once at most, where so many other jobs are out
+abbrev pub most_beside : AtOnce → ℕ → ℕ
+most_beside at_once zero = at_once.alone
+most_beside at_once (suc out) = at_once.beside
+
+-- and after the job of this place came home
+abbrev pub most_after : AtOnce → Machine → ℕ → ℕ
+most_after at_once m place = most_beside at_once (length (came_home m place).out)
 
 -- what each call that takes the slot, or tries to, leaves: the net, the budget and the shares stay, one try is used, and the pass knows no less than before
 pub record GoesOn (v w : View) : Type 0 where
@@ -196,8 +206,8 @@ module _ {S : Type 0} where
   HeldFinishOn v m place sights most (End.Busy back) w = ⊥
 
   -- what such a finish says, which waits for the slot
-  abbrev pub FinishOnTold : View → ℕ → Bool → ℕ → TryFinish S → View → Type 0
-  FinishOnTold v place sights most answer w = (m : Machine) × HeldFinishOn (less_one_try v) m place sights most answer w
+  abbrev pub FinishOnTold : View → ℕ → Bool → AtOnce → TryFinish S → View → Type 0
+  FinishOnTold v place sights at_once answer w = (m : Machine) × HeldFinishOn (less_one_try v) m place sights (most_after at_once m place) answer w
 
   -- what a finish says that tries once to take the slot: where it is busy, the job is handed back
   abbrev pub TryFinishTold : View → FinishedState S → TryFinish S → View → Type 0

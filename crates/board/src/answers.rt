@@ -7,6 +7,27 @@ pub struct Receipt {
     pub place: u64,
 }
 
+/// How many steps on records are made at once at most, after a job came home.
+#[derive(Clone, Copy, Debug, PartialEq, Eq)]
+pub struct AtOnce {
+    /// Where no other job is out, so that nobody waits to bring one home.
+    pub alone: u64,
+    /// Where others are out.
+    pub beside: u64,
+}
+
+impl AtOnce {
+    ghost use Rattle.std.specs.Prelude.{◌≡◌};
+    ghost use Rattle.board.specs.Calls.{most_beside};
+
+    // How many where so many other jobs are out.
+    pub(crate) fn most_beside(self, out: u32) -> u64
+        ensures { result ≡ most_beside self out }
+    {
+        if out == 0 { self.alone } else { self.beside }
+    }
+}
+
 /// The answer of a turn of one strand.
 #[derive(Drop)]
 pub enum TryTurn<S: Stage> {

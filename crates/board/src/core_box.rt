@@ -1,3 +1,4 @@
+use crate::answers::AtOnce;
 use core_machine::{Core, Finished, Turned};
 use pipe_model::NoMemory;
 use stage_steps::Stage;
@@ -34,6 +35,7 @@ impl<S: Stage> CoreBox<S> {
     ghost use Rattle.core_machine.specs.Machine.{came_home, broke_down, is_among, IsLawful};
     ghost use Rattle.core_machine.specs.Jobs.{DoneStands};
     ghost use Rattle.core_machine.specs.Answered.{IsRefusal, TurnedAs, LeastTurnedAs};
+    ghost use Rattle.board.specs.Calls.{most_after};
     ghost use Rattle.board.specs.Holding.{CameAs};
 
     /// Want of memory hands the core back.
@@ -100,16 +102,17 @@ impl<S: Stage> CoreBox<S> {
         alloc: Global,
         done: Finished<S>,
         sights: bool,
-        most: u64,
+        at_once: AtOnce,
     ) -> Came
         requires among { is_among done.place self.old.out ≡ true }
         requires stands { DoneStands S.stands self.old.net (take done.place self.old.journal) done }
-        ensures came { CameAs sights most self.old done.place result self.new }
+        ensures came { CameAs sights (most_after at_once self.old done.place) self.old done.place result self.new }
         ensures lawful { IsLawful self.new }
     {
         if self.core.finish(done).is_err() {
             return Came::Lost;
         }
+        let most = at_once.most_beside(self.core.out_count());
         let start = self.core.len();
         match self.core.run_on_records(alloc, sights, most) {
             Ok(made) => Came::Home { made },

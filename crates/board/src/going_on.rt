@@ -1,5 +1,5 @@
 //! Jobs that come home to a core that goes on.
-use crate::answers::TryFinish;
+use crate::answers::{AtOnce, TryFinish};
 use crate::board::Board;
 use crate::core_box::Came;
 use crate::pass::{Pass, sit};
@@ -16,7 +16,7 @@ impl<S: Stage> Board<S> {
     ghost use Rattle.std.specs.Prelude.{◌≡◌, take};
     ghost use Rattle.core_machine.specs.Jobs.{DoneStands};
     ghost use Rattle.board.specs.Plays.{without_slot};
-    ghost use Rattle.board.specs.Calls.{CanFinish, HeldFinishOn, FinishOnTold};
+    ghost use Rattle.board.specs.Calls.{CanFinish, HeldFinishOn, FinishOnTold, most_after};
     ghost use Rattle.board.specs.Holding.{IsHolder, IsAtRest, HasLetGo, IfKept};
 
     fn finish_on_held(
@@ -25,7 +25,7 @@ impl<S: Stage> Board<S> {
         seat: &mut Seat<Slot<S>, View>,
         done: Finished<S>,
         sights: bool,
-        most: u64,
+        at_once: AtOnce,
     ) -> TryFinish<S>
         requires id { seat.old.table_id ≡ self.now.table.shared.table_id }
         requires holder { IsHolder seat.old.me }
@@ -33,10 +33,10 @@ impl<S: Stage> Board<S> {
         requires stands { DoneStands S.stands seat.old.me.0.net (take done.place seat.old.me.0.seen) done }
         ensures id { (seat.new.table_id ≡ seat.old.table_id) × (seat.new.id ≡ seat.old.id) }
         ensures free { HasLetGo seat.new.me }
-        ensures told { IfKept seat.old.me (λ k. HeldFinishOn (without_slot seat.old.me.0) k.0 done.place sights most result seat.new.me.0) }
+        ensures told { IfKept seat.old.me (λ k. HeldFinishOn (without_slot seat.old.me.0) k.0 done.place sights (most_after at_once k.0 done.place) result seat.new.me.0) }
     {
         let place = done.place();
-        let (came, len) = self.finish_on_core(alloc, seat, done, sights, most);
+        let (came, len) = self.finish_on_core(alloc, seat, done, sights, at_once);
         match came {
             Came::Home { made: 0 } => {
                 self.bell.note_steps(true);
@@ -44,7 +44,7 @@ impl<S: Stage> Board<S> {
                 TryFinish::Home
             }
             Came::Home { made } => {
-                self.bell.note_steps(made < most);
+                self.bell.note_steps(made != at_once.beside);
                 self.give_gone_on(seat, place, made, len);
                 TryFinish::Home
             }
@@ -66,7 +66,7 @@ impl<S: Stage> Board<S> {
         seat: &mut Seat<Slot<S>, View>,
         done: Finished<S>,
         sights: bool,
-        most: u64,
+        at_once: AtOnce,
     ) -> TryFinish<S>
         requires id { seat.old.table_id ≡ self.now.table.shared.table_id }
         requires rest { IsAtRest seat.old.me }
@@ -74,10 +74,10 @@ impl<S: Stage> Board<S> {
         requires stands { DoneStands S.stands seat.old.me.0.net (take done.place seat.old.me.0.seen) done }
         ensures id { (seat.new.table_id ≡ seat.old.table_id) × (seat.new.id ≡ seat.old.id) }
         ensures free { HasLetGo seat.new.me }
-        ensures told { FinishOnTold seat.old.me.0 done.place sights most result seat.new.me.0 }
+        ensures told { FinishOnTold seat.old.me.0 done.place sights at_once result seat.new.me.0 }
     {
         self.take_awake(rt, seat);
-        self.finish_on_held(alloc, seat, done, sights, most)
+        self.finish_on_held(alloc, seat, done, sights, at_once)
     }
 }
 
@@ -88,7 +88,7 @@ impl<S: Stage> Board<S> {
     ghost use Rattle.board.specs.Calls.{CanFinish, FinishOnTold, GoesOn};
     ghost use Rattle.board.specs.Names.{view, board_of, board_id};
 
-    /// Takes back a job as `finish` does. Then it makes the least event that may be, at most `most` times, as long as by
+    /// Takes back a job as `finish` does. Then it makes the least event that may be, at most so many times as `at_once` says, as long as by
     /// it a record is taken or put, or, with `sights`, seen, but for sights that may take more than some five microseconds;
     /// no job of these is out afterwards, and no gate is entered for them. `NoMemory` says that
     /// the job, the core or a stage that went on wanted memory: the core is broken, and the strand of the job, or of the
@@ -100,18 +100,18 @@ impl<S: Stage> Board<S> {
         pass: &mut Pass,
         done: Finished<S>,
         sights: bool,
-        most: u64,
+        at_once: AtOnce,
     ) -> TryFinish<S>
         requires board { board_of pass.old ≡ board_id self.now }
         requires tries { 0 < (view pass.old).tries }
         requires can { CanFinish (view pass.old) done.place }
         requires stands { DoneStands S.stands (view pass.old).net (take done.place (view pass.old).seen) done }
         ensures board { board_of pass.new ≡ board_of pass.old }
-        ensures told { FinishOnTold (view pass.old) done.place sights most result (view pass.new) }
+        ensures told { FinishOnTold (view pass.old) done.place sights at_once result (view pass.new) }
         ensures goes { GoesOn (view pass.old) (view pass.new) }
     {
         let mut seat = sit(&mut pass.badge);
-        let answer = self.finish_on_seat(rt, alloc, &mut seat, done, sights, most);
+        let answer = self.finish_on_seat(rt, alloc, &mut seat, done, sights, at_once);
         pass.badge = seat.into_badge();
         pass.tries -= 1;
         answer

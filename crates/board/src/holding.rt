@@ -1,4 +1,5 @@
 //! What a pass does while it has the slot in hand: its steps on the core there, and how it gives the slot back.
+use crate::answers::AtOnce;
 use crate::board::{Board, LENGTH, TURN};
 use crate::core_box::Came;
 use crate::plays::{Brings, Give, Raise, Slot};
@@ -18,6 +19,7 @@ impl<S: Stage> Board<S> {
     ghost use Rattle.core_machine.specs.Answered.{IsRefusal, TurnedAs, LeastTurnedAs};
     ghost use Rattle.board.specs.Counts.{all_tries};
     ghost use Rattle.board.specs.Rule.{Kept};
+    ghost use Rattle.board.specs.Calls.{most_after};
     ghost use Rattle.board.specs.Holding.{HasKept, IfKept, with_kept, counted, FinishedAs, CameAs};
 
     pub(crate) fn turn_core(
@@ -78,15 +80,15 @@ impl<S: Stage> Board<S> {
         seat: &mut Seat<Slot<S>, View>,
         done: Finished<S>,
         sights: bool,
-        most: u64,
+        at_once: AtOnce,
     ) -> (Came, u64)
         requires id { seat.old.table_id ≡ self.now.table.shared.table_id }
         requires kept { HasKept seat.old.me (λ k. (is_among done.place k.0.out ≡ true) × DoneStands S.stands k.0.net (take done.place k.0.journal) done) }
         ensures id { (seat.new.table_id ≡ seat.old.table_id) × (seat.new.id ≡ seat.old.id) }
-        ensures came { IfKept seat.old.me (λ k. (l : Kept) × (seat.new.me ≡ with_kept seat.old.me.0 l) × CameAs sights most k.0 done.place result.0 l.0 × (result.1 ≡ length l.0.journal) × (l.1 ≡ k.1) × IsLawful l.0) }
+        ensures came { IfKept seat.old.me (λ k. (l : Kept) × (seat.new.me ≡ with_kept seat.old.me.0 l) × CameAs sights (most_after at_once k.0 done.place) k.0 done.place result.0 l.0 × (result.1 ≡ length l.0.journal) × (l.1 ≡ k.1) × IsLawful l.0) }
     {
         let slot = seat.slot_mut(&self.table.shared, 0);
-        finish_on_slot(alloc, slot, done, sights, most)
+        finish_on_slot(alloc, slot, done, sights, at_once)
     }
 
     fn count(&self, seat: &mut Seat<Slot<S>, View>)

@@ -22,7 +22,7 @@ mod tests;
 mod turning;
 mod view;
 
-pub use answers::{Receipt, TryAny, TryFinish, TryTurn};
+pub use answers::{AtOnce, Receipt, TryAny, TryFinish, TryTurn};
 pub use board::Board;
 pub use core_box::CoreBox;
 pub use pass::Pass;

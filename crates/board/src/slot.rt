@@ -4,8 +4,10 @@ ghost use Rattle.core_machine.specs.Machine.{came_home, broke_down, is_among, Is
 ghost use Rattle.core_machine.specs.Jobs.{DoneStands};
 ghost use Rattle.core_machine.specs.Answered.{IsRefusal, TurnedAs, LeastTurnedAs};
 ghost use Rattle.board.specs.Counts.{all_tries};
+ghost use Rattle.board.specs.Calls.{most_after};
 ghost use Rattle.board.specs.Holding.{FinishedAs, CameAs};
 
+use crate::answers::AtOnce;
 use crate::core_box::Came;
 use crate::plays::Slot;
 use core_machine::{Finished, Turned};
@@ -85,18 +87,18 @@ pub(crate) fn finish_on_slot<S: Stage>(
     slot: &mut Slot<S>,
     done: Finished<S>,
     sights: bool,
-    most: u64,
+    at_once: AtOnce,
 ) -> (Came, u64)
     requires some { IsSome slot.old }
     requires among { IfSome slot.old (λ k. is_among done.place k.0.out ≡ true) }
     requires stands { IfSome slot.old (λ k. DoneStands S.stands k.0.net (take done.place k.0.journal) done) }
     ensures some { IsSome slot.new }
-    ensures came { IfSome slot.old (λ k. IfSome slot.new (λ l. CameAs sights most k.0 done.place result.0 l.0 × (result.1 ≡ length l.0.journal) × (l.1 ≡ k.1) × IsLawful l.0)) }
+    ensures came { IfSome slot.old (λ k. IfSome slot.new (λ l. CameAs sights (most_after at_once k.0 done.place) k.0 done.place result.0 l.0 × (result.1 ≡ length l.0.journal) × (l.1 ≡ k.1) × IsLawful l.0)) }
 {
     let Some((mut core, turns)) = mem::replace(slot, None) else {
         unreachable!()
     };
-    let came = core.finish_and_go_on(alloc, done, sights, most);
+    let came = core.finish_and_go_on(alloc, done, sights, at_once);
     let len = core.len();
     *slot = Some((core, turns));
     (came, len)

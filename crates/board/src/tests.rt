@@ -2,7 +2,7 @@ ghost use Rattle.std.specs.Prelude.{◌≡◌, ◌+◌, ◌≤◌};
 ghost use Rattle.board.specs.Names.{view, board_of, board_id};
 
 use crate::lone::lone_core;
-use crate::{Board, Pass, TryAny, TryFinish, TryTurn};
+use crate::{AtOnce, Board, Pass, TryAny, TryFinish, TryTurn};
 use pipe_model::{NoMemory, Seen};
 use stage_steps::{Listed, Stage, TextLines};
 use std::alloc::Global;
@@ -24,6 +24,12 @@ fn all_may_cross<S: Stage + Send>() {
 fn a_board_and_its_passes_may_go_to_other_threads() {
     all_may_cross::<Listed<TextLines>>();
 }
+
+// How many steps follow a job that is home.
+const AT_ONCE: AtOnce = AtOnce {
+    alone: 16,
+    beside: 4,
+};
 
 // The event of the least strand that may have one, with its work: what its coroutine was told. The core goes on then, or
 // it doesn't.
@@ -47,7 +53,7 @@ fn work<S: Stage, R: Wait>(
     let seen = job.seen();
     let done = job.run(alloc, room);
     let answer = if goes_on {
-        board.finish_and_go_on(rt, alloc, pass, done, false, 16)
+        board.finish_and_go_on(rt, alloc, pass, done, false, AT_ONCE)
     } else {
         board.try_finish(pass, done)
     };

@@ -7,7 +7,7 @@ ghost use Rattle.board.specs.Names.{view, board_of, board_id};
 ghost use Rattle.workers.specs.Work.{IsSettled, Owes, HasWorked, TurnsSo};
 
 use crate::working::WorkEnd;
-use board::{Board, Pass, TryAny, TryFinish};
+use board::{AtOnce, Board, Pass, TryAny, TryFinish};
 use core_machine::{Finished, Job};
 use outside::Gate;
 use pipe_model::Seen;
@@ -70,8 +70,12 @@ fn run_job<S: Stage, G: Gate>(alloc: Global, job: Job<S>, bytes: &[u8], gate: &G
     job.run(alloc, bytes)
 }
 
-// After a job is home, so many steps on records at most are made at once.
-const MOST_AT_ONCE: u64 = 256;
+// So many steps on records at most are made at once, after a job is home. Where no other job is out they take some
+// milliseconds, since nobody has one to bring home meanwhile.
+const AT_ONCE: AtOnce = AtOnce {
+    alone: 65_536,
+    beside: 256,
+};
 
 // Brings home what the pass had out.
 fn bring_home<S: Stage, R: Wait>(
@@ -93,7 +97,7 @@ fn bring_home<S: Stage, R: Wait>(
     ensures worked { HasWorked (view pass.old) (view pass.new) }
     ensures turns { TurnsSo result (view pass.new) }
 {
-    match board.finish_and_go_on(rt, alloc, pass, done, sights, MOST_AT_ONCE) {
+    match board.finish_and_go_on(rt, alloc, pass, done, sights, AT_ONCE) {
         TryFinish::Home => AfterTurn::Done,
         TryFinish::NoMemory => AfterTurn::Ended(WorkEnd::NoMemory),
         TryFinish::Busy(_) => unreachable!(),

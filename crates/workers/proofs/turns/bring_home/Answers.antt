@@ -1,5 +1,5 @@
 use Rattle.std.proofs.Common.{inl, inr, ⊎_elim}
-use Rattle.board.specs.Calls.{WasLost, FellShort, less_one_try}
+use Rattle.board.specs.Calls.{WasLost, FellShort, less_one_try, most_after}
 use Rattle.board.specs.Names.{view}
 use Rattle.workers.specs.Work.{IsSettled}
 use Rattle.workers.proofs.AfterTurns.{went_settled, short_settled, lost_settled}
@@ -8,7 +8,7 @@ use Rattle.workers.proofs.turns.bring_home.Goals as goal
 pub returns-in-Home-clause-settled : goal.returns-in-Home-clause-settled
 returns-in-Home-clause-settled g c =
     let v = view c.args.pass.now in let w = view c.finish_and_go_on.new.pass in let t = c.in-Home.ensures.told in
-    went_settled v w t.0 c.args.done.place c.args.sights 256 c.requires.owes t.1
+    went_settled v w t.0 c.args.done.place c.args.sights (most_after (record { alone = 65536; beside = 256 }) t.0 c.args.done.place) c.requires.owes t.1
 
 pub returns-in-NoMemory-clause-settled : goal.returns-in-NoMemory-clause-settled
 returns-in-NoMemory-clause-settled g c =

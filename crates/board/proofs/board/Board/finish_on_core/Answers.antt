@@ -3,6 +3,7 @@ use Rattle.std.specs.Prelude.{take, IsSome}
 use Rattle.core_machine.specs.Machine.{IsLawful, is_among}
 use Rattle.core_machine.specs.Jobs.{DoneStands}
 use Rattle.board.specs.Rule.{Kept, Slot}
+use Rattle.board.specs.Calls.{most_after}
 use Rattle.board.specs.Holding.{CameAs}
 use Rattle.board.proofs.Slots.{slot_is, opened, none_left, some_there}
 use Rattle.board.proofs.board.Board.finish_on_core.Goals as goal
@@ -25,7 +26,7 @@ finish_on_slot-requires-clause-stands g c = let t = c.requires.kept in
 pub returns-clause-came : goal.returns-clause-came
 returns-clause-came g c k e =
     let me = c.args.seat.now.me in let old = c.slot_mut-slot.result.now in let new = c.finish_on_slot.new.slot in
-    let P : Kept → Kept → Type 0 = λ k l. CameAs c.args.sights c.args.most k.0 c.args.done.place c.finish_on_slot.result.0 l.0 × (c.finish_on_slot.result.1 ≡ length l.0.journal) × (l.1 ≡ k.1) × IsLawful l.0 in
+    let P : Kept → Kept → Type 0 = λ k l. CameAs c.args.sights (most_after c.args.at_once k.0 c.args.done.place) k.0 c.args.done.place c.finish_on_slot.result.0 l.0 × (c.finish_on_slot.result.1 ≡ length l.0.journal) × (l.1 ≡ k.1) × IsLawful l.0 in
     let is : old ≡ Some k = slot_is me.1 old k c.slot_mut-slot.ensures.value e in
     let told : IfSome (Some k) (λ (k : Kept). IfSome new (P k)) = subst (λ (x : Slot). IfSome x (λ (k : Kept). IfSome new (P k))) is c.finish_on_slot.ensures.came in
     let t = opened new (P k) c.finish_on_slot.ensures.some told in
