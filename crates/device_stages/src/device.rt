@@ -103,7 +103,7 @@ impl Stage for DeviceStage {
     }
 
     // Only a source shows what it writes.
-    #[inline(never)]
+    #[inline(always)]
     fn show(&mut self, o: u16) -> bool {
         match self {
             DeviceStage::Source(stage) => show_line(stage, o),
