@@ -101,4 +101,8 @@ impl Stage for BlockStage {
     fn shown(&self) -> &[u8] {
         &[]
     }
+
+    fn text_ahead(&self) -> &[u8] {
+        &[]
+    }
 }

@@ -76,4 +76,8 @@ impl Stage for CollateStage {
     fn shown(&self) -> &[u8] {
         &[]
     }
+
+    fn text_ahead(&self) -> &[u8] {
+        &[]
+    }
 }

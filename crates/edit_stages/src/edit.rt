@@ -100,4 +100,8 @@ impl Stage for EditStage {
     fn shown(&self) -> &[u8] {
         &[]
     }
+
+    fn text_ahead(&self) -> &[u8] {
+        &[]
+    }
 }

@@ -144,4 +144,8 @@ impl Stage for GateStage {
     fn shown(&self) -> &[u8] {
         &[]
     }
+
+    fn text_ahead(&self) -> &[u8] {
+        &[]
+    }
 }

@@ -115,4 +115,8 @@ impl Stage for SpecsStage {
     fn shown(&self) -> &[u8] {
         &[]
     }
+
+    fn text_ahead(&self) -> &[u8] {
+        &[]
+    }
 }

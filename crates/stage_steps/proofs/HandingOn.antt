@@ -1,5 +1,5 @@
 -- What holds of a stage holds of a value that stands for it: a box of it, or an enum of stages.
-use Rattle.std.proofs.Common.{◌≡◌, ℕ, ◌≤◌, Bool, true, false, List, ◌∷◌, [], length, IfOk, sym, ◌∙◌, ap, subst}
+use Rattle.std.proofs.Common.{◌≡◌, ℕ, suc, ◌≤◌, Bool, true, false, List, ◌∷◌, [], length, take, drop, IfOk, sym, ◌∙◌, ap, subst}
 use Rattle.std.proofs.lemmas.Result.{IfOk-weaker}
 use Rattle.std.specs.declared.result.Result.{Result}
 use Rattle.pipe_model.specs.declared.net.Strand.{Strand}
@@ -9,9 +9,10 @@ use Rattle.pipe_model.specs.declared.step.Seen.TheVariants.{Saw, Took, Put}
 use Rattle.pipe_model.specs.declared.step.Want.{Want}
 use Rattle.pipe_model.specs.declared.step.Want.TheVariants.{Read, Take, Write}
 use Rattle.pipe_model.specs.Event.{Event}
+use Rattle.stage_steps.specs.Awaits.{TakesWithout}
 use Rattle.stage_steps.specs.Coroutine.{Resumes}
 use Rattle.stage_steps.specs.Replies.{Replies}
-use Rattle.stage_steps.specs.Showings.{IsShowing}
+use Rattle.stage_steps.specs.Showings.{IsShowing, IsCutting}
 use Rattle.stage_steps.specs.declared.reply.Reply.{Reply}
 use Rattle.stage_steps.specs.declared.reply.Reply.TheVariants.{Takes, Passes, Asks}
 
@@ -47,3 +48,18 @@ module _ {S T : Type 0} (stands : S → Strand → List Event → Type 0) (hold 
     subst (λ rec. length rec ≤ 256) (sym (same y)) shows.1,
   )
   shows_held showing showing_held same self x y o false is shows = ap hold shows ∙ sym is
+
+  -- what it awaits is what the stage awaits
+  pub awaits_held : (self : T) (x : S) (string : List ℕ) → self ≡ hold x → TakesWithout stands x string → TakesWithout holds self string
+  awaits_held self x string is takes = λ bytes without. subst (λ z. Replies holds z z bytes (Read 0) Takes) (sym is) (replies_held x x bytes (Read 0) Takes (takes bytes without))
+
+-- what it cuts off the text ahead is what the stage cuts off
+pub cuts_held : {S T : Type 0} (hold : S → T) (ahead showing : S → List ℕ) (ahead_held showing_held : T → List ℕ) → ((x : S) → ahead_held (hold x) ≡ ahead x) → ((x : S) → showing_held (hold x) ≡ showing x)
+    → (self : T) (x y : S) (shown : Bool) → self ≡ hold x → IsCutting ahead showing x y shown → IsCutting ahead_held showing_held self (hold y) shown
+cuts_held hold ahead showing ahead_held showing_held same_ahead same self x y true is cuts =
+    let rec = showing_held (hold y) in
+    let text_is : ahead_held self ≡ ahead x = ap ahead_held is ∙ same_ahead x in (
+      same y ∙ cuts.0 ∙ ap (λ z. take (length z) (ahead x)) (sym (same y)) ∙ ap (take (length rec)) (sym text_is),
+      same_ahead y ∙ cuts.1 ∙ ap (λ z. drop (suc (length z)) (ahead x)) (sym (same y)) ∙ ap (drop (suc (length rec))) (sym text_is),
+    )
+cuts_held hold ahead showing ahead_held showing_held same_ahead same self x y false is cuts = tt

@@ -1,4 +1,6 @@
 pub mod Acts
+pub mod Aheads
+pub mod Awaiting
 pub mod Cuts
 pub mod Drives
 pub mod Fields

@@ -7,7 +7,8 @@ use Rattle.pipe_model.specs.Search.{begins, holds}
 use Rattle.pipe_model.proofs.Searches.{holds-is, occurs-begins, begins-occurs}
 use Rattle.stage_steps.specs.Strings.{StandsAt, IsFirstPlace}
 
-stands : (text part : List ℕ) (k : ℕ) → OccursAt part text k → StandsAt text part k
+-- the string stands where it occurs
+pub stands : (text part : List ℕ) (k : ℕ) → OccursAt part text k → StandsAt text part k
 stands text part k at = (let f = at.fits in omega arith, occurs-begins text part k at)
 
 occurs : (text part : List ℕ) (k : ℕ) → StandsAt text part k → OccursAt part text k

@@ -20,3 +20,4 @@ pub mod Showings
 pub mod Strings
 pub mod Waiting
 pub mod Walk
+pub mod Awaits

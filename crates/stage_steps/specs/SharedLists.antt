@@ -23,6 +23,10 @@ LinesStand x over t recs acts = (t ≡ only_before (map (λ rec. (0, rec)) (line
 abbrev pub line_given : TextLines → List ℕ
 line_given x = take x.size (drop x.from x.bytes)
 
+-- the text of the lines that are left
+abbrev pub lines_left : TextLines → List ℕ
+lines_left x = drop x.at x.bytes
+
 -- lines are made without a look at records
 abbrev pub lines_look : TextLines → Bool
 lines_look x = false

@@ -1,5 +1,6 @@
 use crate::reply::Reply;
 use crate::stage::Stage;
+use crate::strings::Sought;
 use pipe_model::{NoMemory, Seen, Want};
 use std::alloc::Global;
 
@@ -9,6 +10,8 @@ impl<T: Stage> Stage for Box<T> {
     ghost stands = { λ x s h. T.stands x.value s h };
 
     ghost showing = { λ x. T.showing x.value };
+
+    ghost ahead = { λ x. T.ahead x.value };
 
     fn first(&self) -> Want {
         (**self).first()
@@ -36,6 +39,16 @@ impl<T: Stage> Stage for Box<T> {
     #[inline(always)]
     fn shown(&self) -> &[u8] {
         (**self).shown()
+    }
+
+    #[inline(always)]
+    fn text_ahead(&self) -> &[u8] {
+        (**self).text_ahead()
+    }
+
+    #[inline(always)]
+    fn awaits(&self) -> Option<&Sought> {
+        (**self).awaits()
     }
 
     fn passes(&mut self) -> bool {

@@ -38,7 +38,7 @@ pub use reply::{Reply, leave};
 pub use sifted::Sifted;
 pub use stage::Stage;
 pub use strings::Sought;
-pub use text_lines::{TextLines, line_shown, put_line, show_line};
+pub use text_lines::{TextLines, line_shown, lines_ahead, put_line, show_line};
 pub use waiting::take_waiting;
 
 #[cfg(test)]

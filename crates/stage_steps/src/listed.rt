@@ -5,7 +5,8 @@ use crate::outputs::Outputs;
 use crate::place::Place;
 use crate::reply::Reply;
 use crate::stage::Stage;
-use crate::walk::{Walk, ask, hear, looks_plainly, passes, reply, sift};
+use crate::strings::Sought;
+use crate::walk::{Walk, ask, hear, looks_plainly, passes, reply, sift, takes_plainly};
 use pipe_model::{NoMemory, Seen, Want};
 use std::alloc::Global;
 
@@ -78,6 +79,15 @@ impl<L: Lists> Stage for Listed<L> {
     }
 
     #[inline(always)]
+    fn awaits(&self) -> Option<&Sought> {
+        if takes_plainly(&self.walk, 1) {
+            self.lists.awaits()
+        } else {
+            None
+        }
+    }
+
+    #[inline(always)]
     fn passes(&mut self) -> bool {
         passes(&self.lists, &mut self.walk)
     }
@@ -94,6 +104,10 @@ impl<L: Lists> Stage for Listed<L> {
     }
 
     fn shown(&self) -> &[u8] {
+        &[]
+    }
+
+    fn text_ahead(&self) -> &[u8] {
         &[]
     }
 }

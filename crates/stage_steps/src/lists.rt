@@ -1,10 +1,12 @@
 ghost use Rattle.std.specs.Prelude.{◌≡◌, ◌<◌, ℕ, List, [], Bool, true, IfOk, IfSome, Option};
 ghost use Rattle.pipe_model.specs.Row.{Act};
 ghost use Rattle.pipe_model.specs.Shape.{Records, Stream};
+ghost use Rattle.stage_steps.specs.Awaits.{PassesWithout};
 ghost use Rattle.stage_steps.specs.Lists.{Begins, Sees, Finishes, GivesNext, HandsOver, IsSpent, Tells, TellsAtEnd, Sifts};
 
 use crate::group::Group;
 use crate::sifted::Sifted;
+use crate::strings::Sought;
 use pipe_model::{NoMemory, Rec};
 use std::alloc::Global;
 
@@ -43,6 +45,15 @@ pub trait Lists: Sized + Drop {
     {
         self.see(alloc, bytes)?;
         Ok(Sifted::Gives)
+    }
+
+    /// A string without which it gives a record itself for output 1, as `sift` does, and is then as before. The answer may always
+    /// be `None`.
+    #[inline(always)]
+    fn awaits(&self) -> Option<&Sought>
+        ensures { IfSome result (λ string. PassesWithout stands made (is_looking self.now) self.now string.now) }
+    {
+        None
     }
 
     /// Gives the pairs at the end of input. It is told of no record from then on.

@@ -196,4 +196,8 @@ impl<P: Plans> Stage for Planned<P> {
     fn shown(&self) -> &[u8] {
         &[]
     }
+
+    fn text_ahead(&self) -> &[u8] {
+        &[]
+    }
 }

@@ -1,14 +1,16 @@
-ghost use Rattle.std.specs.Prelude.{◌≡◌, ℕ, true, false, List, [], IfOk, Some};
+ghost use Rattle.std.specs.Prelude.{◌≡◌, ℕ, true, false, List, [], IfOk, IfSome, Some};
 ghost use Rattle.pipe_model.specs.declared.net.Strand.{Strand};
 ghost use Rattle.pipe_model.specs.Event.{Event};
 ghost use Rattle.pipe_model.specs.Next.{next};
 ghost use Rattle.pipe_model.specs.Table.{form};
+ghost use Rattle.stage_steps.specs.Awaits.{TakesWithout};
 ghost use Rattle.stage_steps.specs.Coroutine.{meaning, last_seen, kept_by, CanResume, Resumes};
 ghost use Rattle.stage_steps.specs.PassesOn.{PassesOn};
 ghost use Rattle.stage_steps.specs.Replies.{CanSee, Replies};
-ghost use Rattle.stage_steps.specs.Showings.{IsShowing};
+ghost use Rattle.stage_steps.specs.Showings.{IsShowing, IsCutting};
 
 use crate::reply::{Reply, leave};
+use crate::strings::Sought;
 use pipe_model::{NoMemory, Seen, Want};
 use std::alloc::Global;
 
@@ -19,6 +21,9 @@ pub trait Stage: Sized + Drop {
 
     /// The bytes of the record that it showed last.
     ghost showing: { Self → List ℕ } = { λ _. [] };
+
+    /// The text that it shows, front by front.
+    ghost ahead: { Self → List ℕ } = { λ _. [] };
 
     /// The first want of a fresh value.
     fn first(&self) -> Want
@@ -65,7 +70,8 @@ pub trait Stage: Sized + Drop {
     #[inline(always)]
     fn show(&mut self, _o: u16) -> bool
         requires { CanResume stands self.old (Seen.Put _o) [] }
-        ensures { IsShowing stands showing self.old self.new _o result }
+        ensures shows { IsShowing stands showing self.old self.new _o result }
+        ensures cuts { IsCutting ahead showing self.old self.new result }
     {
         false
     }
@@ -73,6 +79,17 @@ pub trait Stage: Sized + Drop {
     /// The bytes of the record that it showed last, and none where it never shows one.
     fn shown(&self) -> &[u8]
         ensures { result.now ≡ showing self.now };
+
+    /// The text of which it shows the front next, and nothing where it never shows any.
+    fn text_ahead(&self) -> &[u8]
+        ensures { result.now ≡ ahead self.now };
+
+    /// A string without which it takes a record of input 0 as it sees it, and is then as before. The answer may always be `None`.
+    fn awaits(&self) -> Option<&Sought>
+        ensures { IfSome result (λ string. TakesWithout stands self.now string.now) }
+    {
+        None
+    }
 
     /// Whether it passes on the record that it saw last: once it has put one it takes the record of input 0, and once it took
     /// that it looks at the next one there. It needn't be told of these two events then, and may be told of them all the

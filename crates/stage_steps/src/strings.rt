@@ -3,7 +3,7 @@ ghost use Rattle.std.specs.Simd.Lanes.{mask_l};
 ghost use Rattle.bstr.specs.Find.{FindsNeedle, IsFirst, IsFirstByte, Passes, is_byte};
 
 use bstr::ByteSlice;
-use pipe_model::Rec;
+use pipe_model::{Rec, front};
 use std::marker::Model;
 use std::simd::prelude::*;
 
@@ -33,6 +33,7 @@ const LONGEST: usize = 32;
 impl Sought {
     ghost use Rattle.std.specs.Prelude.{◌≡◌, ◌+◌, ◌≤◌, length, IfSome};
     ghost use Rattle.pipe_model.specs.Search.{holds};
+    ghost use Rattle.stage_steps.specs.Awaits.{IsClear};
     ghost use Rattle.stage_steps.specs.Strings.{IsFirstPlace};
 
     /// The string of these bytes.
@@ -57,6 +58,18 @@ impl Sought {
             return part.find(text);
         }
         find_by_byte(part, text, self.rare)
+    }
+
+    /// So many bytes at the front of a part, at most this many, don't hold the string; they may be fewer than might be told.
+    pub fn clear(&self, part: &[u8], most: usize) -> usize
+        ensures clear { IsClear self.now part.now result }
+        ensures within { result ≤ most }
+    {
+        let near = front(part, most);
+        match self.find(near) {
+            None => near.len(),
+            Some(place) => place,
+        }
     }
 
     /// Whether the string stands in the part.

@@ -4,8 +4,8 @@ ghost use Rattle.pipe_model.specs.Records.{lines};
 ghost use Rattle.stage_steps.specs.Coroutine.{CanResume, Resumes};
 ghost use Rattle.stage_steps.specs.Drivers.{ListedStands};
 ghost use Rattle.stage_steps.specs.Lines.{IsFirstLine};
-ghost use Rattle.stage_steps.specs.SharedLists.{LinesStand, lines_look, line_given};
-ghost use Rattle.stage_steps.specs.Showings.{IsGiving, IsShowing};
+ghost use Rattle.stage_steps.specs.SharedLists.{LinesStand, lines_look, line_given, lines_left};
+ghost use Rattle.stage_steps.specs.Showings.{IsGiving, IsShowing, IsCutting};
 
 use crate::group::Group;
 use crate::listed::Listed;
@@ -50,8 +50,8 @@ impl TextLines {
 
 impl TextLines {
     ghost use Rattle.std.specs.Prelude.{◌≡◌, ◌+◌, ◌<◌, ◌^◌, Some};
-    ghost use Rattle.stage_steps.specs.SharedLists.{LinesStand, line_given};
-    ghost use Rattle.stage_steps.specs.Showings.{GivesShown};
+    ghost use Rattle.stage_steps.specs.SharedLists.{LinesStand, line_given, lines_left};
+    ghost use Rattle.stage_steps.specs.Showings.{GivesShown, IsCutting};
 
     // Gives the next line, which has so many bytes.
     #[inline(always)]
@@ -67,7 +67,8 @@ impl TextLines {
     // Gives the next line, where one of at most so many bytes is left; else nothing changes.
     #[inline(always)]
     fn give_within(&mut self, most: usize) -> bool
-        ensures { GivesShown most LinesStand (λ x. Some (line_given x)) line_given self.old self.new result }
+        ensures gives { GivesShown most LinesStand (λ x. Some (line_given x)) line_given self.old self.new result }
+        ensures cuts { IsCutting lines_left line_given self.old self.new result }
     {
         match first_line(behind(self.bytes.bytes(), self.at)) {
             Some(line) if line.len() <= most => {
@@ -92,7 +93,8 @@ impl TextLines {
 /// which it shows then; else nothing changes.
 #[inline(always)]
 pub fn show_line(source: &mut Listed<TextLines>, o: u16) -> bool
-    ensures { IsShowing (λ x s h. ListedStands LinesStand lines_look x s h) (λ x. line_given x.lists) source.old source.new o result }
+    ensures shows { IsShowing (λ x s h. ListedStands LinesStand lines_look x s h) (λ x. line_given x.lists) source.old source.new o result }
+    ensures cuts { IsCutting (λ x. lines_left x.lists) (λ x. line_given x.lists) source.old source.new result }
 {
     gives_line(source, o, SHORT_LINE)
 }
@@ -121,12 +123,21 @@ pub fn put_line(
 // which it gives then; else nothing changes.
 #[inline(always)]
 fn gives_line(source: &mut Listed<TextLines>, o: u16, most: usize) -> bool
-    ensures { IsGiving most (λ x s h. ListedStands LinesStand lines_look x s h) (λ x. line_given x.lists) source.old source.new o result }
+    ensures gives { IsGiving most (λ x s h. ListedStands LinesStand lines_look x s h) (λ x. line_given x.lists) source.old source.new o result }
+    ensures cuts { IsCutting (λ x. lines_left x.lists) (λ x. line_given x.lists) source.old source.new result }
 {
     if o != 0 || !writes_plainly(&source.walk) {
         return false;
     }
     source.lists.give_within(most)
+}
+
+/// The text of the lines that a source has yet to write.
+#[inline(always)]
+pub fn lines_ahead(source: &Listed<TextLines>) -> &[u8]
+    ensures { result.now ≡ lines_left source.now.lists }
+{
+    behind(source.lists.bytes.bytes(), source.lists.at)
 }
 
 /// The line that a source wrote last.

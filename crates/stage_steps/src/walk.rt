@@ -7,6 +7,7 @@ ghost use Rattle.stage_steps.specs.Places.{look_place, sight_place, taken_place}
 ghost use Rattle.stage_steps.specs.Lists.{Tells};
 ghost use Rattle.stage_steps.specs.Walk.{IsBegun, Hears, CanPass, IsPassing, CanGoOn, IsGoingOn, Fetches, Puts, Asks, TellsBehind, LooksPlainly, WritesPlainly, IsReply, SiftsOn};
 ghost use Rattle.stage_steps.specs.Kept.{kept_after};
+ghost use Rattle.stage_steps.specs.Awaits.{TakesPlainly};
 ghost use Rattle.stage_steps.specs.declared.place.Place.TheVariants.{Looking};
 ghost use Rattle.stage_steps.specs.declared.reply.Reply.TheVariants.{Takes};
 
@@ -364,6 +365,17 @@ pub(crate) fn looks_plainly(walk: &Walk) -> bool
     matches!(walk.place, Place::Looking | Place::Passing)
         && matches!(walk.order, Order::WritesFirst)
         && walk.hand.is_none()
+}
+
+// Whether it takes a record as it sees it that is for this output, and is then as before.
+#[inline(always)]
+pub(crate) fn takes_plainly(walk: &Walk, output: u16) -> bool
+    ensures { result ≡ true → TakesPlainly walk.now output }
+{
+    matches!(walk.place, Place::Looking)
+        && looks_plainly(walk)
+        && walk.kept.is_none()
+        && !walk.outputs.is_open(output)
 }
 
 // The answer to the sight of a record, after which it wants this.

@@ -7,10 +7,10 @@ use Rattle.stage_steps.specs.Showings.{IsGiving}
 use Rattle.stage_steps.proofs.Showing.{shows}
 use Rattle.stage_steps.proofs.text_lines.gives_line.Goals as goal
 
-pub returns : goal.returns
-returns c =
+pub returns-clause-gives : goal.returns-clause-gives
+returns-clause-gives c =
     let source = c.args.source.now in
     let y = c.give_within.new.self in
     let zero : c.args.o ≡ 0 = search in
     subst (λ o. IsGiving c.args.most (ListedStands LinesStand lines_look) (λ (x : Listed TextLines). line_given x.lists) source (record { lists = y; walk = source.walk }) o c.give_within.result) (sym zero)
-    (shows LinesStand lines_look (λ x. Some (line_given x)) line_given c.args.most source y refl (c.writes_plainly.ensures c.if-not-writes_plainly.false) c.give_within.result c.give_within.ensures)
+    (shows LinesStand lines_look (λ x. Some (line_given x)) line_given c.args.most source y refl (c.writes_plainly.ensures c.if-not-writes_plainly.false) c.give_within.result c.give_within.ensures.gives)
