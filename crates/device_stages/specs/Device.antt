@@ -6,7 +6,7 @@ use Rattle.pipe_model.specs.declared.kind.Kind.TheVariants.{ConsoleIn, ConsoleOu
 use Rattle.pipe_model.specs.Event.{Event}
 use Rattle.stage_steps.specs.Drivers.{ListedStands}
 use Rattle.stage_steps.specs.Each.{EachStand, each_look}
-use Rattle.stage_steps.specs.SharedLists.{LinesStand, lines_look, line_given, CopiesStand, copies_look}
+use Rattle.stage_steps.specs.SharedLists.{LinesStand, lines_look, line_given, lines_left, CopiesStand, copies_look}
 use Rattle.device_stages.specs.declared.device.DeviceStage.{DeviceStage}
 use Rattle.device_stages.specs.declared.device.DeviceStage.TheVariants as Stages
 use Rattle.device_stages.specs.Absent.{AbsentStands}
@@ -34,3 +34,8 @@ DeviceStands (Stages.Hole x) s h = ListedStands (EachStand HolesStand) (each_loo
 abbrev pub device_showing : DeviceStage → List ℕ
 device_showing (Stages.Source x) = line_given x.lists
 device_showing _ = []
+
+-- the text that it shows line by line
+abbrev pub device_ahead : DeviceStage → List ℕ
+device_ahead (Stages.Source x) = lines_left x.lists
+device_ahead _ = []

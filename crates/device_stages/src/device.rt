@@ -4,7 +4,9 @@ use crate::literal::Literals;
 use crate::sink::sink;
 use crate::source::source;
 use pipe_model::{Kind, NoMemory, Seen, Strand, Want};
-use stage_steps::{Copies, Each, Listed, Reply, Stage, TextLines, line_shown, put_line, show_line};
+use stage_steps::{
+    Copies, Each, Listed, Reply, Stage, TextLines, line_shown, lines_ahead, put_line, show_line,
+};
 use std::alloc::Global;
 
 /// A stage of a device.
@@ -51,11 +53,13 @@ impl DeviceStage {
 impl Stage for DeviceStage {
     ghost use Rattle.std.specs.Prelude.{IfOk};
     ghost use Rattle.stage_steps.specs.Coroutine.{Resumes};
-    ghost use Rattle.device_stages.specs.Device.{DeviceStands, device_showing};
+    ghost use Rattle.device_stages.specs.Device.{DeviceStands, device_showing, device_ahead};
 
     ghost stands = { DeviceStands };
 
     ghost showing = { device_showing };
+
+    ghost ahead = { device_ahead };
 
     fn first(&self) -> Want {
         match self {
@@ -115,6 +119,14 @@ impl Stage for DeviceStage {
     fn shown(&self) -> &[u8] {
         match self {
             DeviceStage::Source(stage) => line_shown(stage),
+            _ => &[],
+        }
+    }
+
+    #[inline(always)]
+    fn text_ahead(&self) -> &[u8] {
+        match self {
+            DeviceStage::Source(stage) => lines_ahead(stage),
             _ => &[],
         }
     }

@@ -1,5 +1,6 @@
 pub mod FirstRecords
 pub mod LastRecords
+pub mod Lacks
 pub mod Parts
 pub mod PickSifts
 pub mod Whole

@@ -1,5 +1,6 @@
 -- What a stage does that writes each record on output 0 or on output 1, and nothing at the start or at the end of input.
-use Rattle.std.specs.Prelude.{◌≡◌, ◌<◌, ℕ, Bool, true, not, List, [], ◌∷◌, ◌++◌, length}
+use Rattle.std.specs.Prelude.{◌≡◌, ◌<◌, ℕ, Bool, true, false, not, List, [], ◌∷◌, ◌++◌, length}
+use Rattle.pipe_model.specs.Search.{holds}
 use Rattle.pipe_model.specs.SelectionRows.{selected}
 use Rattle.pipe_model.specs.Shape.{Records, Stream, each_record, never, at_hand_of}
 
@@ -28,6 +29,10 @@ chosen choice = record (each_record (λ recs. selected (choice.selects recs) rec
 abbrev pub PicksNext : {P : Type 0} → (P → Choice → Records → Type 0) → Bool → P → P → List ℕ → Bool → Type 0
 PicksNext stands looks x y bytes is = (choice : Choice) (recs : Records) (rec : List ℕ) →
     stands x choice recs → length recs < 50000000 → (looks ≡ true → bytes ≡ rec) → stands y choice (recs ++ rec ∷ []) × (is ≡ choice.selects (recs ++ rec ∷ []))
+
+-- it selects no record without the string, and is then as before
+abbrev pub RejectsWithout : {P : Type 0} → (P → Choice → Records → Type 0) → Bool → P → List ℕ → Type 0
+RejectsWithout stands looks x string = (bytes : List ℕ) → holds string bytes ≡ false → PicksNext stands looks x x bytes false
 
 -- what it tells is what the choice says after the records so far
 abbrev pub Says : {P : Type 0} → (P → Choice → Records → Type 0) → P → Bool → (Choice → Records → Bool) → Type 0

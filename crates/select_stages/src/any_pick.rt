@@ -8,6 +8,7 @@ use crate::locate::Locates;
 use crate::picks::{Picks, Rejects};
 use crate::take::Takes;
 use pipe_model::{Kind, NoMemory};
+use stage_steps::Sought;
 use std::alloc::Global;
 
 /// One of the stages that put each record on one of two outputs. They are one stage to their driver, so that a further
@@ -110,6 +111,14 @@ impl Picks for AnyPick {
             AnyPick::Between(picks) => picks.pick(bytes),
             AnyPick::ToLabel(picks) => picks.pick(bytes),
             AnyPick::FrLabel(picks) => picks.pick(bytes),
+        }
+    }
+
+    #[inline(always)]
+    fn awaits(&self) -> Option<&Sought> {
+        match self {
+            AnyPick::Locate(picks) => picks.awaits(),
+            _ => None,
         }
     }
 

@@ -98,6 +98,11 @@ impl Picks for Locates {
     }
 
     #[inline(always)]
+    fn awaits(&self) -> Option<&Sought> {
+        self.sought.as_ref()
+    }
+
+    #[inline(always)]
     fn halts(&self) -> bool {
         false
     }

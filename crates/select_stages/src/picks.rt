@@ -1,9 +1,9 @@
-ghost use Rattle.std.specs.Prelude.{◌≡◌, Bool, if◌then◌else◌};
+ghost use Rattle.std.specs.Prelude.{◌≡◌, Bool, if◌then◌else◌, IfSome};
 ghost use Rattle.pipe_model.specs.Shape.{Records};
-ghost use Rattle.select_stages.specs.Picks.{Choice, PicksNext, Says};
+ghost use Rattle.select_stages.specs.Picks.{Choice, PicksNext, RejectsWithout, Says};
 
 use pipe_model::{NoMemory, Rec};
-use stage_steps::{Group, Lists, Sifted, take_waiting};
+use stage_steps::{Group, Lists, Sifted, Sought, take_waiting};
 use std::alloc::Global;
 
 /// What a stage does that writes each record on output 0, where it selects it, or else on output 1: a value that has
@@ -19,6 +19,14 @@ pub trait Picks: Sized + Drop {
     fn pick(&mut self, bytes: &[u8]) -> bool
         ensures looks_same { is_looking self.new ≡ is_looking self.old }
         ensures picks { PicksNext stands (is_looking self.old) self.old self.new bytes.now result };
+
+    /// A string without which it doesn't select a record, and is then as before.
+    #[inline(always)]
+    fn awaits(&self) -> Option<&Sought>
+        ensures { IfSome result (λ string. RejectsWithout stands (is_looking self.now) self.now string.now) }
+    {
+        None
+    }
 
     /// Whether it ends at the sight of the record at hand.
     fn halts(&self) -> bool
@@ -112,6 +120,14 @@ impl<P: Picks> Lists for Picked<P> {
         }
         self.waiting = None;
         Ok(Sifted::Passes(output))
+    }
+
+    #[inline(always)]
+    fn awaits(&self) -> Option<&Sought> {
+        if self.waiting.is_some() || self.picks.halts() || self.picks.stops() {
+            return None;
+        }
+        self.picks.awaits()
     }
 
     fn end(&mut self, _alloc: Global) -> Result<(), NoMemory> {

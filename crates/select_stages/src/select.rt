@@ -6,7 +6,7 @@ use crate::picks::Picked;
 use crate::select_lists::SelectLists;
 use crate::window::Window;
 use pipe_model::{Kind, NoMemory, Seen, Strand, Want};
-use stage_steps::{Listed, Order, Reply, Stage};
+use stage_steps::{Listed, Order, Reply, Sought, Stage};
 use std::alloc::Global;
 
 /// A stage of Selection.
@@ -115,6 +115,11 @@ impl Stage for SelectStage {
         self.stage.put(alloc, o, asked)
     }
 
+    #[inline(never)]
+    fn awaits(&self) -> Option<&Sought> {
+        self.stage.awaits()
+    }
+
     #[inline(always)]
     fn passes(&mut self) -> bool {
         self.stage.passes()
@@ -129,6 +134,10 @@ impl Stage for SelectStage {
     }
 
     fn shown(&self) -> &[u8] {
+        &[]
+    }
+
+    fn text_ahead(&self) -> &[u8] {
         &[]
     }
 }

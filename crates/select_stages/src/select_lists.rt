@@ -2,7 +2,7 @@ use crate::any_pick::AnyPick;
 use crate::picks::Picked;
 use crate::window::Window;
 use pipe_model::{NoMemory, Rec};
-use stage_steps::{Group, Lists, Sifted};
+use stage_steps::{Group, Lists, Sifted, Sought};
 use std::alloc::Global;
 
 /// The lists of a stage of Selection. They have one driver, so that neither form adds one to the loop that runs them.
@@ -45,6 +45,14 @@ impl Lists for SelectLists {
         match self {
             SelectLists::Pick(lists) => lists.sift(alloc, bytes),
             SelectLists::Hold(lists) => lists.sift(alloc, bytes),
+        }
+    }
+
+    #[inline(always)]
+    fn awaits(&self) -> Option<&Sought> {
+        match self {
+            SelectLists::Pick(lists) => lists.awaits(),
+            SelectLists::Hold(_) => None,
         }
     }
 

@@ -2,7 +2,7 @@
 use Rattle.std.specs.Prelude.{◌≤◌, ℕ, List, [], length}
 use Rattle.pipe_model.specs.declared.net.Strand.{Strand}
 use Rattle.pipe_model.specs.Event.{Event}
-use Rattle.device_stages.specs.Device.{DeviceStands, device_showing}
+use Rattle.device_stages.specs.Device.{DeviceStands, device_showing, device_ahead}
 use Rattle.select_stages.specs.Select.{SelectStands}
 use Rattle.edit_stages.specs.Edit.{EditStands}
 use Rattle.unique_sort.specs.OrderStage.{UniqueStands}
@@ -37,3 +37,8 @@ BuiltInStands (Collate x) s h = CollateStands x.value s h
 abbrev pub built_in_showing : BuiltIn → List ℕ
 built_in_showing (Device x) = device_showing x.value
 built_in_showing _ = []
+
+-- the text that it shows line by line
+abbrev pub built_in_ahead : BuiltIn → List ℕ
+built_in_ahead (Device x) = device_ahead x.value
+built_in_ahead _ = []

@@ -8,7 +8,7 @@ use lookup_stage::LookupStage;
 use pipe_model::{NoMemory, Seen, Want};
 use select_stages::SelectStage;
 use specs_stage::SpecsStage;
-use stage_steps::{Reply, Stage};
+use stage_steps::{Reply, Sought, Stage};
 use std::alloc::Global;
 use unique_sort::UniqueStage;
 
@@ -31,11 +31,13 @@ pub enum BuiltIn {
 impl Stage for BuiltIn {
     ghost use Rattle.std.specs.Prelude.{IfOk};
     ghost use Rattle.stage_steps.specs.Coroutine.{Resumes};
-    ghost use Rattle.stage_table.specs.BuiltIn.{BuiltInStands, built_in_showing};
+    ghost use Rattle.stage_table.specs.BuiltIn.{BuiltInStands, built_in_showing, built_in_ahead};
 
     ghost stands = { BuiltInStands };
 
     ghost showing = { built_in_showing };
+
+    ghost ahead = { built_in_ahead };
 
     fn first(&self) -> Want {
         match self {
@@ -117,6 +119,22 @@ impl Stage for BuiltIn {
         match self {
             BuiltIn::Device(stage) => (**stage).shown(),
             _ => &[],
+        }
+    }
+
+    #[inline(always)]
+    fn text_ahead(&self) -> &[u8] {
+        match self {
+            BuiltIn::Device(stage) => (**stage).text_ahead(),
+            _ => &[],
+        }
+    }
+
+    #[inline(always)]
+    fn awaits(&self) -> Option<&Sought> {
+        match self {
+            BuiltIn::Select(stage) => (**stage).awaits(),
+            _ => None,
         }
     }
 
