@@ -10,7 +10,7 @@ use Rattle.pipe_model.specs.declared.step.Seen.TheVariants.{Put, Saw, Took}
 use Rattle.pipe_model.specs.declared.step.Want.{Want}
 use Rattle.pipe_model.specs.declared.step.Want.TheVariants.{Write}
 use Rattle.pipe_model.specs.Event.{Event}
-use Rattle.pipe_model.proofs.Lists.{get_set_same, get_set_other, length_more}
+use Rattle.pipe_model.proofs.Lists.{at_some, get_set_same, get_set_other, length_more}
 use Rattle.std.proofs.lemmas.Option.{slice_get_within, slice_get_read}
 use Rattle.connectors.specs.WireState.{WireState, IsHeldIn, is_due}
 use Rattle.stage_steps.specs.Coroutine.{CanResume, Resumes}
@@ -441,6 +441,14 @@ module _ {S : Type 0} {stands : S → Strand → List Event → Type 0} {showing
       let within = r.pair.within in
       let same = length-set actors p.strand r.actor in
       slice_get_read actors (length actors) p.to b refl (omega (arith, within, count, same)) read
+
+  -- something is kept of it
+  pub reader_there : (b : Actor S) × (slice_get actors p.to ≡ Some b)
+  reader_there =
+      let count = r.sound.strands.count in
+      let within = r.pair.within in
+      let same = length-set actors p.strand r.actor in
+      at_some actors p.to (omega (arith, within, count, same))
 
   -- the link has a wire, and what is offered there is held
   pub place_end : p.link < length floor.desk.wires

@@ -1,5 +1,5 @@
 -- How what is kept of a strand changes when its coroutine goes out, comes back, or goes on in place.
-use Rattle.std.specs.Prelude.{◌≡◌, ◌||◌, Bool, true, false, ◌==◌, ℕ, List, [], Some, None, map, slice_index_or}
+use Rattle.std.specs.Prelude.{◌≡◌, ◌||◌, Bool, true, false, ◌==◌, ℕ, ◌<◌, List, [], Some, None, map, slice_index_or, take}
 use Rattle.std.specs.Option.{option_map_or}
 use Rattle.pipe_model.specs.declared.net.Strand.{Strand}
 use Rattle.pipe_model.specs.declared.step.Seen.{Seen}
@@ -7,6 +7,8 @@ use Rattle.pipe_model.specs.declared.step.Seen.TheVariants.{Saw, SawEnd}
 use Rattle.pipe_model.specs.declared.step.Want.{Want}
 use Rattle.pipe_model.specs.declared.step.Want.TheVariants.{Read}
 use Rattle.pipe_model.specs.Event.{Event}
+use Rattle.pipe_model.specs.Search.{holds}
+use Rattle.stage_steps.specs.Awaits.{TakesWithout}
 use Rattle.stage_steps.specs.Coroutine.{Resumes}
 use Rattle.stage_steps.specs.PassesOn.{PassesOn}
 use Rattle.stage_steps.specs.Replies.{Replies}
@@ -18,6 +20,10 @@ use Rattle.run_desk.specs.Desk.{DeskState}
 use Rattle.run_desk.specs.Telling.{sight_door, sight_through, through}
 use Rattle.run_desk.specs.Turns.{hand_on}
 use Rattle.core_machine.specs.declared.actor.Actor.{Actor}
+
+-- its coroutine takes each record without a string, and is then as before, and the first so many bytes of the text, where they are any, don't hold that
+abbrev pub IsClearFor : {S : Type 0} → (S → Strand → List Event → Type 0) → Actor S → List ℕ → ℕ → Type 0
+IsClearFor {S} stands actor text count = 0 < count → (stage : S) × (string : List ℕ) × (actor.stage ≡ Some stage) × TakesWithout stands stage string × (holds string (take count text) ≡ false)
 
 -- it is told that input 0 has ended
 abbrev pub is_end : Seen → Bool

@@ -60,6 +60,10 @@ impl Stage for Console {
     fn shown(&self) -> &[u8] {
         &[]
     }
+
+    fn text_ahead(&self) -> &[u8] {
+        &[]
+    }
 }
 
 /// What happened at a record that a strand saw.
@@ -118,6 +122,8 @@ impl<S: Stage> Stage for Noting<'_, S> {
 
     ghost showing = { λ x. S.showing x.stage };
 
+    ghost ahead = { λ x. S.ahead x.stage };
+
     fn first(&self) -> Want {
         self.stage.first()
     }
@@ -139,6 +145,10 @@ impl<S: Stage> Stage for Noting<'_, S> {
 
     fn shown(&self) -> &[u8] {
         self.stage.shown()
+    }
+
+    fn text_ahead(&self) -> &[u8] {
+        self.stage.text_ahead()
     }
 }
 

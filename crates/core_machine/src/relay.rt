@@ -4,6 +4,7 @@ ghost use Rattle.pipe_model.specs.declared.step.Entry.{Entry as EntryIs};
 ghost use Rattle.pipe_model.specs.declared.step.Out.TheVariants as Outs;
 ghost use Rattle.pipe_model.specs.declared.step.Seen.TheVariants as Told;
 ghost use Rattle.pipe_model.specs.declared.step.Want.TheVariants as Asks;
+ghost use Rattle.core_machine.specs.Actors.{IsClearFor};
 ghost use Rattle.core_machine.specs.Answered.{IsLonger};
 ghost use Rattle.core_machine.specs.Floor.{IsInUse};
 ghost use Rattle.core_machine.specs.Pairs.{IsPair, IsDue, IsWriter};
@@ -19,6 +20,9 @@ use stage_steps::{Reply, Stage};
 use std::alloc::Global;
 use std::mem;
 use step_journal::StepJournal;
+
+// The reader's string is looked for so far ahead at once.
+const FAR: usize = 4_096;
 
 // A record of more bytes isn't shown, but put in the pool.
 const SHORT_RECORD: usize = 256;
@@ -134,15 +138,29 @@ pub(crate) fn relay<S: Stage, G: Gate>(
     // As many rounds are left as have room for their three entries.
     let most = (limit - journal.len()) / 3;
     let mut rounds = 0;
+    // So many bytes of the text that the writer has ahead don't hold what the reader awaits, and whether it awaits anything.
+    let mut clear = 0;
+    let mut awaits = true;
     while rounds < most {
         if !source.show(pair.output) {
             break;
         }
         gate.enter(pair.to);
+        let size = source.shown().len();
+        if size < clear {
+            clear -= size + 1;
+            floor.relay(pair.link);
+            rounds += 1;
+            continue;
+        }
         let reader = &mut actors[pair.to as usize];
         let bytes = bytes_shown(&source, reader.looks);
         let reply = see(reader, alloc, 0, bytes);
         if let Ok(Reply::Takes) = reply {
+            if awaits {
+                clear = clear_ahead(&actors[pair.to as usize], &source);
+                awaits = clear > 0;
+            }
             floor.relay(pair.link);
             rounds += 1;
             continue;
@@ -170,6 +188,21 @@ pub(crate) fn relay<S: Stage, G: Gate>(
     }
     actors[pair.strand as usize].stage = Some(source);
     Ok(false)
+}
+
+// So many bytes of the text that a source has ahead don't hold the string without which a reader takes a record as it sees it.
+#[inline(never)]
+fn clear_ahead<S: Stage>(reader: &Actor<S>, source: &S) -> usize
+    ensures clear { IsClearFor S.stands reader.now (S.ahead source.now) result }
+    ensures within { result ≤ 4096 }
+{
+    let Some(stage) = &reader.stage else {
+        return 0;
+    };
+    match stage.awaits() {
+        Some(string) => string.clear(source.text_ahead(), FAR),
+        None => 0,
+    }
 }
 
 // The bytes that a source showed last, where the strand that sees them looks.

@@ -1,25 +1,28 @@
 -- In each round the core is sound, and the writer's record is due to be put.
-use Rattle.std.proofs.Common.{rules, ◌≡◌, ◌≢◌, ◌<◌, ◌≤◌, ◌++◌, ◌∷◌, ◌+◌, ℕ, Bool, true, false, List, [], length, refl, sym, ◌∙◌, ap, subst, arith, slice_set, IfOk}
+use Rattle.std.proofs.Common.{rules, ◌≡◌, ◌≢◌, ◌<◌, ◌≤◌, ◌++◌, ◌∷◌, ◌+◌, ◌-◌, ℕ, Bool, true, List, [], length, refl, sym, ◌∙◌, ap, subst, arith, slice_set, IfOk}
+use Rattle.std.proofs.lemmas.Bool.{ltb-false}
 use Rattle.pipe_model.specs.declared.step.Entry.{Entry}
-use Rattle.stage_steps.specs.Showings.{IsShowing}
+use Rattle.pipe_model.proofs.Lists.{get_set_same}
+use Rattle.stage_steps.specs.Showings.{IsShowing, IsCutting}
 use Rattle.stage_steps.specs.declared.reply.Reply.TheVariants.{Takes}
 use Rattle.run_desk.specs.Desk.{DeskState}
 use Rattle.run_desk.specs.Relaying.{desk_showing, pool_refilled}
 use Rattle.run_desk.specs.Telling.{ended_at}
 use Rattle.run_desk.specs.Turns.{CanCome, bare, offer_on}
 use Rattle.core_machine.specs.declared.run.Which.TheVariants.{OfRecords}
-use Rattle.core_machine.specs.Actors.{HasSeen, asking_for, given_up}
+use Rattle.core_machine.specs.Actors.{HasSeen, IsClearFor, asking_for, given_up}
 use Rattle.core_machine.specs.Floor.{FloorState, IsInUse, StaysEarly}
 use Rattle.core_machine.specs.Pairs.{with_stage}
 use Rattle.core_machine.specs.Runs.{AreSteps, is_made}
 use Rattle.core_machine.specs.Woken.{HasReturned}
-use Rattle.core_machine.proofs.Rounds.{begins, comes_round, due_back, early_round, few_there, goes_round, held_end, held_still, home_round, last_pool, live_round, lost_round, may_show, offers_grip, on_covers, one_out, place_end, place_link, reader_at, reader_back, saw_only, sees, shown_covers_at, sound_back, takes_so, two_longer, two_steps, used_round, writer_back, writer_end, writer_home}
+use Rattle.core_machine.proofs.Clears.{clear_covers, clear_found, clear_next, clear_none, clear_round}
+use Rattle.core_machine.proofs.Rounds.{begins, comes_round, due_back, early_round, few_there, goes_round, held_end, held_still, home_round, last_pool, live_round, lost_round, may_show, offers_grip, on_covers, read_is, one_out, place_end, place_link, reader_at, reader_back, saw_only, sees, shown_covers_at, sound_back, takes_so, two_longer, two_steps, used_round, writer_back, writer_end, writer_home}
 use Rattle.core_machine.proofs.RoundsOf.{first_fits, put_of, round_more, round_space, rounds, rounds_fit, second_fits, took_of, two_behind, two_longer_by}
 use Rattle.core_machine.proofs.Steps.{append_none}
 use Rattle.core_machine.proofs.Tellings.{sound_at}
 use Rattle.core_machine.proofs.relay.relay.Goals as goal
 use Rattle.core_machine.proofs.relay.relay.Given.{Over}
-use Rattle.core_machine.proofs.relay.relay.Goals.{After-copied, Else-not-show, else-loop-rounds-test, then-loop-rounds-test+then-not-show, then-rounds-gt0, else-rounds-gt0}
+use Rattle.core_machine.proofs.relay.relay.Goals.{After-copied, Else-not-show, then-awaits, else-awaits, else-loop-rounds-test, then-loop-rounds-test+then-not-show, then-rounds-gt0, else-rounds-gt0}
 
 -- What the answers share
 
@@ -45,7 +48,7 @@ pushed_more g c =
     let r = c.loop-rounds.invariant.0 in
     let space = round_space c.args.pair c.args.journal.now.items c.args.limit c.len.result c.loop-rounds.rounds c.len.ensures c.loop-rounds-test.true in
     let b = c.index_mut-reader.result.now in
-    let shows : IsShowing g.S.Stage.stands g.S.Stage.showing c.loop-rounds.source c.show.new.self c.args.pair.output true = c.if-not-show.ensures in
+    let shows : IsShowing g.S.Stage.stands g.S.Stage.showing c.loop-rounds.source c.show.new.self c.args.pair.output true = c.if-not-show.ensures.shows in
     let reader = reader_at r b c.index_mut-reader.ensures.value in (
       (r.more ++ put_of c.args.pair ∷ []) ++ took_of c.args.pair ∷ [],
       pushed g c ∙ two_longer r space c.show.new.self shows b reader,
@@ -72,6 +75,7 @@ loop-rounds-init g c =
       refl,
       refl,
       omega arith,
+      clear_none g.S.Stage.stands g.S.Stage.ahead (slice_set c.args.actors.now.items c.args.pair.strand (record { stage = c.replace.new.dest; asked = a.asked; looks = a.looks; saw_end = a.saw_end; passes = a.passes })) c.args.pair.to c.in-Some.source true,
     )
 
 pub show-requires : goal.show-requires
@@ -83,9 +87,11 @@ pub see-reply-requires : goal.see-reply-requires
 see-reply-requires g c =
     let space = space_below g (goal.at.see-reply-requires g c).Else-not-show in
     let b = c.index_mut-reader.result.now in
-    let shows : IsShowing g.S.Stage.stands g.S.Stage.showing c.loop-rounds.source c.show.new.self c.args.pair.output true = c.if-not-show.ensures in
+    let shows : IsShowing g.S.Stage.stands g.S.Stage.showing c.loop-rounds.source c.show.new.self c.args.pair.output true = c.if-not-show.ensures.shows in
     let reader = reader_at c.loop-rounds.invariant.0 b c.index_mut-reader.ensures.value in
     sees c.loop-rounds.invariant.0 space c.show.new.self shows b reader c.bytes_shown-bytes.result.now c.bytes_shown-bytes.ensures.looks c.bytes_shown-bytes.ensures.plain
+
+-- The reader isn't told, and took the record, which stands in the stretch that is clear
 
 pub relay-requires-clause-link : goal.relay-requires-clause-link
 relay-requires-clause-link g c =
@@ -100,8 +106,46 @@ relay-requires-clause-count g c =
 pub relay-requires-clause-covers : goal.relay-requires-clause-covers
 relay-requires-clause-covers g c =
     let space = space_below g (goal.at.relay-requires-clause-covers g c).Else-not-show in
+    let shows : IsShowing g.S.Stage.stands g.S.Stage.showing c.loop-rounds.source c.show.new.self c.args.pair.output true = c.if-not-show.ensures.shows in
+    let cuts : IsCutting g.S.Stage.ahead g.S.Stage.showing c.loop-rounds.source c.show.new.self true = c.if-not-show.ensures.cuts in
+    let less : length (g.S.Stage.showing c.show.new.self) < c.loop-rounds.clear = subst (λ (z : List ℕ). length z < c.loop-rounds.clear) c.shown-size.ensures c.if-size-clear.true in
+    clear_covers c.loop-rounds.invariant.0 space g.S.Stage.ahead c.show.new.self shows cuts c.loop-rounds.clear c.loop-rounds.awaits c.loop-rounds.invariant.4 less
+
+pub loop-rounds-preserved-then-size-clear : goal.loop-rounds-preserved-then-size-clear
+loop-rounds-preserved-then-size-clear g c =
+    let space = space_below g (goal.at.loop-rounds-preserved-then-size-clear g c).Else-not-show in
+    let shows : IsShowing g.S.Stage.stands g.S.Stage.showing c.loop-rounds.source c.show.new.self c.args.pair.output true = c.if-not-show.ensures.shows in
+    let cuts : IsCutting g.S.Stage.ahead g.S.Stage.showing c.loop-rounds.source c.show.new.self true = c.if-not-show.ensures.cuts in
+    let less : length (g.S.Stage.showing c.show.new.self) < c.loop-rounds.clear = subst (λ (z : List ℕ). length z < c.loop-rounds.clear) c.shown-size.ensures c.if-size-clear.true in
+    let sizes : length c.shown-size.result.now ≡ length (g.S.Stage.showing c.show.new.self) = ap (λ (z : List ℕ). length z) c.shown-size.ensures in
+    let few = c.loop-rounds-test.true in (
+      clear_round c.loop-rounds.invariant.0 space g.S.Stage.ahead c.show.new.self shows cuts c.loop-rounds.clear c.loop-rounds.awaits c.loop-rounds.invariant.4 less
+          c.relay.new.self (c.args.journal.now.items ++ rounds c.args.pair (c.loop-rounds.rounds + 1)) c.relay.ensures.net c.relay.ensures.desk c.relay.ensures.pool c.relay.ensures.ready
+          (round_more c.args.pair c.args.journal.now.items c.loop-rounds.rounds),
+      c.loop-rounds.invariant.1,
+      c.loop-rounds.invariant.2,
+      omega (arith, few),
+      clear_next c.loop-rounds.invariant.0 space g.S.Stage.ahead c.show.new.self shows cuts c.loop-rounds.clear c.loop-rounds.awaits c.loop-rounds.invariant.4 less
+          (c.loop-rounds.clear - (length c.shown-size.result.now + 1)) (omega (arith, sizes)),
+    )
+
+-- It is told, and took the record
+
+pub relay-requires-in-Ok-Takes-clause-link : goal.relay-requires-in-Ok-Takes-clause-link
+relay-requires-in-Ok-Takes-clause-link g c =
+    let space = space_below g (goal.at.relay-requires-in-Ok-Takes-clause-link g c).Else-not-show in
+    place_link c.loop-rounds.invariant.0 space
+
+pub relay-requires-in-Ok-Takes-clause-count : goal.relay-requires-in-Ok-Takes-clause-count
+relay-requires-in-Ok-Takes-clause-count g c =
+    let space = space_below g (goal.at.relay-requires-in-Ok-Takes-clause-count g c).Else-not-show in
+    few_there c.loop-rounds.invariant.0 space
+
+pub relay-requires-in-Ok-Takes-clause-covers : goal.relay-requires-in-Ok-Takes-clause-covers
+relay-requires-in-Ok-Takes-clause-covers g c =
+    let space = space_below g (goal.at.relay-requires-in-Ok-Takes-clause-covers g c).Else-not-show in
     let b = c.index_mut-reader.result.now in
-    let shows : IsShowing g.S.Stage.stands g.S.Stage.showing c.loop-rounds.source c.show.new.self c.args.pair.output true = c.if-not-show.ensures in
+    let shows : IsShowing g.S.Stage.stands g.S.Stage.showing c.loop-rounds.source c.show.new.self c.args.pair.output true = c.if-not-show.ensures.shows in
     let reader = reader_at c.loop-rounds.invariant.0 b c.index_mut-reader.ensures.value in
     let on = c.see-reply.ensures in
     let shown = c.bytes_shown-bytes.result.now in
@@ -113,7 +157,7 @@ pub loop-rounds-preserved : goal.loop-rounds-preserved
 loop-rounds-preserved g c =
     let space = space_below g (goal.at.loop-rounds-preserved g c).Else-not-show in
     let b = c.index_mut-reader.result.now in
-    let shows : IsShowing g.S.Stage.stands g.S.Stage.showing c.loop-rounds.source c.show.new.self c.args.pair.output true = c.if-not-show.ensures in
+    let shows : IsShowing g.S.Stage.stands g.S.Stage.showing c.loop-rounds.source c.show.new.self c.args.pair.output true = c.if-not-show.ensures.shows in
     let reader = reader_at c.loop-rounds.invariant.0 b c.index_mut-reader.ensures.value in
     let on = c.see-reply.ensures in
     let shown = c.bytes_shown-bytes.result.now in
@@ -121,12 +165,26 @@ loop-rounds-preserved g c =
     let seen = takes_so g.S.Stage.stands on.0 on.1 shown on.2 on.3 c.see-reply.result c.in-Ok-Takes.field-0 on.6 c.in-Ok-Takes.is takes in
     let few = c.loop-rounds-test.true in (
       goes_round c.loop-rounds.invariant.0 space c.show.new.self shows b reader on.0 on.1 on.4 on.2 on.3 shown c.bytes_shown-bytes.ensures.looks c.bytes_shown-bytes.ensures.plain seen
-          c.relay.new.self (slice_set c.loop-rounds.actors.items c.args.pair.to c.see-reply.new.actor) (c.args.journal.now.items ++ rounds c.args.pair (c.loop-rounds.rounds + 1)) c.relay.ensures.net c.relay.ensures.desk c.relay.ensures.pool c.relay.ensures.ready
+          c.relay-in-Ok-Takes.new.self (slice_set c.loop-rounds.actors.items c.args.pair.to c.see-reply.new.actor) (c.args.journal.now.items ++ rounds c.args.pair (c.loop-rounds.rounds + 1)) c.relay-in-Ok-Takes.ensures.net c.relay-in-Ok-Takes.ensures.desk c.relay-in-Ok-Takes.ensures.pool c.relay-in-Ok-Takes.ensures.ready
           (ap (λ z. slice_set c.loop-rounds.actors.items c.args.pair.to z) on.5)
           (round_more c.args.pair c.args.journal.now.items c.loop-rounds.rounds),
       c.loop-rounds.invariant.1,
       c.loop-rounds.invariant.2,
       omega (arith, few),
+      clear_found g.S.Stage.stands g.S.Stage.ahead c.loop-rounds.actors.items c.args.pair.to c.show.new.self c.if-awaits.clear c.if-awaits.awaits b c.see-reply.new.actor reader
+          (elim c.if-awaits.branch [
+            | then-awaits w ↦
+                (let same = read_is (slice_set c.loop-rounds.actors.items c.args.pair.to c.see-reply.new.actor) c.args.pair.to c.see-reply.new.actor w.index.result.now
+                (get_set_same c.loop-rounds.actors.items c.args.pair.to c.see-reply.new.actor b reader) w.index.ensures in
+                subst (λ n. IsClearFor g.S.Stage.stands c.see-reply.new.actor (g.S.Stage.ahead c.show.new.self) n) (sym w.clear-is)
+                (subst (λ a. IsClearFor g.S.Stage.stands a (g.S.Stage.ahead c.show.new.self) w.clear_ahead-clear.result) same w.clear_ahead-clear.ensures.clear))
+            | else-awaits w ↦ λ some. (let zeros = c.loop-rounds.invariant.4.1 w.if-awaits.false in let left = w.clear-is in absurd (let no : ⊥ = omega (arith, some, zeros, left) in no))
+          ])
+          (ap (λ z. z.asked) on.5 ∙ seen.1) (ap (λ z. z.passes) on.5 ∙ seen.2)
+          (λ no. elim c.if-awaits.branch [
+            | then-awaits w ↦ (let none = ltb-false 0 w.clear_ahead-clear.result (sym w.awaits-is ∙ no) in let left = w.clear-is in omega (arith, none, left))
+            | else-awaits w ↦ w.clear-is ∙ c.loop-rounds.invariant.4.1 w.if-awaits.false
+          ]),
     )
 
 -- What is pushed has room
@@ -209,7 +267,7 @@ pub show-requires-in-loop-rounds-clause-covers : goal.show-requires-in-loop-roun
 show-requires-in-loop-rounds-clause-covers g c =
     let space = space_below g (goal.at.show-requires-in-loop-rounds-clause-covers g c).Else-not-show in
     let b = c.index_mut-reader.result.now in
-    let shows : IsShowing g.S.Stage.stands g.S.Stage.showing c.loop-rounds.source c.show.new.self c.args.pair.output true = c.if-not-show.ensures in
+    let shows : IsShowing g.S.Stage.stands g.S.Stage.showing c.loop-rounds.source c.show.new.self c.args.pair.output true = c.if-not-show.ensures.shows in
     let reader = reader_at c.loop-rounds.invariant.0 b c.index_mut-reader.ensures.value in
     shown_covers_at c.loop-rounds.invariant.0 space c.show.new.self shows b reader c.refill.new.self c.refill.ensures.net c.refill.ensures.desk c.refill.ensures.ready
 
@@ -237,7 +295,7 @@ returns-in_default-reply-2-clause-sound g c =
     let space = space_below g (goal.at.returns-in_default-reply-2-clause-sound g c).Else-not-show in
     let r = c.loop-rounds.invariant.0 in
     let b = c.index_mut-reader.result.now in
-    let shows : IsShowing g.S.Stage.stands g.S.Stage.showing c.loop-rounds.source c.show.new.self c.args.pair.output true = c.if-not-show.ensures in
+    let shows : IsShowing g.S.Stage.stands g.S.Stage.showing c.loop-rounds.source c.show.new.self c.args.pair.output true = c.if-not-show.ensures.shows in
     let reader = reader_at r b c.index_mut-reader.ensures.value in
     let on = c.see-reply.ensures in
     let shown = c.bytes_shown-bytes.result.now in
@@ -266,7 +324,7 @@ come_home-requires-clause-used g c =
     let space = space_below g (goal.at.come_home-requires-clause-used g c).Else-not-show in
     let r = c.loop-rounds.invariant.0 in
     let b = c.index_mut-reader.result.now in
-    let shows : IsShowing g.S.Stage.stands g.S.Stage.showing c.loop-rounds.source c.show.new.self c.args.pair.output true = c.if-not-show.ensures in
+    let shows : IsShowing g.S.Stage.stands g.S.Stage.showing c.loop-rounds.source c.show.new.self c.args.pair.output true = c.if-not-show.ensures.shows in
     let reader = reader_at r b c.index_mut-reader.ensures.value in
     let on = c.see-reply.ensures in
     let shown = c.bytes_shown-bytes.result.now in
@@ -279,7 +337,7 @@ come_home-requires-clause-ended g c =
     let space = space_below g (goal.at.come_home-requires-clause-ended g c).Else-not-show in
     let r = c.loop-rounds.invariant.0 in
     let b = c.index_mut-reader.result.now in
-    let shows : IsShowing g.S.Stage.stands g.S.Stage.showing c.loop-rounds.source c.show.new.self c.args.pair.output true = c.if-not-show.ensures in
+    let shows : IsShowing g.S.Stage.stands g.S.Stage.showing c.loop-rounds.source c.show.new.self c.args.pair.output true = c.if-not-show.ensures.shows in
     let reader = reader_at r b c.index_mut-reader.ensures.value in
     let on = c.see-reply.ensures in
     let shown = c.bytes_shown-bytes.result.now in
@@ -293,7 +351,7 @@ come_home-requires-clause-can g c = λ live.
     let space = space_below g (goal.at.come_home-requires-clause-can g c).Else-not-show in
     let r = c.loop-rounds.invariant.0 in
     let b = c.index_mut-reader.result.now in
-    let shows : IsShowing g.S.Stage.stands g.S.Stage.showing c.loop-rounds.source c.show.new.self c.args.pair.output true = c.if-not-show.ensures in
+    let shows : IsShowing g.S.Stage.stands g.S.Stage.showing c.loop-rounds.source c.show.new.self c.args.pair.output true = c.if-not-show.ensures.shows in
     let reader = reader_at r b c.index_mut-reader.ensures.value in
     let on = c.see-reply.ensures in
     let shown = c.bytes_shown-bytes.result.now in
@@ -314,7 +372,7 @@ come_home-requires-clause-early g c = λ live.
     let space = space_below g (goal.at.come_home-requires-clause-early g c).Else-not-show in
     let r = c.loop-rounds.invariant.0 in
     let b = c.index_mut-reader.result.now in
-    let shows : IsShowing g.S.Stage.stands g.S.Stage.showing c.loop-rounds.source c.show.new.self c.args.pair.output true = c.if-not-show.ensures in
+    let shows : IsShowing g.S.Stage.stands g.S.Stage.showing c.loop-rounds.source c.show.new.self c.args.pair.output true = c.if-not-show.ensures.shows in
     let reader = reader_at r b c.index_mut-reader.ensures.value in
     let on = c.see-reply.ensures in
     let shown = c.bytes_shown-bytes.result.now in
@@ -343,7 +401,7 @@ returns-in_default-come_home-clause-sound g c =
     let space = space_below g (goal.at.returns-in_default-come_home-clause-sound g c).Else-not-show in
     let r = c.loop-rounds.invariant.0 in
     let b = c.index_mut-reader.result.now in
-    let shows : IsShowing g.S.Stage.stands g.S.Stage.showing c.loop-rounds.source c.show.new.self c.args.pair.output true = c.if-not-show.ensures in
+    let shows : IsShowing g.S.Stage.stands g.S.Stage.showing c.loop-rounds.source c.show.new.self c.args.pair.output true = c.if-not-show.ensures.shows in
     let reader = reader_at r b c.index_mut-reader.ensures.value in
     let on = c.see-reply.ensures in
     let shown = c.bytes_shown-bytes.result.now in
@@ -371,7 +429,7 @@ returns-in-loop-rounds-clause-sound g c =
     let space = space_below g (goal.at.returns-in-loop-rounds-clause-sound g c).Else-not-show in
     let r = c.loop-rounds.invariant.0 in
     let b = c.index_mut-reader.result.now in
-    let shows : IsShowing g.S.Stage.stands g.S.Stage.showing c.loop-rounds.source c.show.new.self c.args.pair.output true = c.if-not-show.ensures in
+    let shows : IsShowing g.S.Stage.stands g.S.Stage.showing c.loop-rounds.source c.show.new.self c.args.pair.output true = c.if-not-show.ensures.shows in
     let reader = reader_at r b c.index_mut-reader.ensures.value in
     let on = c.see-reply.ensures in
     let shown = c.bytes_shown-bytes.result.now in
@@ -408,7 +466,7 @@ returns-clause-sound g c =
     let r = c.loop-rounds.invariant.0 in
     let source : c.loop-rounds-test.source ≡ c.loop-rounds.source = elim c.loop-rounds-test.branch [
       | else-loop-rounds-test w ↦ w.source-is
-      | then-loop-rounds-test+then-not-show w ↦ w.source-is ∙ subst (IsShowing g.S.Stage.stands g.S.Stage.showing c.loop-rounds.source w.show.new.self c.args.pair.output) w.if-not-show.true w.show.ensures
+      | then-loop-rounds-test+then-not-show w ↦ w.source-is ∙ subst (IsShowing g.S.Stage.stands g.S.Stage.showing c.loop-rounds.source w.show.new.self c.args.pair.output) w.if-not-show.true w.show.ensures.shows
     ] in
     let pool : c.if-rounds-gt0.floor.pool ≡ r.pool = last_pool r c.if-rounds-gt0.floor.pool
     (λ none_yet. elim c.if-rounds-gt0.branch [
@@ -440,7 +498,7 @@ returns-clause-due g c = λ no.
     let r = c.loop-rounds.invariant.0 in
     let source : c.loop-rounds-test.source ≡ c.loop-rounds.source = elim c.loop-rounds-test.branch [
       | else-loop-rounds-test w ↦ w.source-is
-      | then-loop-rounds-test+then-not-show w ↦ w.source-is ∙ subst (IsShowing g.S.Stage.stands g.S.Stage.showing c.loop-rounds.source w.show.new.self c.args.pair.output) w.if-not-show.true w.show.ensures
+      | then-loop-rounds-test+then-not-show w ↦ w.source-is ∙ subst (IsShowing g.S.Stage.stands g.S.Stage.showing c.loop-rounds.source w.show.new.self c.args.pair.output) w.if-not-show.true w.show.ensures.shows
     ] in
     let pool : c.if-rounds-gt0.floor.pool ≡ r.pool = last_pool r c.if-rounds-gt0.floor.pool
     (λ none_yet. elim c.if-rounds-gt0.branch [
