@@ -14,6 +14,3 @@ mod strings;
 
 pub use block::{BlockStage, is_block};
 pub use laws::lists;
-
-#[cfg(test)]
-mod tests;

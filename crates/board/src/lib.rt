@@ -9,16 +9,12 @@ mod core_box;
 mod finishing;
 mod going_on;
 mod holding;
-#[cfg(test)]
-mod lone;
 mod pass;
 mod passes;
 mod plays;
 mod seeking;
 mod slot;
 mod taking;
-#[cfg(test)]
-mod tests;
 mod turning;
 mod view;
 

@@ -4,8 +4,6 @@
 mod answer;
 mod joins;
 mod kinds;
-#[cfg(test)]
-mod tests;
 mod told;
 mod walks;
 

@@ -3,7 +3,7 @@ use Rattle.std.specs.Prelude.{◌&&◌, ◌||◌, ◌<◌, ◌≤◌, ⊤, ℕ, 
 use Rattle.std.specs.Str.{all_ascii_digits}
 use Rattle.clap.specs.Words.{App, Rule, Text, first_of, fault_of, matches_of, new_app, new_rule, with_rule}
 use Rattle.clap.specs.Kinds.{Kinds}
-use Rattle.stage_syntax.specs.Numbers.{decimal}
+use Rattle.argument_parts.specs.Numbers.{decimal}
 use Rattle.call_words.specs.declared.command.Command.{Command}
 use Rattle.call_words.specs.declared.command.Command.TheVariants.{Run, Check, Sample}
 

@@ -4,8 +4,6 @@
 mod command;
 mod demands;
 mod grammar;
-#[cfg(test)]
-mod tests;
 mod values;
 mod words;
 

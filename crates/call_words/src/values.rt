@@ -3,8 +3,8 @@ ghost use Rattle.call_words.specs.Command.{name_if, name_in, number_in, number_o
 ghost use Rattle.call_words.specs.Gives.{Gives};
 
 use crate::command::WordsFault;
+use argument_parts::number;
 use pipe_model::Rec;
-use stage_syntax::number;
 use std::alloc::Global;
 
 /// The most bytes of a name.

@@ -11,6 +11,3 @@ mod stage;
 
 pub use laws::lists;
 pub use stage::{CollateStage, is_collate};
-
-#[cfg(test)]
-mod tests;

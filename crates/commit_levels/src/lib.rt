@@ -5,8 +5,6 @@
 mod levels;
 mod licensed;
 mod member;
-#[cfg(test)]
-mod tests;
 mod unit;
 
 pub use licensed::{answers_as_licensed, members_stay_strands};

@@ -17,6 +17,3 @@ pub use hole::Holes;
 pub use kinds::is_device;
 pub use laws::lists;
 pub use literal::Literals;
-
-#[cfg(test)]
-mod tests;

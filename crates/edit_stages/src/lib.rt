@@ -19,6 +19,3 @@ mod xlate;
 
 pub use edit::{EditStage, is_edit};
 pub use laws::lists;
-
-#[cfg(test)]
-mod tests;

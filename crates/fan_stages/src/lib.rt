@@ -18,6 +18,3 @@ mod synchronise;
 
 pub use fan::{FanStage, is_fan};
 pub use laws::lists;
-
-#[cfg(test)]
-mod tests;

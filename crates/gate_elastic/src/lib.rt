@@ -14,6 +14,3 @@ mod passing;
 pub use gate::GateStage;
 pub use kinds::is_gate;
 pub use laws::lists;
-
-#[cfg(test)]
-mod tests;

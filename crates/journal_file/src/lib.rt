@@ -6,8 +6,6 @@ mod entries;
 mod fronts;
 mod laws;
 mod reading;
-#[cfg(test)]
-mod tests;
 mod writing;
 
 pub use checking::{Checked, check};

@@ -9,6 +9,3 @@ mod stage;
 
 pub use laws::lists;
 pub use stage::{LookupStage, is_lookup};
-
-#[cfg(test)]
-mod tests;

@@ -5,7 +5,7 @@ use Rattle.pipe_model.specs.declared.kind.Kind.{Kind}
 use Rattle.stage_syntax.proofs.OneKinds.{faults_same, kind_faultless, kind_known, kinds_same}
 use Rattle.stage_syntax.specs.declared.fault.KindFault.{KindFault}
 use Rattle.stage_syntax.specs.declared.fault.KindFault.TheVariants.{Unknown, Argument, NoMemory}
-use Rattle.stage_syntax.specs.declared.fault.ArgFault.{ArgFault}
+use Rattle.argument_parts.specs.declared.fault.ArgFault.{ArgFault}
 use Rattle.net_graph.specs.Nets.{AreOutcomes, IsOutcome}
 use Rattle.net_graph.specs.Stands.{Stand}
 

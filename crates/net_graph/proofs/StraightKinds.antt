@@ -9,7 +9,7 @@ use Rattle.stage_syntax.specs.Kinds.{IsKind}
 use Rattle.stage_syntax.specs.DeviceForms.{console}
 use Rattle.stage_syntax.specs.Rows.Makes.{Ended, GoesOn}
 use Rattle.stage_syntax.specs.SelectionForms.{locate}
-use Rattle.stage_syntax.specs.declared.part.Value.TheVariants as Read
+use Rattle.argument_parts.specs.declared.part.Value.TheVariants as Read
 use Rattle.spec_scanner.proofs.StraightStages.{AreLater, IsConsoleStage, IsLocateStage}
 use Rattle.spec_scanner.proofs.StraightWords.{Spelled}
 use Rattle.net_graph.specs.Faults.{replaced_by}

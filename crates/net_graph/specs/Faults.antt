@@ -9,7 +9,7 @@ use Rattle.std.specs.declared.option.Option.TheVariants.{Some, None}
 use Rattle.pipe_model.specs.declared.kind.Kind.{Kind}
 use Rattle.pipe_model.specs.declared.kind.Kind.TheVariants as Kinds
 use Rattle.pipe_model.specs.declared.net.Net.{Net}
-use Rattle.stage_syntax.specs.Fault.{number_of}
+use Rattle.argument_parts.specs.Fault.{number_of}
 use Rattle.stage_syntax.specs.declared.fault.KindFault.{KindFault}
 use Rattle.stage_syntax.specs.declared.fault.KindFault.TheVariants.{Unknown, Argument, NoMemory}
 use Rattle.spec_scanner.specs.declared.piece.Piece.{Piece}

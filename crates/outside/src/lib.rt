@@ -8,8 +8,6 @@ mod fault;
 mod folder_fetch;
 mod folder_replace;
 mod folder_shelf;
-#[cfg(test)]
-mod folder_tests;
 mod gate;
 mod mem_shelf;
 mod mem_sink;
@@ -18,8 +16,6 @@ mod shelf;
 mod sink;
 mod source;
 mod streams;
-#[cfg(test)]
-mod tests;
 mod whole;
 
 pub use folder_shelf::FolderShelf;

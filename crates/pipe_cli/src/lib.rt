@@ -23,12 +23,3 @@ pub use call_words::{Command, WordsFault, read_words};
 pub use main_call::pipe_main;
 pub use meaning::{one_meaning, straight_line_is_plain, straight_line_means};
 pub use status::{Outcome, Status};
-
-#[cfg(test)]
-mod gate_tests;
-#[cfg(test)]
-mod order_tests;
-#[cfg(test)]
-mod tests;
-#[cfg(test)]
-mod worker_tests;

@@ -3,8 +3,6 @@
 
 mod pool;
 mod queue;
-#[cfg(test)]
-mod tests;
 
 pub use pool::{Grip, Pool};
 pub use queue::{Node, Queue};

@@ -14,8 +14,6 @@ mod relaying;
 mod seat;
 mod sights;
 mod telling;
-#[cfg(test)]
-mod tests;
 mod turns;
 mod wires;
 

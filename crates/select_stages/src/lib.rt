@@ -16,6 +16,3 @@ mod window;
 
 pub use laws::lists;
 pub use select::{SelectStage, is_select};
-
-#[cfg(test)]
-mod tests;

@@ -3,7 +3,7 @@ use Rattle.std.proofs.Common.{◌≡◌, ◌≢◌, ℕ, suc, ◌+◌, ◌-◌, 
 use Rattle.std.proofs.lemmas.List.{length-replicate, take_rest}
 use Rattle.bstr.specs.Find.{IsFirstByte, is_byte}
 use Rattle.pipe_model.specs.Words.{IsUnblanked}
-use Rattle.stage_syntax.proofs.Delimiters.{not_nowhere, not_before}
+use Rattle.argument_parts.proofs.Delimiters.{not_nowhere, not_before}
 use Rattle.spec_scanner.specs.declared.fault.Fault.{Fault}
 use Rattle.spec_scanner.specs.declared.settings.OptionsRead.{OptionsRead}
 use Rattle.spec_scanner.specs.declared.settings.Settings.{Settings}

@@ -1,10 +1,10 @@
 -- The stages of a straight line: what is read of a CONSOLE and of a LOCATE.
 use Rattle.std.proofs.Common.{◌≡◌, ℕ, zero, suc, ◌+◌, ◌<◌, List, [], ◌∷◌, ◌++◌, length, codes, refl, sym, ap, ◌∙◌, arith, subst, append-nil, get_or, Contains}
 use Rattle.std.specs.Str.{str_to_ascii_lowercase}
-use Rattle.stage_syntax.specs.Parts.{IsAtEnd, IsNext}
+use Rattle.argument_parts.specs.Parts.{IsAtEnd, IsNext}
 use Rattle.stage_syntax.specs.SelectionForms.{before_locate}
-use Rattle.stage_syntax.proofs.DelimitedParts.{delimited_comes}
-use Rattle.stage_syntax.specs.declared.part.Value.TheVariants as Read
+use Rattle.argument_parts.proofs.DelimitedParts.{delimited_comes}
+use Rattle.argument_parts.specs.declared.part.Value.TheVariants as Read
 use Rattle.spec_scanner.specs.Blanks.{blanks}
 use Rattle.spec_scanner.specs.Labels.{found, read_stage}
 use Rattle.spec_scanner.specs.Stretches.{trimmed}

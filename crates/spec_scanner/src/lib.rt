@@ -25,6 +25,3 @@ pub use laws::{no_refusal, one_reading_of, one_refusal_of, places_rise};
 pub use piece::{Piece, PieceKind};
 pub use scanned::{Pieces, Scanned};
 pub use scanner::scan;
-
-#[cfg(test)]
-mod tests;

@@ -14,6 +14,3 @@ mod stage;
 
 pub use laws::lists;
 pub use stage::{SpecsStage, is_specs};
-
-#[cfg(test)]
-mod tests;

@@ -40,6 +40,3 @@ pub use stage::Stage;
 pub use strings::Sought;
 pub use text_lines::{TextLines, line_shown, lines_ahead, put_line, show_line};
 pub use waiting::take_waiting;
-
-#[cfg(test)]
-mod tests;

@@ -5,15 +5,15 @@ use Rattle.pipe_model.specs.declared.kind.Times.TheVariants.{Only, All}
 use Rattle.pipe_model.specs.declared.items.Spot.{Spot}
 use Rattle.pipe_model.specs.declared.items.Spot.TheVariants.{Column, Next, NextWord}
 use Rattle.pipe_model.specs.declared.range.Range.{Range}
-use Rattle.stage_syntax.specs.Parts.{AreTimes, IsFirstPart, IsNext, IsPart}
-use Rattle.stage_syntax.specs.PairsOfStrings.{AreStrings, IsAnyString}
-use Rattle.stage_syntax.specs.RangeWords.{IsRange}
-use Rattle.stage_syntax.specs.Spots.{IsSpot}
-use Rattle.stage_syntax.specs.Strings.{IsDelimited, IsHexadecimalWord, IsString}
+use Rattle.argument_parts.specs.Parts.{AreTimes, IsFirstPart, IsNext, IsPart}
+use Rattle.argument_parts.specs.PairsOfStrings.{AreStrings, IsAnyString}
+use Rattle.argument_parts.specs.RangeWords.{IsRange}
+use Rattle.argument_parts.specs.Spots.{IsSpot}
+use Rattle.argument_parts.specs.Strings.{IsDelimited, IsHexadecimalWord, IsString}
 use Rattle.pipe_model.specs.Words.{IsFirstWord, IsUnblanked}
-use Rattle.stage_syntax.specs.declared.part.Part.{Part}
-use Rattle.stage_syntax.specs.declared.part.Part.TheVariants as Asked
-use Rattle.stage_syntax.specs.declared.part.Value.{Value}
+use Rattle.argument_parts.specs.declared.part.Part.{Part}
+use Rattle.argument_parts.specs.declared.part.Part.TheVariants as Asked
+use Rattle.argument_parts.specs.declared.part.Value.{Value}
 
 -- what stands after blanks isn't longer
 unblanked_within : (text rest : List ℕ) → IsUnblanked text rest → length rest ≤ length text

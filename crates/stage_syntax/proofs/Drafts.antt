@@ -4,7 +4,7 @@ use Rattle.std.proofs.lemmas.List.Sums.{fold-append}
 use Rattle.stage_syntax.specs.ItemForms.{Draft, draft_after, draft_of, more, nothing_read, progress_of}
 use Rattle.stage_syntax.specs.declared.item_lists.ItemState.{ItemState}
 use Rattle.stage_syntax.specs.declared.item_parts.Progress.{Progress}
-use Rattle.stage_syntax.specs.declared.part.Value.{Value}
+use Rattle.argument_parts.specs.declared.part.Value.{Value}
 
 -- what an argument makes of them, by their state
 pub after_by : (d : Draft) (state : ItemState) (value read : Value) → d.state ≡ state → value ≡ read → draft_after d value ≡ more state read d

@@ -1,19 +1,19 @@
 -- A name and an argument are one kind of stage, or have one fault.
 use Rattle.std.proofs.Common.{◌≡◌, ℕ, Bool, List, [], ◌∷◌, ◌++◌, ◌⊎◌, length, Some, None, refl, sym, ap, ◌∙◌, subst, Option, inl, inr}
 use Rattle.pipe_model.specs.declared.kind.Kind.{Kind}
-use Rattle.stage_syntax.proofs.OneParts.{next_or_none, not_at_end, one_next, one_no_next}
+use Rattle.argument_parts.proofs.OneParts.{next_or_none, not_at_end, one_next, one_no_next}
 use Rattle.stage_syntax.specs.Arg.{ArgText}
 use Rattle.stage_syntax.specs.Kinds.{IsArgFault, IsKind, placed}
 use Rattle.stage_syntax.specs.Names.{arguments_of}
-use Rattle.stage_syntax.specs.Parts.{IsAtEnd, IsNext, IsNoNext}
+use Rattle.argument_parts.specs.Parts.{IsAtEnd, IsNext, IsNoNext}
 use Rattle.stage_syntax.specs.Rows.{Arguments, Fails, HasFault, Makes, Reads, Row}
 use Rattle.stage_syntax.specs.Rows.Arguments.{OfParts, OfText}
 use Rattle.stage_syntax.specs.Rows.Fails.{FailsOn, Lacks, Stops, Wrong}
 use Rattle.stage_syntax.specs.Rows.Makes.{Ended, GoesOn}
-use Rattle.stage_syntax.specs.declared.fault.ArgFault.{ArgFault}
-use Rattle.stage_syntax.specs.declared.fault.FaultKind.TheVariants.{Missing}
-use Rattle.stage_syntax.specs.declared.part.TextFault.{TextFault}
-use Rattle.stage_syntax.specs.declared.part.Value.{Value}
+use Rattle.argument_parts.specs.declared.fault.ArgFault.{ArgFault}
+use Rattle.argument_parts.specs.declared.fault.FaultKind.TheVariants.{Missing}
+use Rattle.argument_parts.specs.declared.part.TextFault.{TextFault}
+use Rattle.argument_parts.specs.declared.part.Value.{Value}
 
 -- the next argument in another spelling
 moved : (P : Value → List ℕ → List ℕ → Type 0) (value other : Value) (rest after front next : List ℕ) → (value ≡ other) × (rest ≡ after) × (front ≡ next) → P value rest front → P other after next

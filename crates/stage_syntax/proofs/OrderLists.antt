@@ -4,7 +4,7 @@ use Rattle.std.proofs.lemmas.List.{take_rest}
 use Rattle.pipe_model.specs.declared.keys.SortKey.{SortKey}
 use Rattle.pipe_model.specs.declared.keys.Total.{Total}
 use Rattle.stage_syntax.specs.OrderForms.{ends_with_range, is_range_value, onto, total_of, totals_of}
-use Rattle.stage_syntax.specs.declared.part.Value.{Value}
+use Rattle.argument_parts.specs.declared.part.Value.{Value}
 
 -- the last argument says whether there is a range at the end
 pub last_ends : (values : List Value) (value : Value) → 0 < length values → ((other : Value) → value ≡ get_or values (length values - 1) other) → is_range_value value ≡ ends_with_range values

@@ -15,24 +15,24 @@ use Rattle.pipe_model.specs.Members.{has}
 use Rattle.pipe_model.specs.declared.kind.Times.{Times}
 use Rattle.pipe_model.specs.declared.kind.Times.TheVariants.{Only, All}
 use Rattle.pipe_model.specs.declared.range.Span.TheVariants.{Columns}
-use Rattle.stage_syntax.specs.declared.part.Part.{Part}
-use Rattle.stage_syntax.specs.declared.part.Part.TheVariants as Asked
-use Rattle.stage_syntax.specs.declared.part.Value.{Value}
-use Rattle.stage_syntax.specs.declared.part.Value.TheVariants as Read
-use Rattle.stage_syntax.specs.declared.ranges.Ending.{Ending}
-use Rattle.stage_syntax.specs.declared.ranges.Ending.TheVariants.{Alone, To, Open, Long}
-use Rattle.stage_syntax.specs.declared.ranges.Spelling.{Spelling}
+use Rattle.argument_parts.specs.declared.part.Part.{Part}
+use Rattle.argument_parts.specs.declared.part.Part.TheVariants as Asked
+use Rattle.argument_parts.specs.declared.part.Value.{Value}
+use Rattle.argument_parts.specs.declared.part.Value.TheVariants as Read
+use Rattle.argument_parts.specs.declared.ranges.Ending.{Ending}
+use Rattle.argument_parts.specs.declared.ranges.Ending.TheVariants.{Alone, To, Open, Long}
+use Rattle.argument_parts.specs.declared.ranges.Spelling.{Spelling}
 use Rattle.pipe_model.proofs.Truths.{both}
-use Rattle.stage_syntax.specs.Bounds.{Fits, IsLast, IsRangeOf}
-use Rattle.stage_syntax.specs.PlainRanges.{IsPlainRange}
+use Rattle.argument_parts.specs.Bounds.{Fits, IsLast, IsRangeOf}
+use Rattle.argument_parts.specs.PlainRanges.{IsPlainRange}
 use Rattle.stage_syntax.proofs.Consumed.{first_takes}
-use Rattle.stage_syntax.specs.NamesOfFiles.{IsName}
-use Rattle.stage_syntax.specs.Parts.{AreTimes, IsFirstPart, IsNext, IsPart}
-use Rattle.stage_syntax.specs.RangeWords.{IsRange}
+use Rattle.argument_parts.specs.NamesOfFiles.{IsName}
+use Rattle.argument_parts.specs.Parts.{AreTimes, IsFirstPart, IsNext, IsPart}
+use Rattle.argument_parts.specs.RangeWords.{IsRange}
 use Rattle.stage_syntax.specs.Rows.{Makes, Row}
 use Rattle.stage_syntax.specs.Rows.Makes.{Ended, GoesOn}
-use Rattle.stage_syntax.specs.Spots.{FitsLength, IsColumnLength, IsSpot}
-use Rattle.stage_syntax.specs.Strings.{IsString}
+use Rattle.argument_parts.specs.Spots.{FitsLength, IsColumnLength, IsSpot}
+use Rattle.argument_parts.specs.Strings.{IsString}
 
 -- Ranges
 

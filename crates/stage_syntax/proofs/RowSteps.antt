@@ -2,16 +2,16 @@
 use Rattle.std.proofs.Common.{◌≡◌, ℕ, ◌-◌, List, [], ◌∷◌, ◌++◌, length, take, drop, sym, ap, ◌∙◌, subst, None, Some}
 use Rattle.pipe_model.proofs.Cuts.{tail_of}
 use Rattle.pipe_model.specs.declared.kind.Kind.{Kind}
-use Rattle.stage_syntax.specs.Parts.{IsAtEnd, IsNext, IsNoNext}
-use Rattle.stage_syntax.specs.Refusals.{Refuses}
+use Rattle.argument_parts.specs.Parts.{IsAtEnd, IsNext, IsNoNext}
+use Rattle.argument_parts.specs.Refusals.{Refuses}
 use Rattle.stage_syntax.specs.Rows.{Fails, Makes, Row}
 use Rattle.stage_syntax.specs.Rows.Fails.{FailsOn, Lacks, Stops, Wrong}
 use Rattle.stage_syntax.specs.Rows.Makes.{Ended, GoesOn}
-use Rattle.stage_syntax.specs.declared.fault.FaultKind.TheVariants.{Missing}
-use Rattle.stage_syntax.specs.declared.part.TextFault.{TextFault}
-use Rattle.stage_syntax.specs.declared.part.Value.{Value}
-use Rattle.stage_syntax.specs.declared.refusal.Refusal.{Refusal}
-use Rattle.stage_syntax.specs.declared.refusal.Refusal.TheVariants.{Fault, NoMemory}
+use Rattle.argument_parts.specs.declared.fault.FaultKind.TheVariants.{Missing}
+use Rattle.argument_parts.specs.declared.part.TextFault.{TextFault}
+use Rattle.argument_parts.specs.declared.part.Value.{Value}
+use Rattle.argument_parts.specs.declared.refusal.Refusal.{Refusal}
+use Rattle.argument_parts.specs.declared.refusal.Refusal.TheVariants.{Fault, NoMemory}
 
 -- what the rest makes or lacks after these arguments, the whole text does
 pub record IsReadTo (row : Row) (whole : List ℕ) (values : List Value) (lefts text : List ℕ) : Type 0 where

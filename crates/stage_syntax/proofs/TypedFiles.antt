@@ -13,9 +13,9 @@ use Rattle.stage_syntax.proofs.Typed.{IsOther, IsTyped, known}
 use Rattle.stage_syntax.specs.DeviceForms.{before_name, file_in, of_name}
 use Rattle.stage_syntax.specs.Forms.{row}
 use Rattle.stage_syntax.specs.Rows.{Reads}
-use Rattle.stage_syntax.specs.declared.part.Part.TheVariants as Asked
-use Rattle.stage_syntax.specs.declared.part.Value.{Value}
-use Rattle.stage_syntax.specs.declared.part.Value.TheVariants as Read
+use Rattle.argument_parts.specs.declared.part.Part.TheVariants as Asked
+use Rattle.argument_parts.specs.declared.part.Value.{Value}
+use Rattle.argument_parts.specs.declared.part.Value.TheVariants as Read
 
 -- a name that was read is one of a file
 name_of_one : (name : List ℕ) → IsOfOne (Asked.Name ∷ []) (Read.String name) → is_name name ≡ true

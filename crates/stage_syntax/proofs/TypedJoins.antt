@@ -10,8 +10,8 @@ use Rattle.stage_syntax.proofs.ReadValues.{AreOfRow, range_of_one}
 use Rattle.stage_syntax.proofs.Typed.{IsOther, known}
 use Rattle.stage_syntax.specs.Forms.{row, before_range, of_range, before_ranges, of_ranges}
 use Rattle.stage_syntax.specs.Names.{before_overlay, of_overlay}
-use Rattle.stage_syntax.specs.declared.part.Value.{Value}
-use Rattle.stage_syntax.specs.declared.part.Value.TheVariants as Read
+use Rattle.argument_parts.specs.declared.part.Value.{Value}
+use Rattle.argument_parts.specs.declared.part.Value.TheVariants as Read
 
 module _ (first : Bool) where
   pub merging : (values : List Value) → AreOfRow (row before_range (of_range Kinds.Merge)) [] values → IfSome (of_range Kinds.Merge values) (IsOther first)

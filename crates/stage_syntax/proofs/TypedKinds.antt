@@ -29,9 +29,9 @@ use Rattle.stage_syntax.specs.Kinds.{IsKind}
 use Rattle.stage_syntax.specs.Names.{Named, named_in, stages}
 use Rattle.stage_syntax.specs.Rows.{Arguments, Makes, Reads, Row, text_in}
 use Rattle.stage_syntax.specs.SelectionForms.{before_locate, of_locate, of_some_text, before_end, of_end, before_two, of_two}
-use Rattle.stage_syntax.specs.declared.part.Value.{Value}
-use Rattle.stage_syntax.specs.declared.part.Value.TheVariants as Read
-use Rattle.stage_syntax.specs.declared.part.Word.TheVariants.{Both, First, Last, Leading, Left, Lower, Right, Trailing, Upper}
+use Rattle.argument_parts.specs.declared.part.Value.{Value}
+use Rattle.argument_parts.specs.declared.part.Value.TheVariants as Read
+use Rattle.argument_parts.specs.declared.part.Word.TheVariants.{Both, First, Last, Leading, Left, Lower, Right, Trailing, Upper}
 
 -- Of each row but that of `<`
 

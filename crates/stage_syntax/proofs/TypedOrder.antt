@@ -25,11 +25,11 @@ use Rattle.stage_syntax.proofs.Typed.{IsOther, known}
 use Rattle.stage_syntax.specs.Forms.{row}
 use Rattle.stage_syntax.specs.OrderForms.{before_unique, of_unique, wrong_unique, keep_of, is_last, before_sort, of_sort, sort_of, key_of, keys_of, is_range_value, ranges_in, ends_with_range, before_count, count_of, totals_of, before_fblock, of_fblock, before_block, of_block, before_deblock, of_deblock}
 use Rattle.stage_syntax.specs.Rows.{Makes, Row}
-use Rattle.stage_syntax.specs.declared.part.Part.TheVariants as Asked
-use Rattle.stage_syntax.specs.declared.part.Value.{Value}
-use Rattle.stage_syntax.specs.declared.part.Value.TheVariants as Read
-use Rattle.stage_syntax.specs.declared.part.Word.{Word}
-use Rattle.stage_syntax.specs.declared.part.Word.TheVariants.{Ascending, Bytes, Count, Descending, Fixed, Last, Linend, Lines, Sf, String, Words}
+use Rattle.argument_parts.specs.declared.part.Part.TheVariants as Asked
+use Rattle.argument_parts.specs.declared.part.Value.{Value}
+use Rattle.argument_parts.specs.declared.part.Value.TheVariants as Read
+use Rattle.argument_parts.specs.declared.part.Word.{Word}
+use Rattle.argument_parts.specs.declared.part.Word.TheVariants.{Ascending, Bytes, Count, Descending, Fixed, Last, Linend, Lines, Sf, String, Words}
 
 -- UNIQUE's arguments
 abbrev unique_row : Row

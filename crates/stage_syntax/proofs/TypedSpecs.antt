@@ -24,10 +24,10 @@ use Rattle.stage_syntax.proofs.Typed.{IsOther, known}
 use Rattle.stage_syntax.specs.declared.item_lists.ItemState.{ItemState}
 use Rattle.stage_syntax.specs.declared.item_lists.ItemState.TheVariants.{Front, Between, Printing, Putting, Placing, Padding, Setting, Counting, Giving, Numbering}
 use Rattle.stage_syntax.specs.declared.item_parts.Due.TheVariants as Comes
-use Rattle.stage_syntax.specs.declared.part.Part.TheVariants as Asked
-use Rattle.stage_syntax.specs.declared.part.Value.{Value}
-use Rattle.stage_syntax.specs.declared.part.Value.TheVariants as Read
-use Rattle.stage_syntax.specs.declared.part.Word.TheVariants as Words
+use Rattle.argument_parts.specs.declared.part.Part.TheVariants as Asked
+use Rattle.argument_parts.specs.declared.part.Value.{Value}
+use Rattle.argument_parts.specs.declared.part.Value.TheVariants as Read
+use Rattle.argument_parts.specs.declared.part.Word.TheVariants as Words
 use Rattle.stage_syntax.specs.Forms.{row}
 use Rattle.stage_syntax.specs.ItemForms.{Draft, align_of, before_specs, begun, draft_after, draft_of, due_of, given, items_before, lists_of, made_by, more, nothing_read, of_specs, op_of, others, parts_of, put, sources, with_field, with_item, with_op, with_state}
 use Rattle.stage_syntax.specs.Rows.{Row}

@@ -7,11 +7,11 @@ use Rattle.pipe_model.specs.declared.kind.Times.{Times}
 use Rattle.pipe_model.specs.declared.kind.Times.TheVariants.{Only}
 use Rattle.pipe_model.specs.declared.range.Range.{Range}
 use Rattle.pipe_model.specs.Straight.{all_columns}
-use Rattle.stage_syntax.specs.declared.part.Part.{Part}
-use Rattle.stage_syntax.specs.declared.part.Part.TheVariants as Asked
-use Rattle.stage_syntax.specs.declared.part.TextFault.{TextFault}
-use Rattle.stage_syntax.specs.declared.part.Value.{Value}
-use Rattle.stage_syntax.specs.declared.part.Value.TheVariants as Read
+use Rattle.argument_parts.specs.declared.part.Part.{Part}
+use Rattle.argument_parts.specs.declared.part.Part.TheVariants as Asked
+use Rattle.argument_parts.specs.declared.part.TextFault.{TextFault}
+use Rattle.argument_parts.specs.declared.part.Value.{Value}
+use Rattle.argument_parts.specs.declared.part.Value.TheVariants as Read
 use Rattle.stage_syntax.specs.Rows.{Row, Arguments}
 use Rattle.stage_syntax.specs.Rows.Arguments.{OfParts}
 

@@ -20,11 +20,11 @@ use Rattle.stage_syntax.specs.declared.item_lists.ItemState.TheVariants.{Front, 
 use Rattle.stage_syntax.specs.declared.item_parts.Due.{Due}
 use Rattle.stage_syntax.specs.declared.item_parts.Due.TheVariants as Comes
 use Rattle.stage_syntax.specs.declared.item_parts.Progress.{Progress}
-use Rattle.stage_syntax.specs.declared.part.Part.{Part}
-use Rattle.stage_syntax.specs.declared.part.Part.TheVariants as Asked
-use Rattle.stage_syntax.specs.declared.part.Value.{Value}
-use Rattle.stage_syntax.specs.declared.part.Value.TheVariants as Read
-use Rattle.stage_syntax.specs.declared.part.Word.TheVariants as Words
+use Rattle.argument_parts.specs.declared.part.Part.{Part}
+use Rattle.argument_parts.specs.declared.part.Part.TheVariants as Asked
+use Rattle.argument_parts.specs.declared.part.Value.{Value}
+use Rattle.argument_parts.specs.declared.part.Value.TheVariants as Read
+use Rattle.argument_parts.specs.declared.part.Word.TheVariants as Words
 use Rattle.stage_syntax.specs.Forms.{row}
 use Rattle.stage_syntax.specs.Rows.{Arguments}
 use Rattle.stage_syntax.specs.Rows.Arguments.{OfParts}

@@ -3,12 +3,12 @@ use Rattle.std.specs.Prelude.{◌≡◌, ℕ, ◌-◌, Bool, List, length, get_o
 use Rattle.std.specs.declared.option.Option.TheVariants.{Some, None}
 use Rattle.pipe_model.specs.declared.kind.Kind.{Kind}
 use Rattle.stage_syntax.specs.Arg.{ArgText}
-use Rattle.stage_syntax.specs.declared.fault.ArgFault.{ArgFault}
+use Rattle.argument_parts.specs.declared.fault.ArgFault.{ArgFault}
 use Rattle.stage_syntax.specs.declared.fault.KindFault.{KindFault}
 use Rattle.stage_syntax.specs.declared.fault.KindFault.TheVariants.{Unknown, Argument, NoMemory}
-use Rattle.stage_syntax.specs.declared.part.TextFault.{TextFault}
-use Rattle.stage_syntax.specs.declared.refusal.Refusal.{Refusal}
-use Rattle.stage_syntax.specs.declared.refusal.Refusal.TheVariants as Refused
+use Rattle.argument_parts.specs.declared.part.TextFault.{TextFault}
+use Rattle.argument_parts.specs.declared.refusal.Refusal.{Refusal}
+use Rattle.argument_parts.specs.declared.refusal.Refusal.TheVariants as Refused
 use Rattle.stage_syntax.specs.Names.{arguments_of}
 use Rattle.stage_syntax.specs.Rows.{Arguments, Reads, HasFault}
 

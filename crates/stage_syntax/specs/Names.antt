@@ -4,11 +4,11 @@ use Rattle.std.specs.Str.{bytes_eq, str_to_ascii_lowercase}
 use Rattle.std.specs.declared.option.Option.{Option}
 use Rattle.std.specs.declared.option.Option.TheVariants.{Some, None}
 use Rattle.pipe_model.specs.declared.kind.Kind.TheVariants as Kinds
-use Rattle.stage_syntax.specs.declared.part.Part.TheVariants as Asked
-use Rattle.stage_syntax.specs.declared.part.Value.{Value}
-use Rattle.stage_syntax.specs.declared.part.Value.TheVariants as Read
+use Rattle.argument_parts.specs.declared.part.Part.TheVariants as Asked
+use Rattle.argument_parts.specs.declared.part.Value.{Value}
+use Rattle.argument_parts.specs.declared.part.Value.TheVariants as Read
 use Rattle.pipe_model.specs.declared.kind.Kind.{Kind}
-use Rattle.stage_syntax.specs.declared.part.Part.{Part}
+use Rattle.argument_parts.specs.declared.part.Part.{Part}
 use Rattle.stage_syntax.specs.Rows.{Arguments}
 use Rattle.stage_syntax.specs.Rows.Arguments.{OfParts}
 use Rattle.stage_syntax.specs.Forms.{row, no_arguments, before_range, of_range, before_ranges, of_ranges}

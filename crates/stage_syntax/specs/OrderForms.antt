@@ -14,14 +14,14 @@ use Rattle.pipe_model.specs.declared.kind.Kind.{Kind}
 use Rattle.pipe_model.specs.declared.kind.Kind.TheVariants as Kinds
 use Rattle.pipe_model.specs.declared.range.Range.{Range}
 use Rattle.pipe_model.specs.Straight.{all_columns}
-use Rattle.stage_syntax.specs.declared.fault.FaultKind.TheVariants.{UnknownWord}
-use Rattle.stage_syntax.specs.declared.part.Part.{Part}
-use Rattle.stage_syntax.specs.declared.part.Part.TheVariants as Asked
-use Rattle.stage_syntax.specs.declared.part.TextFault.{TextFault}
-use Rattle.stage_syntax.specs.declared.part.Value.{Value}
-use Rattle.stage_syntax.specs.declared.part.Value.TheVariants as Read
-use Rattle.stage_syntax.specs.declared.part.Word.{Word}
-use Rattle.stage_syntax.specs.declared.part.Word.TheVariants.{First, Last, Count, Singles, Multiple, Ascending, Descending, Lines, Words, Bytes, Fixed, Linend, String, Sf}
+use Rattle.argument_parts.specs.declared.fault.FaultKind.TheVariants.{UnknownWord}
+use Rattle.argument_parts.specs.declared.part.Part.{Part}
+use Rattle.argument_parts.specs.declared.part.Part.TheVariants as Asked
+use Rattle.argument_parts.specs.declared.part.TextFault.{TextFault}
+use Rattle.argument_parts.specs.declared.part.Value.{Value}
+use Rattle.argument_parts.specs.declared.part.Value.TheVariants as Read
+use Rattle.argument_parts.specs.declared.part.Word.{Word}
+use Rattle.argument_parts.specs.declared.part.Word.TheVariants.{First, Last, Count, Singles, Multiple, Ascending, Descending, Lines, Words, Bytes, Fixed, Linend, String, Sf}
 use Rattle.stage_syntax.specs.Rows.{Arguments}
 use Rattle.stage_syntax.specs.Rows.Arguments.{OfParts}
 use Rattle.stage_syntax.specs.Forms.{row, greatest}

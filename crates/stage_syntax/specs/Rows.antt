@@ -3,11 +3,11 @@ use Rattle.std.specs.Prelude.{◌≡◌, ℕ, List, [], ◌∷◌, ◌++◌, len
 use Rattle.std.specs.declared.option.Option.{Option}
 use Rattle.std.specs.declared.option.Option.TheVariants.{Some, None}
 use Rattle.pipe_model.specs.declared.kind.Kind.{Kind}
-use Rattle.stage_syntax.specs.declared.fault.FaultKind.TheVariants.{Missing}
-use Rattle.stage_syntax.specs.declared.part.Part.{Part}
-use Rattle.stage_syntax.specs.declared.part.Value.{Value}
-use Rattle.stage_syntax.specs.declared.part.TextFault.{TextFault}
-use Rattle.stage_syntax.specs.Parts.{IsAtEnd, IsNext, IsNoNext}
+use Rattle.argument_parts.specs.declared.fault.FaultKind.TheVariants.{Missing}
+use Rattle.argument_parts.specs.declared.part.Part.{Part}
+use Rattle.argument_parts.specs.declared.part.Value.{Value}
+use Rattle.argument_parts.specs.declared.part.TextFault.{TextFault}
+use Rattle.argument_parts.specs.Parts.{IsAtEnd, IsNext, IsNoNext}
 
 -- arguments that are read one after another
 pub record Row : Type 0 where

@@ -8,11 +8,11 @@ use Rattle.pipe_model.specs.declared.kind.Times.{Times}
 use Rattle.pipe_model.specs.declared.kind.Times.TheVariants.{Only}
 use Rattle.pipe_model.specs.declared.range.Range.{Range}
 use Rattle.pipe_model.specs.Straight.{all_columns}
-use Rattle.stage_syntax.specs.declared.part.Part.{Part}
-use Rattle.stage_syntax.specs.declared.part.Part.TheVariants as Asked
-use Rattle.stage_syntax.specs.declared.part.Value.{Value}
-use Rattle.stage_syntax.specs.declared.part.Value.TheVariants as Read
-use Rattle.stage_syntax.specs.declared.part.Word.TheVariants.{First, Last}
+use Rattle.argument_parts.specs.declared.part.Part.{Part}
+use Rattle.argument_parts.specs.declared.part.Part.TheVariants as Asked
+use Rattle.argument_parts.specs.declared.part.Value.{Value}
+use Rattle.argument_parts.specs.declared.part.Value.TheVariants as Read
+use Rattle.argument_parts.specs.declared.part.Word.TheVariants.{First, Last}
 use Rattle.stage_syntax.specs.Rows.{Arguments}
 use Rattle.stage_syntax.specs.Rows.Arguments.{OfText, OfParts}
 use Rattle.stage_syntax.specs.Forms.{row, of_text}

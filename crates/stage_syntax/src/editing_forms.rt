@@ -3,8 +3,7 @@ ghost use Rattle.pipe_model.specs.declared.kind.Kind.TheVariants as Kinds;
 ghost use Rattle.stage_syntax.specs.EditingForms as Editing;
 ghost use Rattle.stage_syntax.specs.Forms as Shared;
 
-use crate::fault::FaultKind;
-use crate::part::{Part, TextFault, Value, Word, all_columns, copy};
+use argument_parts::{FaultKind, Part, TextFault, Value, Word, all_columns, copy};
 use pipe_model::{Kind, Mapping, NoMemory, Rec, Times};
 use std::alloc::Global;
 

@@ -15,7 +15,6 @@ use crate::order_forms::{
     before_block, before_count, before_deblock, before_fblock, before_sort, before_unique,
     of_block, of_count, of_deblock, of_fblock, of_sort, of_unique, wrong_unique,
 };
-use crate::part::{Part, TextFault, Value};
 use crate::selection_forms::{
     before_end, before_locate, before_two, between, drop_some, find, fr_label, inside, locate,
     nfind, nlocate, take, to_label,
@@ -23,6 +22,7 @@ use crate::selection_forms::{
 use crate::stream_forms::{
     before_overlay, before_range, before_ranges, collate, lookup, merge, overlay,
 };
+use argument_parts::{Part, TextFault, Value};
 use pipe_model::{Kind, NoMemory};
 use std::alloc::Global;
 

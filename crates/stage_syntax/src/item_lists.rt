@@ -2,12 +2,12 @@ ghost use Rattle.std.specs.Prelude.{◌≡◌, false, [], IfOk, OnOk};
 ghost use Rattle.std.specs.declared.option.Option.TheVariants.{None, Some};
 ghost use Rattle.pipe_model.specs.declared.items.Item.TheVariants.{Field};
 ghost use Rattle.stage_syntax.specs.declared.item_lists.ItemState.TheVariants.{Between, Counting, Giving, Putting};
-ghost use Rattle.stage_syntax.specs.declared.part.Value.TheVariants as Read;
+ghost use Rattle.argument_parts.specs.declared.part.Value.TheVariants as Read;
 ghost use Rattle.stage_syntax.specs.ItemForms as Forms;
 ghost use Rattle.stage_syntax.specs.ItemForms.{Draft};
 ghost use Rattle.stage_syntax.specs.ItemLists.{IsDraft};
 
-use crate::part::{Value, Word, copy};
+use argument_parts::{Value, Word, copy};
 use pipe_model::{Align, Amount, Convert, Item, Items, Kind, NoMemory, Origin, SetOp, Spot};
 use std::alloc::Global;
 use std::mem;

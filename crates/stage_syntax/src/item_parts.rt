@@ -1,8 +1,8 @@
 ghost use Rattle.std.specs.Prelude.{◌≡◌, ◌||◌, is_some};
-ghost use Rattle.stage_syntax.specs.declared.part.Value.{Value};
+ghost use Rattle.argument_parts.specs.declared.part.Value.{Value};
 ghost use Rattle.stage_syntax.specs.ItemForms.{Draft, begun, draft_after, due_of, nothing_read, parts_at, progress_of};
 
-use crate::part::{Part, Value, Word};
+use argument_parts::{Part, Value, Word};
 
 /// What comes next among the items of SPECS.
 #[derive(Clone, Copy, Debug, PartialEq, Eq)]

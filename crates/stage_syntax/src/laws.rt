@@ -1,6 +1,6 @@
 ghost use Rattle.std.specs.Prelude.{◌≡◌, ℕ, Bool, List};
 ghost use Rattle.pipe_model.specs.declared.kind.Kind.{Kind};
-ghost use Rattle.stage_syntax.specs.declared.fault.ArgFault.{ArgFault};
+ghost use Rattle.argument_parts.specs.declared.fault.ArgFault.{ArgFault};
 ghost use Rattle.stage_syntax.specs.declared.fault.KindFault.TheVariants.{Argument, Unknown};
 ghost use Rattle.stage_syntax.specs.Arg.{ArgText};
 ghost use Rattle.stage_syntax.specs.Kinds.{IsKind, IsNoKind};

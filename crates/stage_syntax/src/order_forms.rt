@@ -1,12 +1,11 @@
 ghost use Rattle.std.specs.Prelude.{◌≡◌, ◌≤◌, List, ◌∷◌, length, IfOk, option_map};
 ghost use Rattle.std.specs.List.{list_any};
 ghost use Rattle.pipe_model.specs.declared.range.Range.{Range};
-ghost use Rattle.stage_syntax.specs.declared.part.Value.{Value};
-ghost use Rattle.stage_syntax.specs.declared.part.Value.TheVariants as Read;
+ghost use Rattle.argument_parts.specs.declared.part.Value.{Value};
+ghost use Rattle.argument_parts.specs.declared.part.Value.TheVariants as Read;
 ghost use Rattle.stage_syntax.specs.OrderForms as Order;
 
-use crate::fault::FaultKind;
-use crate::part::{Part, TextFault, Value, Word, all_columns, copy};
+use argument_parts::{FaultKind, Part, TextFault, Value, Word, all_columns, copy};
 use pipe_model::{Cutting, Image, Keep, Kind, NoMemory, SortKey, SortKeys, Total, Totals};
 use std::alloc::Global;
 

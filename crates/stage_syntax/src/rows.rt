@@ -1,19 +1,17 @@
 ghost use Rattle.std.specs.Prelude.{◌≡◌, Bool, [], ◌∷◌, ◌++◌, OnOk, IfOk, IfErr, None, Some};
-ghost use Rattle.stage_syntax.specs.declared.fault.FaultKind.TheVariants.{Missing};
-ghost use Rattle.stage_syntax.specs.declared.refusal.Refusal.TheVariants as Refused;
+ghost use Rattle.argument_parts.specs.declared.fault.FaultKind.TheVariants.{Missing};
+ghost use Rattle.argument_parts.specs.declared.refusal.Refusal.TheVariants as Refused;
 ghost use Rattle.stage_syntax.specs.Kinds.{IsKind, IsNoKind, refusal_placed};
-ghost use Rattle.stage_syntax.specs.Refusals.{Refuses};
+ghost use Rattle.argument_parts.specs.Refusals.{Refuses};
 ghost use Rattle.stage_syntax.specs.Rows.{Fails, HasFault, Makes, Reads, text_in};
 ghost use Rattle.stage_syntax.specs.StageForms.{arguments_by, make_in, row_in};
 
 use crate::arg::Arg;
-use crate::fault::{ArgFault, FaultKind, KindFault};
+use crate::fault::KindFault;
 use crate::form::{Form, has_text, kind_by, parts_after, text_kind, wrong_of};
 use crate::item_parts::Progress;
-use crate::next::{Argument, next_part};
-use crate::part::{TextFault, Value};
-use crate::refusal::Refusal;
 use crate::stages::form_named;
+use argument_parts::{ArgFault, Argument, FaultKind, Refusal, TextFault, Value, next_part};
 use pipe_model::{Kind, NoMemory};
 use std::alloc::Global;
 

@@ -6,6 +6,3 @@ mod fresh;
 
 pub use built_in::BuiltIn;
 pub use fresh::{make, make_all};
-
-#[cfg(test)]
-mod tests;

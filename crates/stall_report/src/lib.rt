@@ -3,8 +3,6 @@
 
 mod lines;
 mod stall;
-#[cfg(test)]
-mod tests;
 mod words;
 
 pub use lines::{WaitLine, WaitWant, Waits};

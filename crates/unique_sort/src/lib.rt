@@ -14,6 +14,3 @@ mod word_count;
 
 pub use laws::lists;
 pub use order_stage::{UniqueStage, is_order};
-
-#[cfg(test)]
-mod tests;

@@ -3,7 +3,7 @@ use Rattle.pipe_model.specs.declared.keys.SortKey.{SortKey}
 use Rattle.std.specs.Prelude.{List}
 use Rattle.stage_syntax.proofs.OrderLists.{front_value, keys_joined}
 use Rattle.stage_syntax.specs.OrderForms.{key_of, keys_of}
-use Rattle.stage_syntax.specs.declared.part.Value.TheVariants as Read
+use Rattle.argument_parts.specs.declared.part.Value.TheVariants as Read
 use Rattle.stage_syntax.proofs.order_forms.keys_of.Goals as goal
 
 pub loop-left-preserved : goal.loop-left-preserved

@@ -1,8 +1,8 @@
 use Rattle.std.proofs.Common.{◌≡◌, ◌-◌, ◌∷◌, List, length, take, drop, ap, ◌∙◌, arith, rules, option_map}
 use Rattle.stage_syntax.proofs.OrderLists.{front_value}
 use Rattle.stage_syntax.specs.OrderForms.{key_of, keys_of}
-use Rattle.stage_syntax.specs.declared.part.Value.{Value}
-use Rattle.stage_syntax.specs.declared.part.Value.TheVariants as Read
+use Rattle.argument_parts.specs.declared.part.Value.{Value}
+use Rattle.argument_parts.specs.declared.part.Value.TheVariants as Read
 use Rattle.stage_syntax.proofs.order_forms.order_in.Goals as goal
 
 pub returns-in-Word-clause-read : goal.returns-in-Word-clause-read

@@ -5,10 +5,10 @@ use Rattle.stage_syntax.proofs.Consumed.{next_takes}
 use Rattle.stage_syntax.proofs.Drafts.{progress_more}
 use Rattle.stage_syntax.proofs.RowSteps.{lacks_at_end, made_at_end, one_more, stops_there, wrong_there}
 use Rattle.stage_syntax.specs.ItemForms.{draft_of, progress_of}
-use Rattle.stage_syntax.specs.Parts.{IsNext, IsNoNext}
-use Rattle.stage_syntax.specs.Refusals.{Refuses}
+use Rattle.argument_parts.specs.Parts.{IsNext, IsNoNext}
+use Rattle.argument_parts.specs.Refusals.{Refuses}
 use Rattle.stage_syntax.specs.StageForms.{arguments_by, row_in}
-use Rattle.stage_syntax.specs.declared.part.Part.{Part}
+use Rattle.argument_parts.specs.declared.part.Part.{Part}
 use Rattle.stage_syntax.proofs.rows.read_parts.Goals as goal
 
 pub parts_after-requires : goal.parts_after-requires

@@ -1,0 +1,5 @@
+use Rattle.argument_parts.proofs.TakenParts.{no_range_part}
+use Rattle.argument_parts.proofs.taken.range_at.Goals as goal
+
+pub returns-in-None-clause-read : goal.returns-in-None-clause-read
+returns-in-None-clause-read c = no_range_part c.args.text.now (rw c.in-None.is at c.in_ok-spelled.ensures.read)

@@ -1,0 +1,17 @@
+pub mod Bounds
+pub mod Bytes
+pub mod Fault
+pub mod Keywords
+pub mod NamesOfFiles
+pub mod NumberWords
+pub mod Numbers
+pub mod PairsOfStrings
+pub mod Parts
+pub mod PlainRanges
+pub mod RangeWords
+pub mod Ranges
+pub mod Refusals
+pub mod SpanNames
+pub mod Spots
+pub mod Strings
+pub mod WholeNumbers

@@ -1,7 +1,0 @@
-use Rattle.std.proofs.Common.{arith, sym, ◌∙◌}
-use Rattle.stage_syntax.proofs.Numerals.{one_digit_more}
-use Rattle.stage_syntax.proofs.digits.number.Goals as goal
-
-pub loop-left-preserved : goal.loop-left-preserved
-loop-left-preserved c =
-    one_digit_more c.args.word.now c.loop-left.left.now c.loop-left.value c.from.result c.loop-left.invariant (omega arith) (sym c.is_ascii_digit.ensures.value ∙ c.if-not-is_ascii_digit.false) c.from.ensures

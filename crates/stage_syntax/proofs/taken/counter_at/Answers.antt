@@ -1,5 +1,0 @@
-use Rattle.stage_syntax.proofs.TakenParts.{no_counter_part}
-use Rattle.stage_syntax.proofs.taken.counter_at.Goals as goal
-
-pub returns-in-None-clause-read : goal.returns-in-None-clause-read
-returns-in-None-clause-read c = no_counter_part c.args.text.now c.in-None.ensures.read

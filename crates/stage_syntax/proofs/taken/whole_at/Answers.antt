@@ -1,5 +1,0 @@
-use Rattle.stage_syntax.proofs.TakenParts.{no_whole_part}
-use Rattle.stage_syntax.proofs.taken.whole_at.Goals as goal
-
-pub returns-in-None-clause-read : goal.returns-in-None-clause-read
-returns-in-None-clause-read c = no_whole_part c.args.text.now (rw c.in-None.is at c.in_ok-spelled.ensures.read)

@@ -1,5 +1,0 @@
-use Rattle.stage_syntax.proofs.TakenParts.{no_word_part}
-use Rattle.stage_syntax.proofs.taken.word_at.Goals as goal
-
-pub returns-in-None-clause-read : goal.returns-in-None-clause-read
-returns-in-None-clause-read c = no_word_part c.args.text.now c.args.key c.in-None.ensures.read

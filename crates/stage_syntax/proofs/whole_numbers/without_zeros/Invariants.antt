@@ -1,9 +1,0 @@
-use Rattle.std.proofs.Common.{length}
-use Rattle.stage_syntax.proofs.WholeDigits.{ArePassedZeros}
-use Rattle.stage_syntax.proofs.whole_numbers.without_zeros.Given as goal
-
-abbrev pub invariant-loop-rest : goal.invariant-loop-rest
-invariant-loop-rest l = ArePassedZeros l.fn.digits l.rest
-
-abbrev pub decreases-loop-rest : goal.decreases-loop-rest
-decreases-loop-rest l = length l.rest
