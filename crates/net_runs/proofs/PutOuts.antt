@@ -1,20 +1,23 @@
 -- How far the effect of a run that is ready was carried out.
-use Rattle.std.proofs.Common.{◌≡◌, ℕ, List, refl, sym, ◌∙◌, subst, Option}
+use Rattle.std.proofs.Common.{◌≡◌, ℕ, true, List, refl, sym, ◌∙◌, subst, Option}
+use Rattle.std.specs.Result.{MatchResult, is_err}
+use Rattle.std.specs.declared.result.Result.{Result}
+use Rattle.std.specs.declared.result.Result.TheVariants.{Ok, Err}
 use Rattle.outside.specs.Device.{Device}
 use Rattle.outside.specs.Faults.{Rose}
 use Rattle.pipe_model.specs.declared.net.Net.{Net}
 use Rattle.net_runs.specs.declared.ready_run.Ready.{Ready}
 use Rattle.call_meaning.specs.declared.status.Outcome.{Outcome}
-use Rattle.call_meaning.specs.declared.status.Outcome.TheVariants.{NoMemory, ShelfFault}
+use Rattle.call_meaning.specs.declared.status.Outcome.TheVariants.{NoMemory, ShelfFault, WriteFault}
 use Rattle.call_meaning.specs.Devices.{Store}
 use Rattle.call_meaning.specs.Devices.IsPartReplaced.{at_file, at_trace}
 use Rattle.call_meaning.specs.Effects.{Effect, no_effect, replaced_by}
 use Rattle.net_runs.specs.Puts.{AreStored, AreStoredPart, StopsStoring}
 use Rattle.net_runs.specs.ReadyRuns.{IsReady, PutsOut, ready_effect}
 use Rattle.net_runs.specs.Traces.{IsTraceStored, IsTraceTorn, trace_file}
-use Rattle.call_streams.specs.Written.{IsWritten}
+use Rattle.call_streams.specs.Written.{IsPartWritten, IsWritten}
 use Rattle.net_runs.specs.Ran.{run_effect}
-use Rattle.net_runs.specs.ReadyRuns.PutsOut.{put_all, put_torn}
+use Rattle.net_runs.specs.ReadyRuns.PutsOut.{put_all, put_part, put_torn}
 use Rattle.call_streams.proofs.Replacements.{replaced_after, replaced_but}
 use Rattle.net_runs.proofs.RunEffects.{effect_is}
 
@@ -37,6 +40,12 @@ module _ {S : Type 0} (ready : Ready S) (is : (net : Net) × (steps : ℕ) × (t
 
   as_ready : (shelf' : Store) (told : Outcome) → Puts whole shelf' told → Puts (ready_effect ready) shelf' told
   as_ready shelf' told puts = subst (λ effect. Puts effect shelf' told) (sym (effect_is is.0 is.1 is.2 ready is.3)) puts
+
+  -- the output wasn't written whole
+  pub out_unwritten : (wrote : Result (Unit {0}) Outcome) (P : Type 0) → is_err wrote ≡ true → MatchResult wrote (λ _. P) (λ fault. IsPartWritten run.output output output' fault) → (told : Outcome) → told ≡ WriteFault →
+      Puts (ready_effect ready) shelf told
+  out_unwritten (Ok _) P failed did told is = cc
+  out_unwritten (Err fault) P failed part told is = as_ready shelf told (put_part (subst (λ outcome. IsPartWritten run.output output output' outcome) (part.fault ∙ sym is) part) refl)
 
   module _ (wrote : IsWritten run.output output output') where
     -- a file of a stage wasn't replaced

@@ -1,7 +1,11 @@
 use Rattle.std.proofs.Common.{sym, ◌∙◌}
-use Rattle.net_runs.proofs.PutOuts.{out_all, out_file, out_torn}
+use Rattle.net_runs.proofs.PutOuts.{out_all, out_file, out_torn, out_unwritten}
 use Rattle.call_streams.proofs.Replies.{written_whole}
 use Rattle.net_runs.proofs.ready_run.put_out.Goals as goal
+
+pub returns-then-is_err-clause-puts : goal.returns-then-is_err-clause-puts
+returns-then-is_err-clause-puts g c =
+    out_unwritten c.args.ready c.requires _ _ _ c.write_output.result _ (sym c.is_err.ensures.value ∙ c.if-is_err.true) c.write_output.ensures c.write_fault.result.outcome c.write_fault.ensures.outcome
 
 pub returns-in-Err-clause-puts : goal.returns-in-Err-clause-puts
 returns-in-Err-clause-puts g c =
