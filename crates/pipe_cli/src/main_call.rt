@@ -1,18 +1,16 @@
 ghost use Rattle.std.specs.Prelude.{map};
 ghost use Rattle.std.specs.String.{string_bytes};
 ghost use Rattle.outside.specs.Device.{device};
-ghost use Rattle.pipe_cli.specs.Devices.{outside, store};
-ghost use Rattle.pipe_cli.specs.Answer.{Answers, Decides, Reports};
-ghost use Rattle.pipe_cli.specs.Headline.{Headline};
-ghost use Rattle.pipe_cli.specs.Steps.{IsTelling};
+ghost use Rattle.call_meaning.specs.Devices.{outside, store};
+ghost use Rattle.call_meaning.specs.Answer.{Answers, Decides, Reports};
+ghost use Rattle.call_meaning.specs.Headline.{Headline};
+ghost use Rattle.call_streams.specs.Texts.{IsTelling};
 
-use crate::called::{Call, called};
 use crate::check_call::check_call;
 use crate::run_call::run_call;
 use crate::sample_call::sample_call;
-use crate::status::Status;
-use crate::text::{Told, tell};
-use crate::write::write_all;
+use call_meaning::{Call, Status, called};
+use call_streams::{Told, tell, write_all};
 use call_words::Command;
 use outside::{Gate, Shelf, Sink, Source};
 use std::alloc::Global;

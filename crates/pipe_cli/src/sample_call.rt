@@ -1,27 +1,20 @@
 //! The sample is run and summed up.
-ghost use Rattle.std.specs.Prelude.{◌≡◌, ◌<◌, ◌≤◌, ℕ, List, [], length, IfOk};
+ghost use Rattle.std.specs.Prelude.{◌<◌, ◌≤◌, ℕ, List, IfOk};
 ghost use Rattle.outside.specs.Device.{Device, device};
-ghost use Rattle.pipe_model.specs.Reply.{console_from};
 ghost use Rattle.pipe_model.specs.WellFormed.{IsWellFormed};
 ghost use Rattle.net_graph.specs.Fed.{with_input};
-ghost use Rattle.core_machine.specs.Machine.{state_of};
-ghost use Rattle.pipe_cli.specs.Answer.{Decides};
-ghost use Rattle.pipe_cli.specs.Devices.{Store, outside};
-ghost use Rattle.pipe_cli.specs.Effects.{output_of};
-ghost use Rattle.pipe_cli.specs.Meaning.{SampleMeans, SamplesNet};
-ghost use Rattle.pipe_cli.specs.Sample.{line_count, sample_text, summary};
-ghost use Rattle.pipe_cli.specs.Steps.{IsTelling};
+ghost use Rattle.call_meaning.specs.Answer.{Decides};
+ghost use Rattle.call_meaning.specs.Devices.{Store, outside};
+ghost use Rattle.call_meaning.specs.Effects.{output_of};
+ghost use Rattle.call_meaning.specs.Meaning.{SampleMeans, SamplesNet};
+ghost use Rattle.call_meaning.specs.Sample.{sample_text};
+ghost use Rattle.call_streams.specs.Texts.{IsTelling};
 
-use crate::input::feed_input;
-use crate::net_run::{console_text, run_net};
-use crate::sample::sample_input;
-use crate::status::Outcome;
-use crate::text::{Told, add, add_number, no_memory, with_text};
-use crate::write::{Answer, give};
-use core_machine::Core;
+use crate::stages::fresh_stages;
+use call_streams::{Answer, Told, feed_input, give, no_memory, sample_input};
+use net_runs::summed_up;
 use outside::{Gate, Sink};
 use pipe_model::{Net, NoMemory};
-use stage_table::BuiltIn;
 use std::alloc::Global;
 use std::sync::Wait;
 use std::thread::Threads;
@@ -46,14 +39,14 @@ pub(crate) fn sample_call<Rt: Threads + Wait + Sync, O: Sink, G: Gate + Sync>(
         result.outcome }
     ensures text { IsTelling result }
 {
-    match summed_up(rt, alloc, net, count, steps, workers, gate) {
+    match run_sample(rt, alloc, net, count, steps, workers, gate) {
         Ok(answer) => give(answer, output),
         Err(NoMemory) => no_memory(),
     }
 }
 
 // Feeds the net and runs it, and makes all texts.
-fn summed_up<Rt: Threads + Wait + Sync, G: Gate + Sync>(
+fn run_sample<Rt: Threads + Wait + Sync, G: Gate + Sync>(
     rt: &Rt,
     alloc: Global,
     net: Net,
@@ -71,38 +64,6 @@ fn summed_up<Rt: Threads + Wait + Sync, G: Gate + Sync>(
     let bytes = sample_input(alloc, count)?;
     let mut net = net;
     feed_input(alloc, &mut net, bytes)?;
-    let ran = run_net(rt, alloc, net, steps, workers, gate)?;
-    let text = match ran.outcome {
-        Outcome::Done => summary(alloc, count, &ran.core)?,
-        _ => Vec::new(alloc),
-    };
-    let told = with_text(alloc, ran.outcome)?;
-    Ok(Answer { text, told })
-}
-
-// The line that sums up the sample of so many lines.
-fn summary(alloc: Global, count: u32, core: &Core<BuiltIn>) -> Result<Vec<u8>, NoMemory>
-    requires home { core.now.out ≡ [] }
-    requires few { length core.now.net.strands ≤ 65536 }
-    ensures { IfOk result (λ text. text.items ≡ summary count (console_from (state_of core.now) 0 core.now.net.strands) (length core.now.journal)) }
-{
-    let console = console_text(alloc, core)?;
-    let mut text = Vec::new(alloc);
-    add(&mut text, "sample ")?;
-    add_number(&mut text, count)?;
-    add(&mut text, " lines ")?;
-    add_number(&mut text, line_count(&console))?;
-    add(&mut text, " bytes ")?;
-    add_number(&mut text, console.len())?;
-    add(&mut text, " steps ")?;
-    add_number(&mut text, core.len())?;
-    add(&mut text, "\n")?;
-    Ok(text)
-}
-
-// How many lines a text has, each of which ends with a line feed.
-fn line_count(text: &[u8]) -> usize
-    ensures { result ≡ line_count text.now }
-{
-    text.iter().filter(|byte| **byte == b'\n').count()
+    let stages = fresh_stages(alloc, &net)?;
+    summed_up(rt, alloc, net, stages, count, steps, workers, gate)
 }

@@ -3,7 +3,7 @@ use Rattle.std.specs.Prelude.{◌≡◌, ℕ, List}
 use Rattle.std.specs.declared.option.Option.{Option}
 use Rattle.std.specs.declared.option.Option.TheVariants.{None}
 use Rattle.outside.specs.Device.{Device, device}
-use Rattle.pipe_cli.specs.Devices.{Outside, outside, store}
+use Rattle.call_meaning.specs.Devices.{Outside, outside, store}
 
 -- an input that has these bytes left, an output that holds these, and files that aren't told; no call has failed
 abbrev pub objects : Option (List ℕ) → Option (List ℕ) → Outside

@@ -4,9 +4,9 @@
 ghost use Rattle.std.specs.Prelude.{map};
 ghost use Rattle.std.specs.String.{string_bytes};
 ghost use Rattle.outside.specs.Device.{Device, device};
-ghost use Rattle.pipe_cli.specs.Devices.{Outside};
-ghost use Rattle.pipe_cli.specs.Answer.{Answers};
-ghost use Rattle.pipe_cli.specs.Headline.{Headline};
+ghost use Rattle.call_meaning.specs.Devices.{Outside};
+ghost use Rattle.call_meaning.specs.Answer.{Answers};
+ghost use Rattle.call_meaning.specs.Headline.{Headline};
 ghost use Rattle.pipe_program.specs.Call.{Leaves, objects};
 
 use outside::{FolderShelf, OpenGate, StdSink, StdSource};

@@ -1,10 +1,10 @@
 -- The objects that are made of the streams are those that the call speaks of.
 use Rattle.std.proofs.Common.{◌≡◌, ℕ, List, ap, subst, Option, None}
 use Rattle.outside.specs.Device.{Device, device}
-use Rattle.pipe_cli.specs.declared.status.Status.{Status}
-use Rattle.pipe_cli.specs.Devices.{Outside, Store, outside, store}
-use Rattle.pipe_cli.specs.Answer.{Answers}
-use Rattle.pipe_cli.specs.Headline.{Headline}
+use Rattle.call_meaning.specs.declared.status.Status.{Status}
+use Rattle.call_meaning.specs.Devices.{Outside, Store, outside, store}
+use Rattle.call_meaning.specs.Answer.{Answers}
+use Rattle.call_meaning.specs.Headline.{Headline}
 use Rattle.pipe_program.specs.Call.{objects}
 use Rattle.pipe_program.proofs.call.Goals as goal
 

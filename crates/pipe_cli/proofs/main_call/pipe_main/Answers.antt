@@ -1,5 +1,5 @@
-use Rattle.pipe_cli.proofs.Answering.{answers}
-use Rattle.pipe_cli.proofs.Headlines.{headline}
+use Rattle.call_meaning.proofs.Answering.{answers}
+use Rattle.call_meaning.proofs.Headlines.{headline}
 use Rattle.pipe_cli.proofs.main_call.pipe_main.Goals as goal
 
 pub returns-clause-answers : goal.returns-clause-answers

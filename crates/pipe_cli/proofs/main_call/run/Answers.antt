@@ -1,7 +1,7 @@
 use Rattle.std.proofs.Common.{inl, refl}
-use Rattle.pipe_cli.specs.declared.status.Outcome.TheVariants.{NoMemory}
-use Rattle.pipe_cli.proofs.Commands.{call_runs, call_samples}
-use Rattle.pipe_cli.proofs.Replies.{decides_told, decides_words}
+use Rattle.call_meaning.specs.declared.status.Outcome.TheVariants.{NoMemory}
+use Rattle.call_meaning.proofs.Commands.{call_runs, call_samples}
+use Rattle.call_streams.proofs.Replies.{decides_told, decides_words}
 use Rattle.pipe_cli.proofs.main_call.run.Goals as goal
 
 pub returns-in-Err-clause-decides : goal.returns-in-Err-clause-decides

@@ -1,8 +1,8 @@
 use Rattle.std.proofs.Common.{refl}
 use Rattle.outside.specs.Device.{Device, device}
-use Rattle.pipe_cli.specs.Meaning.FeedsNet.{of_run}
-use Rattle.pipe_cli.proofs.Feedings.{decides_no_memory, decides_unfed}
-use Rattle.pipe_cli.proofs.RunReplies.{decides_run}
+use Rattle.call_meaning.specs.Meaning.FeedsNet.{of_run}
+use Rattle.call_streams.proofs.Feedings.{decides_no_memory, decides_unfed}
+use Rattle.net_runs.proofs.RunReplies.{decides_run}
 use Rattle.pipe_cli.proofs.run_call.run_call.Goals as goal
 
 pub returns-in-Err-clause-decides : goal.returns-in-Err-clause-decides
@@ -10,12 +10,12 @@ returns-in-Err-clause-decides g c = λ words runs.
     let output : Device = device (g.O.Sink.written c.args.output.now) (g.O.Sink.faults c.args.output.now) in
     decides_unfed words c.args.net _ _ _ refl (λ files of. of_run c.args.steps c.args.trace runs) c.in-Err.told.outcome (c.in-Err.ensures.fed output)
 
-pub returns-in-Ok-make_ready-clause-decides : goal.returns-in-Ok-make_ready-clause-decides
-returns-in-Ok-make_ready-clause-decides g c = λ words runs.
+pub returns-in-Ok-run_fed-clause-decides : goal.returns-in-Ok-run_fed-clause-decides
+returns-in-Ok-run_fed-clause-decides g c = λ words runs.
     let output : Device = device (g.O.Sink.written c.args.output.now) (g.O.Sink.faults c.args.output.now) in
-    decides_run words c.args.net c.args.steps c.args.trace runs c.requires.whole _ _ _ output _ _ c.in-Ok.net (c.in-Ok.ensures.fed output) c.in-Ok-make_ready.ready c.in-Ok-make_ready.ensures _ _ c.put_out.result.outcome c.put_out.ensures.puts
+    decides_run words c.args.net c.args.steps c.args.trace runs c.requires.whole _ _ _ output _ _ c.in-Ok.net (c.in-Ok.ensures.fed output) c.in-Ok-run_fed.ready c.in-Ok-run_fed.ensures _ _ c.put_out.result.outcome c.put_out.ensures.puts
 
-pub returns-in-Err-make_ready-clause-decides : goal.returns-in-Err-make_ready-clause-decides
-returns-in-Err-make_ready-clause-decides g c = λ words runs.
+pub returns-in-Err-run_fed-clause-decides : goal.returns-in-Err-run_fed-clause-decides
+returns-in-Err-run_fed-clause-decides g c = λ words runs.
     let output : Device = device (g.O.Sink.written c.args.output.now) (g.O.Sink.faults c.args.output.now) in
     rw c.no_memory.ensures.outcome (decides_no_memory words c.args.net _ _ _ refl (λ files of. of_run c.args.steps c.args.trace runs) c.in-Ok.net (c.in-Ok.ensures.fed output))

@@ -1,7 +1,7 @@
 use Rattle.std.proofs.Common.{inl}
 use Rattle.outside.specs.Device.{device}
-use Rattle.pipe_cli.proofs.Replies.{decides_words}
-use Rattle.pipe_cli.proofs.SampleReplies.{decides_sample}
+use Rattle.call_streams.proofs.Replies.{decides_words}
+use Rattle.net_runs.proofs.SampleReplies.{decides_sample}
 use Rattle.pipe_cli.proofs.sample_call.sample_call.Goals as goal
 
 pub returns-in-Ok-clause-decides : goal.returns-in-Ok-clause-decides

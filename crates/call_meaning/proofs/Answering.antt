@@ -1,0 +1,158 @@
+-- From what a call decides and tells to what it answers.
+use Rattle.std.proofs.Common.{◌≡◌, ◌≢◌, ◌⊎◌, ⊎_elim, inl, inr, ℕ, ◌+◌, ◌<◌, ◌≤◌, Bool, true, false, cond, List, length, refl, ◌∙◌, ap, subst, arith, length-append, Option, Some, None}
+use Rattle.std.specs.Option.{IfSome}
+use Rattle.std.proofs.KnownBytes.{Consumes-whole}
+use Rattle.std.specs.Io.KnownBytes.{Consumes}
+use Rattle.outside.specs.Device.{Device}
+use Rattle.pipe_model.specs.declared.net.Net.{Net}
+use Rattle.net_graph.specs.Fed.{reads_any}
+use Rattle.call_meaning.specs.declared.status.Status.{Status}
+use Rattle.call_meaning.specs.declared.status.Status.TheVariants as Told
+use Rattle.call_meaning.specs.declared.status.Outcome.{Outcome}
+use Rattle.call_meaning.specs.declared.status.Outcome.TheVariants.{ReadFault, WriteFault, ShelfFault}
+use Rattle.call_meaning.specs.Effects.{Before, Effect}
+use Rattle.call_meaning.specs.Status.{status_of}
+use Rattle.call_meaning.specs.Devices.{Outside, AllSteady, NoneFailed, Steady, Failed}
+use Rattle.call_meaning.specs.Meaning.{CheckMeans, ComesTo, IsTooLarge, Means, RunMeans, fed_size, input_limit, net_on}
+use Rattle.call_meaning.specs.Meaning.ComesTo.{ran, checked, sampled}
+use Rattle.call_meaning.specs.Meaning.Means.{unrun as means_unrun, unchecked as means_unchecked, too_large as means_large, came as means_came}
+use Rattle.call_meaning.specs.Answer.{HasCause, HasDone, HasUsed, IsTorn, IsUsed, Decides, Reports, IsMeant, Answers}
+use Rattle.call_meaning.specs.Answer.HasCause.{unrun, unchecked, too_large, came, fetch_failed, read_failed, write_failed, no_memory}
+use Rattle.call_meaning.specs.Answer.HasDone.{whole, half}
+use Rattle.call_meaning.specs.Answer.IsTorn.{torn_failed, torn_memory}
+use Rattle.call_meaning.proofs.Unread.{fed_unread}
+
+-- an outcome that is no fault was decided without one
+module _ (words : List (List ℕ)) (old new : Outside) (given : Before) (effect : Effect) (decided : Outcome) (no_read : decided ≢ ReadFault) (no_write : decided ≢ WriteFault) (no_shelf : (name : List ℕ) → decided ≢ ShelfFault name) where
+  unfailed_cause : HasCause words old new given effect decided → AllSteady old new
+  unfailed_cause (unrun why unread done steady) = steady
+  unfailed_cause (unchecked why unread done steady) = steady
+  unfailed_cause (too_large large is done steady) = steady
+  unfailed_cause (came comes used steady) = steady
+  unfailed_cause (fetch_failed name fetching unread is done input output failed) = absurd (no_shelf name is)
+  unfailed_cause (read_failed reading is done failed output shelf) = absurd (no_read is)
+  unfailed_cause (write_failed written is input failed shelf) = absurd (no_write is)
+  unfailed_cause (no_memory is done steady) = steady
+
+  unfailed_torn : (name : List ℕ) → IsTorn old new name decided → new.shelf.faults ≡ old.shelf.faults
+  unfailed_torn name (torn_failed is failed) = absurd (no_shelf name is)
+  unfailed_torn name (torn_memory is steady) = steady
+
+  unfailed : HasDone words old new given effect decided → AllSteady old new
+  unfailed (whole done cause) = unfailed_cause cause
+  unfailed (half part) = record { input = part.input; output = part.output; shelf = unfailed_torn part.name part.torn }
+
+-- what was given is no more than there was
+some_given : (given : List ℕ) (old new : Option (List ℕ)) → Consumes old new given → IfSome old (λ all. length given ≤ length all)
+some_given given None new gave = tt
+some_given given (Some all) None gave = absurd gave
+some_given given (Some all) (Some left) gave = omega (arith, ap length gave, length-append given left)
+
+-- a fact that every value has
+at_some : {P : List ℕ → Type 0} (o : Option (List ℕ)) → ((x : List ℕ) → P x) → IfSome o P
+at_some None f = tt
+at_some (Some x) f = f x
+
+-- a fact that follows from another
+weaker_some : {P Q : List ℕ → Type 0} (o : Option (List ℕ)) → ((x : List ℕ) → P x → Q x) → IfSome o P → IfSome o Q
+weaker_some None f h = tt
+weaker_some (Some x) f h = f x h
+
+-- more of the input is no less to feed
+more_fed : (reads : Bool) (a b rest : ℕ) → a ≤ b → input_limit < cond reads a 0 + rest → input_limit < cond reads b 0 + rest
+more_fed true a b rest more large = omega (arith, more, large)
+more_fed false a b rest more large = large
+
+abbrev on_all : Before → List ℕ → Before
+on_all given input = record given { input = input }
+
+-- a net that doesn't read the input is the same on any
+module _ (given : Before) (net : Net) (leaves : reads_any net ≡ false) (input : List ℕ) where
+  unread_same : net_on given net ≡ net_on (on_all given input) net
+  unread_same = fed_unread given.input input given.files net leaves
+
+  unread_fits : fed_size given net ≤ input_limit → fed_size (on_all given input) net ≤ input_limit
+  unread_fits fits =
+      let mine = ap (λ b. cond b (length given.input) 0) leaves in
+      let other = ap (λ b. cond b (length input) 0) leaves in
+      omega (arith, mine, other, fits)
+
+module _ (words : List (List ℕ)) (old new : Outside) where
+  module _ (decided : Outcome) (d : Decides words old new decided) where
+    abbrev Meant : List ℕ → Type 0
+    Meant input = Means words (on_all d.given input) decided d.effect
+
+    -- what words come to on what a net was given they mean on all
+    module _ (net : Net) (used : IsUsed net d.given new.input) (comes : ComesTo words d.given decided d.effect) where
+      used_meant : ((leaves : reads_any net ≡ false) (input : List ℕ) → ComesTo words (on_all d.given input) decided d.effect) → IfSome old.input.bytes Meant
+      used_meant unread = go (reads_any net) refl
+        where
+          go : (b : Bool) → reads_any net ≡ b → IfSome old.input.bytes Meant
+          go true is = Consumes-whole old.input.bytes new.input.bytes d.given.input Meant d.gave (used.reads is) (means_came comes)
+          go false is = at_some old.input.bytes (λ all. means_came (unread is all))
+
+    come_meant : (comes : ComesTo words d.given decided d.effect) → HasUsed words d.given decided d.effect comes new.input → IfSome old.input.bytes Meant
+    come_meant (ran r) used = used_meant r.net used (ran r) (λ leaves all. ran (record {
+      net = r.net;
+      steps = r.steps;
+      trace = r.trace;
+      runs = r.runs;
+      fits = unread_fits d.given r.net leaves all r.fits;
+      means = subst (λ net. RunMeans net r.steps r.trace decided d.effect) (unread_same d.given r.net leaves all) r.means;
+    }))
+    come_meant (checked c) used = used_meant c.net used (checked c) (λ leaves all. checked (record {
+      net = c.net;
+      journal = c.journal;
+      checks = c.checks;
+      fits = unread_fits d.given c.net leaves all c.fits;
+      means = subst (λ net. CheckMeans net c.journal decided d.effect) (unread_same d.given c.net leaves all) c.means;
+    }))
+    come_meant (sampled s) used = at_some old.input.bytes (λ all. means_came (sampled s))
+
+    large_meant : IsTooLarge words d.given → (all : List ℕ) → length d.given.input ≤ length all → IsTooLarge words (on_all d.given all)
+    large_meant large all more = record { net = large.net; feeds = large.feeds; large = more_fed (reads_any large.net) _ _ _ more large.large }
+
+    abbrev Meaning : Status → Type 0
+    Meaning status = (status ≡ Told.NoMemory) ⊎ IsMeant words old d.given d.effect decided status
+
+    meant_cause : (status : Status) → status ≡ status_of decided → NoneFailed old new → HasCause words old new d.given d.effect decided → Meaning status
+    meant_cause status told none (unrun why unread done steady) = inr (record { same = told; means = at_some old.input.bytes (λ all. means_unrun why done) })
+    meant_cause status told none (unchecked why unread done steady) = inr (record { same = told; means = at_some old.input.bytes (λ all. means_unchecked why done) })
+    meant_cause status told none (too_large large is done steady) =
+        inr (record { same = told; means = weaker_some old.input.bytes (λ all more. means_large (large_meant large all more) is done) (some_given d.given.input old.input.bytes new.input.bytes d.gave) })
+    meant_cause status told none (came comes used steady) = inr (record { same = told; means = come_meant comes used })
+    meant_cause status told none (fetch_failed name fetching unread is done input output failed) = absurd (none.shelf failed)
+    meant_cause status told none (read_failed reading is done failed output shelf) = absurd (none.input failed)
+    meant_cause status told none (write_failed written is input failed shelf) = absurd (none.output failed)
+    meant_cause status told none (no_memory is done steady) = inl (told ∙ ap status_of is)
+
+    meant_torn : (status : Status) → status ≡ status_of decided → NoneFailed old new → (name : List ℕ) → IsTorn old new name decided → Meaning status
+    meant_torn status told none name (torn_failed is failed) = absurd (none.shelf failed)
+    meant_torn status told none name (torn_memory is steady) = inl (told ∙ ap status_of is)
+
+    meant : (status : Status) → status ≡ status_of decided → NoneFailed old new → HasDone words old new d.given d.effect decided → Meaning status
+    meant status told none (whole done cause) = meant_cause status told none cause
+    meant status told none (half part) = meant_torn status told none part.name part.torn
+
+  pub answers : (diag diag' : Device) (decided : Outcome) (status : Status) → Decides words old new decided → Reports decided status diag diag' → Answers words old new diag diag' status
+  answers diag diag' decided status d reports = record {
+    decided = decided;
+    decides = d;
+    reports = reports;
+    steady = steady;
+    complete = complete;
+  }
+    where
+      steady : status ≢ Told.ReadFault → status ≢ Told.WriteFault → status ≢ Told.ShelfFault → AllSteady old new × Steady diag diag'
+      steady no_read no_write no_shelf =
+          ⊎_elim
+          (λ told. (unfailed words old new d.given d.effect decided (λ is. no_read (told.same ∙ ap status_of is)) (λ is. no_write (told.same ∙ ap status_of is)) (λ name is. no_shelf (told.same ∙ ap status_of is)) d.done, told.steady))
+          (λ half. absurd (no_write half.turned))
+          reports
+
+      complete : NoneFailed old new → ¬ Failed diag diag' → (status ≡ Told.NoMemory) ⊎ IsMeant words old d.given d.effect decided status
+      complete none told_all =
+          ⊎_elim
+          (λ told. meant decided d status told.same none d.done)
+          (λ half. absurd (told_all half.failed))
+          reports

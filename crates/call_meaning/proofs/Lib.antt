@@ -1,0 +1,15 @@
+pub mod Answering
+pub mod Commands
+pub mod Headlines
+pub mod Journals
+pub mod LineFed
+pub mod LineMeanings
+pub mod LinePlain
+pub mod LineReply
+pub mod LineStrands
+pub mod Meanings
+pub mod OneRuns
+pub mod OneTexts
+pub mod SameReplies
+pub mod Unread
+pub mod Untraced

@@ -1,0 +1,9 @@
+pub mod Answer
+pub mod Calls
+pub mod Devices
+pub mod Effects
+pub mod Headline
+pub mod Meaning
+pub mod Refusals
+pub mod Sample
+pub mod Status

@@ -1,0 +1,269 @@
+-- What words mean, where nothing fails.
+use Rattle.std.specs.Prelude.{◌≡◌, ℕ, ◌+◌, ◌<◌, ◌≤◌, Bool, if◌then◌else◌, List, [], ◌∷◌, ◌++◌, length, take, codes, decimal, ℤ, pos, zero}
+use Rattle.std.specs.List.{sum_by, Contains}
+use Rattle.std.specs.Option.{option_map_or}
+use Rattle.std.specs.declared.option.Option.{Option}
+use Rattle.std.specs.declared.option.Option.TheVariants.{Some, None}
+use Rattle.outside.specs.Files.{Files}
+use Rattle.pipe_model.specs.Records.{lines, text}
+use Rattle.pipe_model.specs.declared.net.Net.{Net}
+use Rattle.pipe_model.specs.declared.net.Strand.{Strand}
+use Rattle.pipe_model.specs.declared.step.Entry.{Entry}
+use Rattle.pipe_model.specs.Play.{play, HasEnded, IsLegal, IsLicensed, IsComplete}
+use Rattle.pipe_model.specs.Alone.{IsPlainReading}
+use Rattle.pipe_model.specs.Committed.{IsCommitted, IsMove, event_at}
+use Rattle.pipe_model.specs.Plain.{IsPlain}
+use Rattle.pipe_model.specs.Reply.{Reply, WaitLine, reply}
+use Rattle.pipe_model.specs.Straight.{selected_by}
+use Rattle.pipe_model.specs.Table.{Feed, line_of}
+use Rattle.pipe_model.specs.Table.Feed.{Unfed, Input, OfFile}
+use Rattle.spec_scanner.specs.declared.fault.Fault.{Fault}
+use Rattle.spec_scanner.specs.declared.piece.Piece.{Piece}
+use Rattle.spec_scanner.specs.Reads.{Reads}
+use Rattle.net_graph.specs.Faults.{IsGraph}
+use Rattle.net_graph.specs.Fed.{fed, reads_any, with_input}
+use Rattle.journal_file.specs.declared.checking.Checked.TheVariants.{Legal, Illegal}
+use Rattle.journal_file.specs.Faults.{IsFirstFault}
+use Rattle.journal_file.specs.Judged.{Judges}
+use Rattle.journal_file.specs.Text.{IsJournal, journal_text}
+use Rattle.stall_report.specs.Waits.{wait_lines}
+use Rattle.stall_report.specs.Words.{wait_text}
+use Rattle.call_words.specs.declared.command.Command.{Command}
+use Rattle.call_words.specs.declared.command.Command.TheVariants.{Run, Check, Sample}
+use Rattle.call_meaning.specs.declared.status.Outcome.{Outcome}
+use Rattle.call_meaning.specs.declared.status.Outcome.TheVariants.{Done, Coded, SpecRefused, Stalled, Spent, Usage, InputTooLarge, JournalAbsent, JournalLine, JournalEntry}
+use Rattle.call_words.specs.Command.{command_of}
+use Rattle.call_meaning.specs.Effects.{Before, Effect, no_effect, output_of, effect_of, traced, untraced}
+use Rattle.call_meaning.specs.Refusals.{HasLeastFault}
+use Rattle.call_meaning.specs.Sample.{sample_spec, sample_text, summary}
+use Rattle.call_meaning.specs.Status.{line}
+
+-- ---- the words
+
+-- the text reads as pieces that make this net, whose stages aren't fed yet
+pub record IsNetOf (spec : List ℕ) (net : Net) : Type 0 where
+  pub pipelines : List (List Piece)
+  pub reads : Reads spec pipelines
+  pub graph : IsGraph pipelines net
+
+-- the specification that a command runs, or checks a journal of
+abbrev pub spec_of : Command → List ℕ
+spec_of (Run spec workers steps trace) = spec
+spec_of (Check spec name) = spec
+spec_of (Sample lines workers steps) = sample_spec
+
+-- the words are a run of a specification, in so many steps at most, whose journal goes to the file of this name, if one is named
+pub record IsRunOf (words : List (List ℕ)) (spec : List ℕ) (steps : ℕ) (trace : Option (List ℕ)) : Type 0 where
+  pub workers : ℕ
+  pub command : command_of words ≡ Some (Run spec workers steps trace)
+
+-- the words are a run of a specification with this net
+pub record RunsNet (words : List (List ℕ)) (net : Net) (steps : ℕ) (trace : Option (List ℕ)) : Type 0 where
+  pub spec : List ℕ
+  pub run : IsRunOf words spec steps trace
+  pub net_of : IsNetOf spec net
+
+-- the words are a check of the journal in the file of this name, on a specification with this net
+pub record ChecksNet (words : List (List ℕ)) (net : Net) (name : List ℕ) : Type 0 where
+  pub spec : List ℕ
+  pub command : command_of words ≡ Some (Check spec name)
+  pub net_of : IsNetOf spec net
+
+-- the words are the sample of so many lines, in so many steps at most, and its specification has this net
+pub record SamplesNet (words : List (List ℕ)) (net : Net) (count steps : ℕ) : Type 0 where
+  pub workers : ℕ
+  pub command : command_of words ≡ Some (Sample count workers steps)
+  pub net_of : IsNetOf sample_spec net
+
+-- the specification of the words has this least fault, of its text or of its net
+pub record IsSpecRefused (words : List (List ℕ)) (fault : Fault) : Type 0 where
+  pub command : Command
+  pub command_is : command_of words ≡ Some command
+  pub refused : HasLeastFault (spec_of command) fault
+
+-- the words aren't carried out, and this is the outcome
+pub data IsUnrun (words : List (List ℕ)) (outcome : Outcome) : Type 0 where
+  -- they are no command
+  no_command : command_of words ≡ None → outcome ≡ Usage → IsUnrun words outcome
+  -- or their specification is refused
+  refused : (fault : Fault) → IsSpecRefused words fault → outcome ≡ SpecRefused fault.number fault.argument fault.place → IsUnrun words outcome
+
+-- ---- the journal of a check
+
+-- the words are a check of a file that has no journal, and this is the outcome
+pub data IsUnchecked (words : List (List ℕ)) (files : Files) (outcome : Outcome) : Type 0 where
+  -- it isn't there
+  absent : (net : Net) (name : List ℕ) → ChecksNet words net name → files name ≡ None → outcome ≡ JournalAbsent → IsUnchecked words files outcome
+  -- or this is its first line that isn't of the format
+  unread : (net : Net) (name text : List ℕ) (number : ℕ) → ChecksNet words net name → files name ≡ Some text → IsFirstFault text number → outcome ≡ JournalLine number → IsUnchecked words files outcome
+
+-- the words are a check of this journal, on a specification with this net
+pub record ChecksJournal (words : List (List ℕ)) (files : Files) (net : Net) (journal : List Entry) : Type 0 where
+  pub name : List ℕ
+  pub checks : ChecksNet words net name
+  pub is_journal : IsJournal journal
+  pub stored : files name ≡ Some (journal_text journal)
+
+-- the stages of this net are fed: the words run it, or check a journal on it
+pub data FeedsNet (words : List (List ℕ)) (files : Files) (net : Net) : Type 0 where
+  of_run : (steps : ℕ) (trace : Option (List ℕ)) → RunsNet words net steps trace → FeedsNet words files net
+  of_check : (journal : List Entry) → ChecksJournal words files net journal → FeedsNet words files net
+
+-- ---- what the stages of a net are fed
+
+-- the most bytes that a run reads: 64 MiB
+abbrev pub input_limit : ℕ
+input_limit = 67108864
+
+-- how many bytes a file gives to a stage that is fed this
+abbrev pub file_size : Files → Feed → ℕ
+file_size files Unfed = 0
+file_size files Input = 0
+file_size files (OfFile name) = option_map_or (λ (bytes : List ℕ). length bytes) (files name) 0
+
+-- how many bytes files give to the stages of a net
+abbrev pub files_size : Files → Net → ℕ
+files_size files net = sum_by (λ (p : Strand). file_size files (line_of p.kind).feed) net.strands
+
+-- a stage of the net is fed the file of this name
+pub record IsFileOf (net : Net) (name : List ℕ) : Type 0 where
+  pub strand : Strand
+  pub among : Contains net.strands strand
+  pub fed_is : (line_of strand.kind).feed ≡ OfFile name
+
+-- how many bytes all stages are fed: those of the input, if a stage reads it, and those of the files
+abbrev pub fed_size : Before → Net → ℕ
+fed_size before net = (if reads_any net then length before.input else 0) + files_size before.files net
+
+-- the net with what its stages are fed
+abbrev pub net_on : Before → Net → Net
+net_on before net = fed before.input before.files net
+
+-- ---- a run of a net whose stages are fed
+
+-- no record moves before every stage has reached commit level 0 with code 0
+abbrev pub IsCommittedFirst : Net → List Entry → Type 0
+IsCommittedFirst net journal = (k : ℕ) → IsMove (event_at net journal k) → (s : ℕ) → s < length net.strands → IsCommitted net (play net (take k journal)) s
+
+-- a legal journal within the steps is complete, and has this reply
+pub record Finishes (net : Net) (steps : ℕ) (answer : Reply) : Type 0 where
+  pub journal : List Entry
+  pub legal : IsLegal net journal
+  pub complete : IsComplete net journal
+  pub within : length journal ≤ steps
+  pub replies : reply net (play net journal) ≡ answer
+  pub committed : IsCommittedFirst net journal
+  -- where the net is plain and all its strands have ended, the histories are those of its stages read as functions on streams
+  pub plainly : IsPlain net → HasEnded net (play net journal) → IsPlainReading net (play net journal)
+
+-- a legal journal has as many entries as the steps allow, and one more may be made
+pub record Exhausts (net : Net) (steps : ℕ) : Type 0 where
+  pub journal : List Entry
+  pub legal : IsLegal net journal
+  pub full : length journal ≡ steps
+  pub committed : IsCommittedFirst net journal
+  pub more : (e : Entry) × IsLicensed net (play net journal) e
+
+-- the outcome that a reply tells: strands wait, or the worst code is 0, or another one
+abbrev pub outcome_by : Net → List WaitLine → ℤ → Outcome
+outcome_by net (w ∷ ws) code = Stalled (wait_text net (wait_lines (w ∷ ws)))
+outcome_by net [] (pos zero) = Done
+outcome_by net [] code = Coded code
+
+abbrev pub outcome_of : Net → Reply → Outcome
+outcome_of net answer = outcome_by net answer.waits answer.code
+
+-- what a run of so many steps at most comes to, whose journal goes to the file of this name, if one is named
+pub data RunMeans (net : Net) (steps : ℕ) (trace : Option (List ℕ)) (outcome : Outcome) (effect : Effect) : Type 0 where
+  -- it ends, and the outcome and the effect are those of its reply
+  finishes : (answer : Reply) (done : Finishes net steps answer) → outcome ≡ outcome_of net answer → effect ≡ traced trace done.journal (effect_of answer) → RunMeans net steps trace outcome effect
+  -- or it has more to do
+  exhausts : (spent : Exhausts net steps) → outcome ≡ Spent steps → effect ≡ traced trace spent.journal no_effect → RunMeans net steps trace outcome effect
+
+-- ---- a check of a journal on a net whose stages are fed
+
+-- the line that tells how many entries a legal journal has, and whether it is complete
+abbrev pub legal_line : ℕ → Bool → List ℕ
+legal_line count complete = line (codes "legal " ++ (decimal count ++ (if complete then codes " complete" else codes " open")))
+
+-- what a check comes to
+pub data CheckMeans (net : Net) (journal : List Entry) (outcome : Outcome) (effect : Effect) : Type 0 where
+  -- the journal is legal
+  legal : (complete : Bool) → Judges net journal (Legal complete) → outcome ≡ Done → effect ≡ output_of (legal_line (length journal) complete) → CheckMeans net journal outcome effect
+  -- or this entry is the first that isn't
+  illegal : (place : ℕ) → Judges net journal (Illegal place) → outcome ≡ JournalEntry place → effect ≡ no_effect → CheckMeans net journal outcome effect
+
+-- ---- the sample
+
+-- what is written of the sample of so many lines: its summary where the outcome is `Done`
+abbrev pub summed_up : ℕ → List ℕ → ℕ → Outcome → Effect
+summed_up count console steps Done = output_of (summary count console steps)
+summed_up count console steps _ = no_effect
+
+-- what the sample of so many lines comes to, whose net is fed them
+pub data SampleMeans (count : ℕ) (net : Net) (steps : ℕ) (outcome : Outcome) (effect : Effect) : Type 0 where
+  -- it ends as a run does
+  sums_up : (answer : Reply) (done : Finishes net steps answer) → outcome ≡ outcome_of net answer → effect ≡ summed_up count answer.console (length done.journal) outcome → SampleMeans count net steps outcome effect
+  -- or it has more to do
+  spends : Exhausts net steps → outcome ≡ Spent steps → effect ≡ no_effect → SampleMeans count net steps outcome effect
+
+-- ---- the call
+
+-- the words run a net, or check a journal on it, that is fed too much
+pub record IsTooLarge (words : List (List ℕ)) (before : Before) : Type 0 where
+  pub net : Net
+  pub feeds : FeedsNet words before.files net
+  pub large : input_limit < fed_size before net
+
+-- the words run a net, which comes to this
+pub record HasRun (words : List (List ℕ)) (before : Before) (outcome : Outcome) (effect : Effect) : Type 0 where
+  pub net : Net
+  pub steps : ℕ
+  pub trace : Option (List ℕ)
+  pub runs : RunsNet words net steps trace
+  pub fits : fed_size before net ≤ input_limit
+  pub means : RunMeans (net_on before net) steps trace outcome effect
+
+-- the words check a journal on a net, which comes to this
+pub record HasChecked (words : List (List ℕ)) (before : Before) (outcome : Outcome) (effect : Effect) : Type 0 where
+  pub net : Net
+  pub journal : List Entry
+  pub checks : ChecksJournal words before.files net journal
+  pub fits : fed_size before net ≤ input_limit
+  pub means : CheckMeans (net_on before net) journal outcome effect
+
+-- the words are the sample, which comes to this
+pub record HasSampled (words : List (List ℕ)) (outcome : Outcome) (effect : Effect) : Type 0 where
+  pub net : Net
+  pub count : ℕ
+  pub steps : ℕ
+  pub samples : SamplesNet words net count steps
+  pub means : SampleMeans count (with_input (sample_text count) net) steps outcome effect
+
+-- the words are carried out, and come to this
+pub data ComesTo (words : List (List ℕ)) (before : Before) (outcome : Outcome) (effect : Effect) : Type 0 where
+  ran : HasRun words before outcome effect → ComesTo words before outcome effect
+  checked : HasChecked words before outcome effect → ComesTo words before outcome effect
+  sampled : HasSampled words outcome effect → ComesTo words before outcome effect
+
+-- the outcome and the effect that words have, by what there was before
+pub data Means (words : List (List ℕ)) (before : Before) (outcome : Outcome) (effect : Effect) : Type 0 where
+  unrun : IsUnrun words outcome → effect ≡ no_effect → Means words before outcome effect
+  unchecked : IsUnchecked words before.files outcome → effect ≡ no_effect → Means words before outcome effect
+  too_large : IsTooLarge words before → outcome ≡ InputTooLarge → effect ≡ no_effect → Means words before outcome effect
+  came : ComesTo words before outcome effect → Means words before outcome effect
+
+-- the words have steps taken on this net, whose stages are fed
+pub data TakesSteps (words : List (List ℕ)) (before : Before) (net : Net) : Type 0 where
+  of_run : (bare : Net) (steps : ℕ) (trace : Option (List ℕ)) → RunsNet words bare steps trace → net ≡ net_on before bare → TakesSteps words before net
+  of_sample : (bare : Net) (count steps : ℕ) → SamplesNet words bare count steps → net ≡ with_input (sample_text count) bare → TakesSteps words before net
+
+-- ---- the straight line
+
+-- what words of a straight line with LOCATEs of these strings mean, in so many steps at most, but for the journal's file: the lines that hold every string,
+-- too few steps or too much input
+abbrev pub IsLineOutcome : List (List ℕ) → List ℕ → ℕ → Outcome → Effect → Type 0
+IsLineOutcome strings input steps Done effect = untraced effect ≡ output_of (text (selected_by strings (lines input)))
+IsLineOutcome strings input steps (Spent n) effect = (n ≡ steps) × (untraced effect ≡ no_effect)
+IsLineOutcome strings input steps InputTooLarge effect = (input_limit < length input) × (effect ≡ no_effect)
+IsLineOutcome strings input steps _ effect = ⊥

@@ -1,0 +1,11 @@
+//! What the words of a call mean: how it ends, what it reads and does, and the laws on that. Here the words are read, and the net of their
+//! specification is made.
+#![tactic(auto)]
+
+mod calls;
+mod meaning;
+mod status;
+
+pub use calls::{Call, called};
+pub use meaning::{one_meaning, straight_line_is_plain, straight_line_means};
+pub use status::{Outcome, Status};

@@ -1,0 +1,10 @@
+pub mod CheckReplies
+pub mod FedNets
+pub mod Feds
+pub mod Feedings
+pub mod Fetches
+pub mod Names
+pub mod Orders
+pub mod Replacements
+pub mod Replies
+pub mod Streams

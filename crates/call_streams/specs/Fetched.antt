@@ -1,0 +1,106 @@
+-- What was fetched for the stages of a net, and the journal of a check; it serves the inside.
+use Rattle.std.specs.Prelude.{◌≡◌, ℕ, ◌<◌, ◌≤◌, Bool, List, find, option_and_then}
+use Rattle.std.specs.List.{All}
+use Rattle.std.specs.Option.{IfSome}
+use Rattle.std.specs.Str.{bytes_eq}
+use Rattle.std.specs.declared.option.Option.{Option}
+use Rattle.std.specs.declared.option.Option.TheVariants.{Some, None}
+use Rattle.pipe_model.specs.declared.net.Net.{Net}
+use Rattle.pipe_model.specs.declared.step.Entry.{Entry}
+use Rattle.pipe_model.specs.Table.{Feed}
+use Rattle.pipe_model.specs.Table.Feed.{Unfed, Input, OfFile}
+use Rattle.outside.specs.Faults.{Rose}
+use Rattle.outside.specs.Files.{Files}
+use Rattle.call_meaning.specs.declared.status.Outcome.{Outcome}
+use Rattle.call_meaning.specs.declared.status.Outcome.TheVariants.{ShelfFault, NoMemory, InputTooLarge, JournalAbsent, JournalLine}
+use Rattle.call_streams.specs.declared.fetch.Found.{Found}
+use Rattle.journal_file.specs.Faults.{IsFirstFault}
+use Rattle.journal_file.specs.Text.{IsJournal, journal_text}
+use Rattle.call_meaning.specs.Devices.{Store}
+use Rattle.call_meaning.specs.Meaning.{IsFileOf, files_size, input_limit}
+
+-- the file has this name
+abbrev pub has_name : List ℕ → Found → Bool
+has_name name file = bytes_eq file.name name
+
+-- what was fetched is what the files have
+abbrev pub AreOf : Files → List Found → Type 0
+AreOf files found = All (λ (file : Found). files file.name ≡ file.bytes) found
+
+-- the bytes of each name that was fetched
+abbrev pub fetched_files : List Found → Files
+fetched_files found = λ name. option_and_then (λ (file : Found). file.bytes) (find (has_name name) found)
+
+-- the files that there are; where they aren't told, those that were fetched
+abbrev pub files_known : Option Files → List Found → Files
+files_known None found = fetched_files found
+files_known (Some files) found = files
+
+-- what of the files goes to a stage that is fed this
+abbrev pub file_for : Files → Feed → Option (List ℕ)
+file_for files Unfed = None
+file_for files Input = None
+file_for files (OfFile name) = files name
+
+-- a stage was given its file, if it is fed one and that is there; each file that was fetched is kept
+pub record IsGiven (fed : Feed) (old new : Store) (found found' : List Found) (bytes : Option (List ℕ)) : Type 0 where
+  pub kept : new.files ≡ old.files
+  pub steady : new.faults ≡ old.faults
+  pub file : (files : Files) → AreOf files found' → bytes ≡ file_for files fed
+  pub more : (files : Files) → AreOf files found' → AreOf files found
+  pub known : AreOf (files_known old.files found) found → AreOf (files_known old.files found') found'
+
+-- why it wasn't
+abbrev pub StopsGiving : Feed → Store → Store → Outcome → Type 0
+StopsGiving fed old new (ShelfFault name) = (fed ≡ OfFile name) × Rose old.faults new.faults
+StopsGiving fed old new NoMemory = new.faults ≡ old.faults
+StopsGiving fed old new _ = ⊥
+
+pub record IsUngiven (fed : Feed) (old new : Store) (outcome : Outcome) : Type 0 where
+  pub kept : new.files ≡ old.files
+  pub stops : StopsGiving fed old new outcome
+
+-- the files of the `<` of a net were fetched, where these were fetched before, and this is what there was
+pub record AreFetched (net : Net) (before : List Found) (old new : Store) (files : Files) : Type 0 where
+  pub found : IfSome old.files (λ there. files ≡ there)
+  pub of : AreOf files before
+  pub kept : new.files ≡ old.files
+  pub fits : files_size files net ≤ input_limit
+  pub steady : new.faults ≡ old.faults
+
+-- why the fetching ended before
+abbrev pub StopsFetching : Net → Store → Store → Files → Outcome → Type 0
+StopsFetching net old new files (ShelfFault name) = IsFileOf net name × Rose old.faults new.faults
+StopsFetching net old new files InputTooLarge = (input_limit < files_size files net) × (new.faults ≡ old.faults)
+StopsFetching net old new files NoMemory = new.faults ≡ old.faults
+StopsFetching net old new files _ = ⊥
+
+-- the fetching ended before the last file
+pub record AreFetchedPart (net : Net) (before : List Found) (old new : Store) (outcome : Outcome) : Type 0 where
+  pub files : Files
+  pub found : IfSome old.files (λ there. files ≡ there)
+  pub of : AreOf files before
+  pub kept : new.files ≡ old.files
+  pub stops : StopsFetching net old new files outcome
+
+-- the file of a name was found to have this journal; each file that was found is kept
+pub record HasJournal (name : List ℕ) (old new : Store) (found : List Found) (journal : List Entry) : Type 0 where
+  pub kept : new.files ≡ old.files
+  pub steady : new.faults ≡ old.faults
+  pub is_journal : IsJournal journal
+  pub stored : (files : Files) → AreOf files found → files name ≡ Some (journal_text journal)
+  pub known : AreOf (files_known old.files found) found
+
+-- why it wasn't: it isn't there, has a line that isn't of the format, failed, or memory was wanted
+abbrev pub StopsFinding : List ℕ → Files → Store → Store → Outcome → Type 0
+StopsFinding name files old new (ShelfFault other) = (other ≡ name) × Rose old.faults new.faults
+StopsFinding name files old new JournalAbsent = (files name ≡ None) × (new.faults ≡ old.faults)
+StopsFinding name files old new (JournalLine number) = ((text : List ℕ) × (files name ≡ Some text) × IsFirstFault text number) × (new.faults ≡ old.faults)
+StopsFinding name files old new NoMemory = new.faults ≡ old.faults
+StopsFinding name files old new _ = ⊥
+
+pub record HasNoJournal (name : List ℕ) (old new : Store) (outcome : Outcome) : Type 0 where
+  pub files : Files
+  pub found : IfSome old.files (λ there. files ≡ there)
+  pub kept : new.files ≡ old.files
+  pub stops : StopsFinding name files old new outcome

@@ -1,0 +1,5 @@
+pub mod Feeding
+pub mod Fetched
+pub mod Taken
+pub mod Texts
+pub mod Written

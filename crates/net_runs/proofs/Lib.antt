@@ -1,0 +1,9 @@
+pub mod CoreRuns
+pub mod Finishes
+pub mod Kept
+pub mod PutOuts
+pub mod Puts
+pub mod RunEffects
+pub mod RunReplies
+pub mod Runs
+pub mod SampleReplies

@@ -1,0 +1,79 @@
+-- From what the run of the sample's net did to what the call decides.
+use Rattle.std.proofs.Common.{◌≡◌, ◌≢◌, ℕ, List, [], length, refl, sym, ◌∙◌, ap}
+use Rattle.std.proofs.KnownBytes.{Consumes-nil}
+use Rattle.outside.specs.Device.{Device}
+use Rattle.pipe_model.specs.declared.net.Net.{Net}
+use Rattle.pipe_model.specs.Reply.{console_from, reply}
+use Rattle.pipe_model.specs.WellFormed.{IsWellFormed}
+use Rattle.net_graph.specs.Fed.{with_input}
+use Rattle.core_machine.specs.Machine.{Machine, state_of}
+use Rattle.call_meaning.specs.declared.status.Outcome.{Outcome}
+use Rattle.call_meaning.specs.declared.status.Outcome.TheVariants.{Done}
+use Rattle.call_meaning.specs.Answer.{Decides}
+use Rattle.call_meaning.specs.Answer.HasCause.{came, write_failed}
+use Rattle.call_meaning.specs.Answer.HasDone.{whole}
+use Rattle.call_meaning.specs.Devices.{Outside, Store, outside}
+use Rattle.call_meaning.specs.Effects.{Before, Effect, no_effect, output_of}
+use Rattle.call_meaning.specs.Meaning.{ComesTo, SampleMeans, SamplesNet, outcome_of, summed_up}
+use Rattle.call_meaning.specs.Meaning.ComesTo.{sampled}
+use Rattle.call_meaning.specs.Meaning.SampleMeans.{sums_up, spends as sample_spends}
+use Rattle.call_meaning.specs.Sample.{sample_text}
+use Rattle.net_runs.specs.Ran.{EndsAs, IsRun}
+use Rattle.call_streams.specs.Written.{HasGiven}
+use Rattle.net_runs.specs.Ran.EndsAs.{completes, spends}
+use Rattle.call_streams.specs.Written.HasGiven.{gave, gave_part}
+use Rattle.net_runs.proofs.Finishes.{exhausted, finished}
+use Rattle.call_streams.proofs.Replacements.{none_replaced}
+use Rattle.call_streams.proofs.Replies.{decides_as, files_in, found_in}
+use Rattle.net_runs.proofs.Runs.{reply_console}
+
+-- nothing is written but where the outcome is `Done`
+pub none_summed : (count : ℕ) (console : List ℕ) (steps : ℕ) (outcome : Outcome) → outcome ≢ Done → no_effect ≡ summed_up count console steps outcome
+none_summed count console steps Done other = absurd (other refl)
+none_summed count console steps _ other = refl
+
+-- what the run of a net that was fed the sample's lines means
+pub sample_means : (count : ℕ) (on : Net) (steps : ℕ) → IsWellFormed on → (core : Machine) (outcome : Outcome) → IsRun on steps core outcome →
+    (effect : Effect) → effect ≡ summed_up count (console_from (state_of core) 0 core.net.strands) (length core.journal) outcome → SampleMeans count on steps outcome effect
+sample_means count on steps formed core outcome run effect is = by run.ends
+  where
+    by : EndsAs steps core outcome → SampleMeans count on steps outcome effect
+    by (completes stopped of) =
+        sums_up (reply core.net (state_of core)) (finished on steps formed core run.net_is run.legal stopped run.within)
+        (of ∙ ap (λ z. outcome_of z (reply core.net (state_of core))) run.net_is)
+        (is ∙ ap (λ console. summed_up count console (length core.journal) outcome) (sym (reply_console core.net (state_of core))))
+    by (spends same full more) =
+        sample_spends (exhausted on steps formed core run.net_is run.legal full more) same
+        (is ∙ ap (summed_up count (console_from (state_of core) 0 core.net.strands) (length core.journal)) same)
+
+module _ (words : List (List ℕ)) (input output output' : Device) (shelf : Store) (net : Net) (count steps : ℕ) (samples : SamplesNet words net count steps) where
+  abbrev old : Outside
+  old = outside input output shelf
+
+  abbrev new : Outside
+  new = outside input output' shelf
+
+  abbrev given : Before
+  given = record { input = []; files = files_in shelf.files }
+
+  module _ (text : List ℕ) (outcome : Outcome) (means : SampleMeans count (with_input (sample_text count) net) steps outcome (output_of text)) where
+    abbrev comes : ComesTo words given outcome (output_of text)
+    comes = sampled (record { net = net; count = count; steps = steps; samples = samples; means = means })
+
+    -- the summary was written, or couldn't be whole
+    pub decides_sample : (decided : Outcome) → HasGiven text outcome output output' decided → Decides words old new decided
+    decides_sample decided (gave wrote is) = decides_as words input output shelf new outcome decided is (record {
+      given = given;
+      effect = output_of text;
+      gave = Consumes-nil input.bytes;
+      found = found_in shelf.files;
+      done = whole (record { output = wrote.gained; files = none_replaced shelf.files }) (came comes refl (record { input = refl; output = wrote.steady; shelf = refl }));
+    })
+    decides_sample decided (gave_part part) = record {
+      given = given;
+      effect = output_of part.wrote;
+      gave = Consumes-nil input.bytes;
+      found = found_in shelf.files;
+      done = whole (record { output = part.gained; files = none_replaced shelf.files })
+          (write_failed (record { outcome = outcome; whole = output_of text; comes = comes; used = refl; wrote = part.wrote; cut = part.cut; effect_is = refl }) part.fault refl part.failed refl);
+    }

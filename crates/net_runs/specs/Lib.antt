@@ -1,0 +1,5 @@
+pub mod Kept
+pub mod Puts
+pub mod Ran
+pub mod ReadyRuns
+pub mod Traces
