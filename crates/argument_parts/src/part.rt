@@ -1,9 +1,5 @@
-ghost use Rattle.std.specs.Prelude.{◌≡◌, IfOk};
-ghost use Rattle.pipe_model.specs.Straight as Ranges;
-
 use crate::fault::FaultKind;
-use pipe_model::{NoMemory, Range, Rec, Span, Spot, Times};
-use std::alloc::Global;
+use pipe_model::{Range, Rec, Span, Spot, Times};
 
 /// A keyword, read in any case.
 #[derive(Clone, Copy, Debug, PartialEq, Eq)]
@@ -102,22 +98,4 @@ pub enum Value {
 pub struct TextFault {
     pub left: usize,
     pub kind: FaultKind,
-}
-
-/// The string once more.
-pub fn copy(alloc: Global, string: &Rec) -> Result<Rec, NoMemory>
-    ensures { IfOk result (λ copy. copy ≡ string.now) }
-{
-    Rec::from_slice(alloc, string.bytes())
-}
-
-/// All columns, where no range is given.
-pub fn all_columns() -> Range
-    ensures { result ≡ Ranges.all_columns }
-{
-    Range {
-        span: Span::Columns,
-        first: 1,
-        last: None,
-    }
 }

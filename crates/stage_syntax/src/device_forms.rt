@@ -5,7 +5,8 @@ ghost use Rattle.pipe_model.specs.declared.kind.Kind.TheVariants as Kinds;
 ghost use Rattle.stage_syntax.specs.DeviceForms as Device;
 ghost use Rattle.stage_syntax.specs.Rows.{text_in};
 
-use argument_parts::{Part, Value, copy};
+use crate::values::copy;
+use argument_parts::{Part, Value};
 use pipe_model::{Kind, NoMemory, Rec};
 use std::alloc::Global;
 

@@ -3,7 +3,8 @@ ghost use Rattle.pipe_model.specs.declared.kind.Kind.TheVariants as Kinds;
 ghost use Rattle.stage_syntax.specs.EditingForms as Editing;
 ghost use Rattle.stage_syntax.specs.Forms as Shared;
 
-use argument_parts::{FaultKind, Part, TextFault, Value, Word, all_columns, copy};
+use crate::values::{all_columns, copy};
+use argument_parts::{FaultKind, Part, TextFault, Value, Word};
 use pipe_model::{Kind, Mapping, NoMemory, Rec, Times};
 use std::alloc::Global;
 

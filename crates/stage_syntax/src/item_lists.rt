@@ -7,7 +7,8 @@ ghost use Rattle.stage_syntax.specs.ItemForms as Forms;
 ghost use Rattle.stage_syntax.specs.ItemForms.{Draft};
 ghost use Rattle.stage_syntax.specs.ItemLists.{IsDraft};
 
-use argument_parts::{Value, Word, copy};
+use crate::values::copy;
+use argument_parts::{Value, Word};
 use pipe_model::{Align, Amount, Convert, Item, Items, Kind, NoMemory, Origin, SetOp, Spot};
 use std::alloc::Global;
 use std::mem;

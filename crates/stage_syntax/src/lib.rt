@@ -14,6 +14,7 @@ mod rows;
 mod selection_forms;
 mod stages;
 mod stream_forms;
+mod values;
 
 pub use arg::Arg;
 pub use argument_parts::{ArgFault, FaultKind};

@@ -5,7 +5,8 @@ ghost use Rattle.argument_parts.specs.declared.part.Value.{Value};
 ghost use Rattle.argument_parts.specs.declared.part.Value.TheVariants as Read;
 ghost use Rattle.stage_syntax.specs.OrderForms as Order;
 
-use argument_parts::{FaultKind, Part, TextFault, Value, Word, all_columns, copy};
+use crate::values::{all_columns, copy};
+use argument_parts::{FaultKind, Part, TextFault, Value, Word};
 use pipe_model::{Cutting, Image, Keep, Kind, NoMemory, SortKey, SortKeys, Total, Totals};
 use std::alloc::Global;
 

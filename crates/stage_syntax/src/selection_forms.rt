@@ -9,7 +9,8 @@ ghost use Rattle.stage_syntax.specs.SelectionForms as Selection;
 ghost use Rattle.stage_syntax.specs.Forms.{of_text};
 ghost use Rattle.stage_syntax.specs.Rows.{text_in};
 
-use argument_parts::{Part, Value, Word, all_columns, copy};
+use crate::values::{all_columns, copy};
+use argument_parts::{Part, Value, Word};
 use pipe_model::{Kind, NoMemory, Range, Rec, Times};
 use std::alloc::Global;
 

@@ -3,7 +3,8 @@ ghost use Rattle.pipe_model.specs.declared.kind.Kind.TheVariants as Kinds;
 ghost use Rattle.stage_syntax.specs.Forms as Shared;
 ghost use Rattle.stage_syntax.specs.Names as Names;
 
-use argument_parts::{Part, Value, all_columns};
+use crate::values::all_columns;
+use argument_parts::{Part, Value};
 use pipe_model::{Kind, Range, Times};
 
 /// What may come after these arguments of a stage that has one range.
