@@ -1,6 +1,7 @@
 ghost use Rattle.std.specs.Prelude.{◌≡◌, ◌<◌, false, [], length, IfOk};
 ghost use Rattle.pipe_model.specs.WellFormed.{IsWellFormed};
 ghost use Rattle.core_machine.specs.Machine.{started, IsLawful};
+ghost use Rattle.core_machine.specs.Start.{AreFresh};
 ghost use Rattle.journal_file.specs.Judged.{Judges};
 ghost use Rattle.journal_file.specs.Made.{HasMade};
 
@@ -8,7 +9,6 @@ use crate::entries::Journal;
 use core_machine::{Core, Turned};
 use pipe_model::{Entry, Net, NoMemory};
 use stage_steps::Stage;
-use stage_table::make_all;
 use std::alloc::Global;
 
 /// What a journal is to a net.
@@ -20,14 +20,19 @@ pub enum Checked {
     Illegal { entry: u64 },
 }
 
-/// Plays a journal on a net, up to its first entry without a licence. Each entry costs what a step of a run costs, and
-/// at the end every strand is asked once whether it may go on.
-pub fn check(alloc: Global, net: Net, journal: &Journal) -> Result<Checked, NoMemory>
-    requires { IsWellFormed net }
+/// Plays a journal on a net with these stages, each before its first event, up to its first entry without a licence. Each
+/// entry costs what a step of a run costs, and at the end every strand is asked once whether it may go on.
+pub fn check<S: Stage>(
+    alloc: Global,
+    net: Net,
+    stages: Vec<S>,
+    journal: &Journal,
+) -> Result<Checked, NoMemory>
+    requires whole { IsWellFormed net }
+    requires fresh { AreFresh S.stands net.strands stages.items }
     ensures { IfOk result (Judges net journal.now) }
 {
     let entries = journal.entries();
-    let stages = make_all(alloc, &net)?;
     let mut core = Core::start(alloc, net, stages, entries.len() as u64)?;
     judge(alloc, &mut core, entries)
 }

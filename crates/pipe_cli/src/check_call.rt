@@ -11,6 +11,7 @@ ghost use Rattle.pipe_cli.specs.Steps.{HasJournal, HasNoJournal, IsTelling};
 
 use crate::feed::feed_net;
 use crate::fetch::{Found, fetch};
+use crate::net_run::fresh_stages;
 use crate::status::Outcome;
 use crate::text::{Told, add, add_number, no_memory, tell, with_text};
 use crate::write::{Answer, give};
@@ -80,7 +81,8 @@ fn judged(alloc: Global, net: Net, journal: &Journal) -> Result<Answer, NoMemory
     ensures means { IfOk result (λ answer. CheckMeans net journal.now answer.told.outcome (output_of answer.text.items)) }
     ensures text { IfOk result (λ answer. IsTelling answer.told) }
 {
-    let (text, outcome) = match check(alloc, net, journal)? {
+    let stages = fresh_stages(alloc, &net)?;
+    let (text, outcome) = match check(alloc, net, stages, journal)? {
         Checked::Legal { complete } => {
             let line = legal_line(alloc, journal.len(), complete)?;
             (line, Outcome::Done)

@@ -3,6 +3,8 @@ ghost use Rattle.std.specs.Prelude.{◌≡◌, ◌<◌, ◌≤◌, List, [], ◌
 ghost use Rattle.pipe_model.specs.Reply.{WaitLine, reply, console_from};
 ghost use Rattle.pipe_model.specs.WellFormed.{IsWellFormed};
 ghost use Rattle.core_machine.specs.Machine.{HasStopped, started, state_of};
+ghost use Rattle.core_machine.specs.Start.{AreFresh};
+ghost use Rattle.stage_table.specs.BuiltIn.{BuiltInStands};
 ghost use Rattle.pipe_model.specs.Form.{is_shown};
 ghost use Rattle.pipe_cli.specs.Kept.{keeping_of};
 ghost use Rattle.outside.specs.Device.{device};
@@ -58,8 +60,16 @@ pub(crate) fn start_net(alloc: Global, net: Net, steps: u64) -> Result<Core<Buil
     requires few { steps ≤ 50000000 }
     ensures { IfOk result (λ core. core ≡ started net steps) }
 {
-    let stages = make_all(alloc, &net)?;
+    let stages = fresh_stages(alloc, &net)?;
     Core::start(alloc, net, stages, steps)
+}
+
+// A stage for each strand, before its first event.
+pub(crate) fn fresh_stages(alloc: Global, net: &Net) -> Result<Vec<BuiltIn>, NoMemory>
+    requires { IsWellFormed net.now }
+    ensures { IfOk result (λ stages. AreFresh BuiltInStands net.now.strands stages.items) }
+{
+    make_all(alloc, net)
 }
 
 // How a run that is complete ended.
