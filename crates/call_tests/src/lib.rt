@@ -1,0 +1,14 @@
+//! Tests of the program's one call: the order of its calls of streams and files, also where one of them fails in mid-stream,
+//! its gate, and that two workers work at once; and of the text of a journal.
+#![tactic(auto)]
+
+#[cfg(test)]
+mod calls;
+#[cfg(test)]
+mod gates;
+#[cfg(test)]
+mod journals;
+#[cfg(test)]
+mod order;
+#[cfg(test)]
+mod together;
