@@ -1,6 +1,7 @@
 use crate::calls::{Around, call, sink, source};
 use outside::{
-    Fetched, MemShelf, OpenGate, ReadAnswer, Replaced, Shelf, Sink, Source, WriteAnswer,
+    Fetched, MemShelf, MemSink, MemSource, OpenGate, ReadAnswer, Replaced, Shelf, Sink, Source,
+    WriteAnswer,
 };
 use std::alloc::Global;
 use std::cell::RefCell;
@@ -98,7 +99,23 @@ const WORDS: [&str; 3] = [
     "j",
 ];
 
-// The call's status, if it makes these calls, where the reads, the writes and the calls of files of these numbers fail.
+// Streams and files of which the reads, the writes and the calls of files of these numbers fail.
+fn failing(
+    alloc: Global,
+    [reads, writes, files]: [u32; 3],
+) -> Result<Around<MemSource, MemSink, MemShelf>, Fail> {
+    let mut shelf = MemShelf::new(alloc, [files].to_vec(alloc)?);
+    shelf.preset(b"a", b"a\n")?;
+    shelf.preset(b"b", b"b\n")?;
+    Ok(Around {
+        input: source(alloc, b"x\ny\n", 2, &[reads])?,
+        output: sink(alloc, 3, &[writes])?,
+        diag: sink(alloc, 64, &[])?,
+        shelf,
+    })
+}
+
+// The call's status, if it makes these calls, where those of these numbers fail.
 fn status_of<R: Threads + Wait + Sync>(
     rt: &R,
     alloc: Global,
@@ -108,31 +125,17 @@ fn status_of<R: Threads + Wait + Sync>(
     let made = Made {
         calls: RefCell::new(Vec::new(alloc)),
     };
-    let [reads, writes, files] = fails;
-    let mut shelf = MemShelf::new(alloc, [files].to_vec(alloc)?);
-    shelf.preset(b"a", b"a\n")?;
-    shelf.preset(b"b", b"b\n")?;
+    let Around {
+        input,
+        output,
+        diag,
+        shelf,
+    } = failing(alloc, fails)?;
     let mut around = Around {
-        input: Noted {
-            device: source(alloc, b"x\ny\n", 2, &[reads])?,
-            name: b" read",
-            made: &made,
-        },
-        output: Noted {
-            device: sink(alloc, 3, &[writes])?,
-            name: b" write",
-            made: &made,
-        },
-        diag: Noted {
-            device: sink(alloc, 64, &[])?,
-            name: b" tell",
-            made: &made,
-        },
-        shelf: Noted {
-            device: shelf,
-            name: b"",
-            made: &made,
-        },
+        input: watched(input, b" read", &made),
+        output: watched(output, b" write", &made),
+        diag: watched(diag, b" tell", &made),
+        shelf: watched(shelf, b"", &made),
     };
     let status = call(rt, alloc, &WORDS, &mut around, &OpenGate)?;
     if made.are(calls) {
@@ -140,6 +143,10 @@ fn status_of<R: Threads + Wait + Sync>(
     } else {
         Ok(None)
     }
+}
+
+fn watched<'a, D>(device: D, name: &'a [u8], made: &'a Made) -> Noted<'a, D> {
+    Noted { device, name, made }
 }
 
 // Files come before input, all input before all output, and then the files by the order of their names, the journal's last.
