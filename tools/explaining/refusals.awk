@@ -71,6 +71,7 @@ function about_argument(stage, argued_as, word, todo,   name, text, delimiter, l
     if (argued_as == 1)
         return todo
     if (name in does || name ~ /^[<>]/) {
+        word = shown(word, 40)
         text = " separator is missing before it: `" separator "\001" word "`."
         return argued_as == 2 ? "A" text : todo " Where `" word "` is to be a stage, a" text
     }
@@ -83,7 +84,7 @@ function about_argument(stage, argued_as, word, todo,   name, text, delimiter, l
         split(trim(substr(text, RSTART)), list, / +/)
         delimiter = substr(list[1], 1, 1)
         if (substr(list[2], 1, 1) == delimiter)
-            return "Both strings have one delimiter between them: `change\001" list[1] substr(list[2], 2) "`."
+            return "Both strings have one delimiter between them: `change\001" shown(list[1] substr(list[2], 2), 40) "`."
     }
     near = ""
     for (k = split(keywords(), list, " "); k > 0; k--) {
