@@ -1,8 +1,7 @@
-use crate::played::{Scene, kind_by, play, stage_of};
-use pipe_model::{Kind, Net, Rec, Strand};
-use stage_table::{BuiltIn, make_all};
+use crate::played::{Scene, kind_by, play_all, stages_of};
+use pipe_model::{Kind, Rec};
+use stage_table::BuiltIn;
 use std::alloc::Global;
-use std::mem::ManuallyDrop;
 use std::process::Abort;
 use std::test::Fail;
 
@@ -14,9 +13,9 @@ fn plays(
     arrivals: &str,
     wanted: &str,
 ) -> Result<(), Fail> {
-    let mut stage = stage_of(rt, alloc, kind, 0, "*", "*")?;
+    let mut stages = stages_of(rt, alloc, kind, 0, "*", "*")?;
     let mut scene = Scene::new(alloc, arrivals, "*")?;
-    play(alloc, &mut *stage, &mut scene)?;
+    play_all(alloc, &mut stages, &mut scene)?;
     assert_eq!(rt; scene.done(), wanted.as_bytes());
     Ok(())
 }
@@ -42,10 +41,10 @@ fn an_absent_file_ends_with_28(rt: HostRuntime) -> Result<(), Fail> {
 #[test]
 fn a_record_too_long_for_two_bytes_ends_a_block(rt: HostRuntime) -> Result<(), Fail> {
     let alloc = rt.alloc();
-    let mut stage = stage_of(&rt, alloc, kind_by(alloc, "block 3 sf")?, 0, "*", "*")?;
+    let mut stages = stages_of(&rt, alloc, kind_by(alloc, "block 3 sf")?, 0, "*", "*")?;
     let mut scene = Scene::new(alloc, "0a;", "*")?;
     scene.add(Rec::from_vec(vec![in alloc; 0; 65_534]?))?;
-    play(alloc, &mut *stage, &mut scene)?;
+    play_all(alloc, &mut stages, &mut scene)?;
     assert_eq!(rt; scene.done(), b"-0;0\0\x03a;-0;=8".as_slice());
     Ok(())
 }
@@ -58,10 +57,10 @@ fn plays_behind(
     is_primed: bool,
     wanted: &str,
 ) -> Result<(), Fail> {
-    let mut stage = stage_of(rt, alloc, kind_by(alloc, words)?, 1, "*", "*")?;
+    let mut stages = stages_of(rt, alloc, kind_by(alloc, words)?, 1, "*", "*")?;
     let mut scene = Scene::new(alloc, "0a;0;", "*")?;
     scene.is_primed = is_primed;
-    play(alloc, &mut *stage, &mut scene)?;
+    play_all(alloc, &mut stages, &mut scene)?;
     assert_eq!(rt; scene.done(), wanted.as_bytes(), "{words}");
     Ok(())
 }
@@ -72,21 +71,6 @@ fn other_strands_of_a_dam_wait_for_the_first(rt: HostRuntime) -> Result<(), Fail
     plays_behind(&rt, alloc, "dam", true, "0a;-0;0;-0;=0")?;
     plays_behind(&rt, alloc, "dam", false, "=0")?;
     plays_behind(&rt, alloc, "elastic", false, "-0;0a;-0;0;=0")
-}
-
-#[test]
-fn a_net_has_a_stage_for_each_strand(rt: HostRuntime) -> Result<(), Fail> {
-    let alloc = rt.alloc();
-    let text = Rec::from_slice(alloc, b"a")?;
-    let first = Strand::of_stage(alloc, 0, Kind::Literal { text }, &[], &[true])?;
-    let net = Net::new(vec![in alloc; first]?, Vec::new(alloc));
-    let mut stages = ManuallyDrop::new(make_all(alloc, &net)?);
-    let mut scene = Scene::new(alloc, "", "*")?;
-    for stage in &mut **stages {
-        play(alloc, stage, &mut scene)?;
-    }
-    assert_eq!(rt; scene.done(), b"0a;=0".as_slice());
-    Ok(())
 }
 
 // Calls for this type show that its values can be moved to another thread.

@@ -1,12 +1,11 @@
 ghost use Rattle.std.specs.Prelude.{◌≤◌, length, IfOk};
 ghost use Rattle.stage_table.specs.BuiltIn.{HasFewPlaces};
 
-use pipe_model::{Kind, NoMemory, Out, Rec, Seen, Strand, Want, first_word};
+use pipe_model::{Kind, Net, NoMemory, Out, Rec, Seen, Strand, Want, first_word};
 use stage_steps::{Listed, Lists, Planned, Plans, Stage};
 use stage_syntax::{Arg, kind_of};
-use stage_table::{BuiltIn, make};
+use stage_table::{BuiltIn, make_all};
 use std::alloc::Global;
-use std::mem::ManuallyDrop;
 use std::process::Abort;
 use std::test::Fail;
 
@@ -235,22 +234,32 @@ fn strand_of(
     Strand::of_part(alloc, 0, part, kind, has_input, has_output)
 }
 
-/// A fresh strand of a stage, with these inputs and outputs. It isn't let go: that would be proved here for the stages of all
-/// families.
-pub(crate) fn stage_of(
+// The stages of a net that has this strand alone. They come in a `Vec`, since a stage by itself is dear to prove about.
+#[tactic(auto, using(crate::proofs::Lone::lone_few))]
+fn stages_in(alloc: Global, strand: Strand) -> Result<Vec<BuiltIn>, NoMemory>
+    requires { HasFewPlaces strand }
+{
+    let mut strands = Vec::new(alloc);
+    strands.push(strand)?;
+    let net = Net::new(strands, Vec::new(alloc));
+    make_all(alloc, &net)
+}
+
+/// The fresh strand of a stage, with these inputs and outputs, as the one of a net.
+pub(crate) fn stages_of(
     rt: &impl Abort,
     alloc: Global,
     kind: Kind,
     part: u16,
     inputs: &str,
     outputs: &str,
-) -> Result<ManuallyDrop<BuiltIn>, Fail> {
+) -> Result<Vec<BuiltIn>, NoMemory> {
     let has_input = connected(alloc, inputs)?;
     let has_output = connected(alloc, outputs)?;
     assert!(rt; has_input.len() <= 64);
     assert!(rt; has_output.len() <= 64);
     let strand = strand_of(alloc, kind, part, &has_input, &has_output)?;
-    Ok(ManuallyDrop::new(make(alloc, &strand)?))
+    stages_in(alloc, strand)
 }
 
 /// What can be played: a stage that may be told any event.
@@ -323,6 +332,18 @@ pub(crate) fn play<S: Playable>(
         let seen = scene.answer(&want)?;
         let bytes = told(&scene.arrivals, seen, stage.is_looking());
         want = stage.tell(alloc, seen, bytes)?;
+    }
+    Ok(())
+}
+
+/// Plays each of some stages.
+pub(crate) fn play_all(
+    alloc: Global,
+    stages: &mut [BuiltIn],
+    scene: &mut Scene,
+) -> Result<(), NoMemory> {
+    for stage in stages {
+        play(alloc, stage, scene)?;
     }
     Ok(())
 }

@@ -1,4 +1,4 @@
-use crate::played::{Scene, kind_by, play, stage_of};
+use crate::played::{Scene, kind_by, play_all, stages_of};
 use std::alloc::Global;
 use std::process::Abort;
 use std::test::Fail;
@@ -14,9 +14,9 @@ fn plays(rt: &impl Abort, alloc: Global, rows: &str) -> Result<(), Fail> {
         let outputs = cells.next().unwrap_or("");
         let arrivals = cells.next().unwrap_or("");
         let wanted = cells.next().unwrap_or("");
-        let mut stage = stage_of(rt, alloc, kind_by(alloc, words)?, 0, inputs, outputs)?;
+        let mut stages = stages_of(rt, alloc, kind_by(alloc, words)?, 0, inputs, outputs)?;
         let mut scene = Scene::new(alloc, arrivals, outputs)?;
-        play(alloc, &mut *stage, &mut scene)?;
+        play_all(alloc, &mut stages, &mut scene)?;
         assert_eq!(rt; scene.done(), wanted.as_bytes(), "{row}");
     }
     Ok(())
