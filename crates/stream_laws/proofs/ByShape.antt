@@ -51,7 +51,7 @@ module _ (s : Strand) (g : Given) (unlimited : IsUnlimited g) (W : List Event) (
   listed_by (Lists order t) is = λ finite. one_list s g unlimited W done order (t s.ports.has_output) (ap (λ (w : Row). w.plan) is) finite (ap (λ (w : Row). w.early) is)
   listed_by (Sinks keeping) is = copies WritesFirst (ap (λ (w : Row). w.plan) is) (ap (λ (w : Row). w.early) is)
   listed_by Queues is = copies TakesFirst (ap (λ (w : Row). w.plan) is) (ap (λ (w : Row). w.early) is)
-  listed_by (Firsts width settles outs) is = tt
+  listed_by (Firsts width outs) is = tt
   listed_by (Turns width t) is = tt
   listed_by (Rounds width t) is = tt
   listed_by Gates is = tt
