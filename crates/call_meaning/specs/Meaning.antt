@@ -13,6 +13,7 @@ use Rattle.pipe_model.specs.Play.{play, HasEnded, IsLegal, IsLicensed, IsComplet
 use Rattle.pipe_model.specs.Alone.{IsPlainReading}
 use Rattle.pipe_model.specs.Committed.{IsCommitted, IsMove, event_at}
 use Rattle.pipe_model.specs.Plain.{IsPlain}
+use Rattle.pipe_model.specs.State.{Who, IsThere}
 use Rattle.pipe_model.specs.Reply.{Reply, WaitLine, reply}
 use Rattle.pipe_model.specs.Straight.{selected_by}
 use Rattle.pipe_model.specs.Table.{Feed, line_of}
@@ -143,7 +144,7 @@ net_on before net = fed before.input before.files net
 
 -- no record moves before every stage has reached commit level 0 with code 0
 abbrev pub IsCommittedFirst : Net → List Entry → Type 0
-IsCommittedFirst net journal = (k : ℕ) → IsMove (event_at net journal k) → (s : ℕ) → s < length net.strands → IsCommitted net (play net (take k journal)) s
+IsCommittedFirst net journal = (k : ℕ) → IsMove (event_at net journal k) → (s : Who) → IsThere net (play net (take k journal)) s → IsCommitted net (play net (take k journal)) s
 
 -- a legal journal within the steps is complete, and has this reply
 pub record Finishes (net : Net) (steps : ℕ) (answer : Reply) : Type 0 where

@@ -29,7 +29,7 @@ module _ (on : Net) (steps : ℕ) (formed : IsWellFormed on) (core : Machine) (i
     complete = subst (λ z. IsComplete z core.journal) is (stopped_complete core stopped);
     within = within;
     replies = ap (λ z. reply z (play z core.journal)) (sym is);
-    committed = λ k move s lt. committed_before on formed core.journal k legal_on move s lt;
+    committed = λ k move s there. committed_before on formed core.journal k legal_on move s there;
     plainly = λ plain ended. plain_reading on formed plain core.journal legal_on ended;
   }
 
@@ -39,7 +39,7 @@ module _ (on : Net) (steps : ℕ) (formed : IsWellFormed on) (core : Machine) (i
     journal = core.journal;
     legal = legal_on;
     full = full;
-    committed = λ k move s lt. committed_before on formed core.journal k legal_on move s lt;
+    committed = λ k move s there. committed_before on formed core.journal k legal_on move s there;
     more = (more.0, subst (λ z. IsLicensed z (play z core.journal) more.0) is more.1);
   }
 
