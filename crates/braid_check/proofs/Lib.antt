@@ -1,5 +1,9 @@
 pub mod ApartFormed
-pub mod Ends
-pub mod Origins
-pub mod Parents
+pub mod Counting
+pub mod Feeding
+pub mod Going
+pub mod Meeting
+pub mod Producing
+pub mod Rounding
+pub mod Seeking
 pub mod Ways

@@ -4,7 +4,7 @@ use Rattle.std.specs.declared.option.Option.TheVariants.{Some}
 use Rattle.pipe_model.specs.declared.net.Net.{Net}
 use Rattle.pipe_model.specs.declared.net.Strand.{Strand}
 use Rattle.pipe_model.specs.Settled.{IsSettled, Meets}
-use Rattle.pipe_model.specs.State.{Who, nothing_yet, strand_at}
+use Rattle.pipe_model.specs.State.{Who, strand_in}
 use Rattle.pipe_model.specs.Table.{form}
 use Rattle.braid_check.specs.declared.told.Settled.{Settled}
 use Rattle.braid_check.specs.declared.told.Settled.TheVariants.{Yes, Loose}
@@ -12,9 +12,9 @@ use Rattle.braid_check.specs.declared.told.Settled.TheVariants.{Yes, Loose}
 -- the strand doesn't meet what it owes in a settled net, and every lesser one does
 pub record IsLeastLoose (net : Net) (s : Who) : Type 0 where
   pub strand : Strand
-  pub there : strand_at net nothing_yet s ≡ Some strand
+  pub there : strand_in net s ≡ Some strand
   pub loose : Meets net s (form strand).meeting → ⊥
-  pub least : (t : Who) (q : Strand) → t < s → strand_at net nothing_yet t ≡ Some q → Meets net t (form q).meeting
+  pub least : (t : Who) (q : Strand) → t < s → strand_in net t ≡ Some q → Meets net t (form q).meeting
 
 abbrev pub Tells : Net → Settled → Type 0
 Tells net Yes = IsSettled net

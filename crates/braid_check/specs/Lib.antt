@@ -1,4 +1,5 @@
 pub mod Answer
 pub mod Examples
+pub mod Feeds
 pub mod Joins
 pub mod Walks

@@ -3,9 +3,8 @@ ghost use Rattle.pipe_model.specs.Form.{is_thin_by, meeting_by};
 ghost use Rattle.pipe_model.specs.Settled.{is_thin};
 ghost use Rattle.pipe_model.specs.SpecsRows.{reads};
 ghost use Rattle.pipe_model.specs.Table.{line_of};
-ghost use Rattle.braid_check.specs.Joins.{meets_by};
+ghost use Rattle.braid_check.specs.Joins.{meets_by, takes_first_by};
 
-use crate::joins::Origin;
 use pipe_model::{Item, Keep, Kind, Strand};
 
 // Whether a strand writes only what the record at hand causes, and has one input place.
@@ -85,13 +84,20 @@ fn has_read(items: &[Item]) -> bool
     false
 }
 
-// Whether a strand of this kind, to whose inputs the links come from there, meets what it owes in a settled net.
-pub(crate) fn meets(kind: &Kind, origin: Origin) -> bool
-    ensures { result ≡ meets_by (meeting_by (line_of kind.now).shape) origin }
+// Whether a strand of this kind takes what comes first.
+pub(crate) fn takes_first(kind: &Kind) -> bool
+    ensures { result ≡ takes_first_by (meeting_by (line_of kind.now).shape) }
+{
+    matches!(kind, Kind::FanInAny | Kind::Juxtapose)
+}
+
+// Whether a strand of this kind meets what it owes in a settled net, by whether it is braided.
+pub(crate) fn meets(kind: &Kind, is_braided: bool) -> bool
+    ensures { result ≡ meets_by (meeting_by (line_of kind.now).shape) is_braided }
 {
     match kind {
-        Kind::FanInAny => !matches!(origin, Origin::Several),
-        Kind::Juxtapose | Kind::Gate => false,
+        Kind::FanInAny | Kind::Juxtapose => is_braided,
+        Kind::Gate => false,
         _ => true,
     }
 }

@@ -1,11 +1,14 @@
-//! Whether the answer of a net rests on the order of its steps: a test whose cost is linear in its strands and links.
+//! Whether the answer of a net rests on the order of its steps, and where the ways to each strand that takes what comes
+//! first part.
 #![tactic(auto)]
 
 mod answer;
+mod feeds;
 mod joins;
 mod kinds;
+mod rounds;
 mod told;
 mod walks;
 
-pub use answer::settled;
+pub use answer::{forks, settled};
 pub use told::Settled;

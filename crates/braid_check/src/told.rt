@@ -1,5 +1,5 @@
-/// Whether the answer of a net doesn't rest on the order of its steps: every FANINANY takes what comes from one strand,
-/// and there is no JUXTAPOSE and no GATE.
+/// Whether the answer of a net doesn't rest on the order of its steps: the ways to every FANINANY and every JUXTAPOSE part
+/// at one strand, and there is no GATE.
 #[derive(Clone, Copy, Debug, PartialEq, Eq)]
 pub enum Settled {
     /// It doesn't.
