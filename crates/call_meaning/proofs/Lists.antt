@@ -14,4 +14,4 @@ some_lists net formed plain = by (list_any is_early net.strands)
   where
     by : (early : Bool) → (lists : Lists) × MatchBool early ((s : Who) (o : ℕ) → lists s o ≡ []) ((first : State) × IsTaggedPass net first × ((s : Who) (o : ℕ) → lists s o ≡ lists_of first s o))
     by true = (λ s o. [], λ s o. refl)
-    by false = (let pass = first_pass net formed plain in (lists_of pass.0, pass.0, pass.1, λ s o. refl))
+    by false = (let pass = first_pass net formed plain in (lists_of pass.0, (pass.0, pass.1, λ s o. refl)))

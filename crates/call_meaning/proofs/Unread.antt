@@ -1,18 +1,13 @@
 -- A net that doesn't read the input.
-use Rattle.std.proofs.Common.{◌≡◌, ◌≢◌, ℕ, ◌+◌, false, List, [], ◌∷◌, map, refl, sym, ◌∙◌, ap, ap₂, arith}
+use Rattle.std.proofs.Common.{◌≡◌, ℕ, false, List, [], ◌∷◌, map, refl, ap, ap₂}
 use Rattle.std.proofs.lemmas.Bool.{or_parts}
-use Rattle.std.proofs.lemmas.List.Elements.{Contains-append_right}
-use Rattle.std.proofs.lemmas.List.Sums.{sum_by-cons}
-use Rattle.std.specs.List.{Contains, list_any, sum_by}
+use Rattle.std.specs.List.{list_any}
 use Rattle.outside.specs.Files.{Files}
 use Rattle.pipe_model.specs.declared.kind.Kind.{Kind}
-use Rattle.pipe_model.specs.declared.kind.Kind.TheVariants.{ConsoleIn, FileIn}
+use Rattle.pipe_model.specs.declared.kind.Kind.TheVariants.{ConsoleIn}
 use Rattle.pipe_model.specs.declared.net.Net.{Net}
 use Rattle.pipe_model.specs.declared.net.Strand.{Strand}
-use Rattle.pipe_model.specs.Table.{Feed, line_of}
-use Rattle.pipe_model.specs.Table.Feed.{OfFile}
 use Rattle.net_graph.specs.Fed.{fed, fed_kind, fed_strand, reads_any, reads_input}
-use Rattle.call_meaning.specs.Meaning.{IsFileOf, file_size, files_size}
 
 module _ (a b : List ℕ) (files : Files) where
   kind_unread : (kind : Kind) → reads_input kind ≡ false → fed_kind a files kind ≡ fed_kind b files kind

@@ -1,5 +1,5 @@
 use Rattle.call_meaning.proofs.Answering.{all_meant, some_memory, told_whole}
-use Rattle.call_meaning.proofs.answering.all_is_meant.Goals as goal
+use Rattle.call_meaning.proofs.laws.all_is_meant.Goals as goal
 
 pub returns : goal.returns
 returns c = λ words old new diag diag' status answers free.
