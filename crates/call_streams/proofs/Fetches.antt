@@ -4,6 +4,8 @@ use Rattle.std.specs.Prelude.{Ok, Err, MatchResult, OnOk}
 use Rattle.std.specs.declared.result.Result.{Result}
 use Rattle.std.specs.List.{All, find, sum_by}
 use Rattle.std.specs.Option.{IfSome, option_and_then, option_map_or}
+use Rattle.std.proofs.Math.Seq.{drop-cons}
+use Rattle.std.proofs.lemmas.List.{take-append-drop}
 use Rattle.std.proofs.lemmas.List.Elements.{All-nil, All-cons, All-head, All-tail, All-push}
 use Rattle.std.proofs.lemmas.List.Sums.{sum_by_more, sum_by-take-le}
 use Rattle.std.proofs.lemmas.Option.{get_or_from_slice_get, slice_get_within}
@@ -183,14 +185,18 @@ module _ (net : Net) (k : ℕ) (now : Net) (size : ℕ) (found : List Found) (wa
 
   -- the file of the strand is the next one of the net
   file_next : size ≤ input_limit → (files : Files) → AreOf files found → (name : List ℕ) → (line_of p.kind).feed ≡ OfFile name → IsNextFile net files name
-  file_next fits files are name is = record {
-    before = take k net.strands;
-    strand = p;
-    behind = drop (suc k) net.strands;
-    strands = sym (append-take-drop k net.strands) ∙ ap (λ z. take k net.strands ++ z) (drop_at net.strands k p (strand_was files are));
-    fed_is = is;
-    fits = subst (λ n. n ≤ input_limit) (was.size_is files are) fits;
-  }
+  file_next fits files are name is =
+      let there = strand_was files are in
+      let here : drop k net.strands ≡ p ∷ drop (suc k) net.strands =
+      drop-cons net.strands k p (slice_get_within net.strands k p there) ∙ ap (λ q. q ∷ drop (suc k) net.strands) (get_or_from_slice_get net.strands k p p there) in
+      record {
+        before = take k net.strands;
+        strand = p;
+        behind = drop (suc k) net.strands;
+        strands = sym (take-append-drop k net.strands) ∙ ap (λ z. take k net.strands ++ z) here;
+        fed_is = is;
+        fits = subst (λ n. n ≤ input_limit) (was.size_is files are) fits;
+      }
 
   module _ (old new : Store) (found' : List Found) where
     -- one strand more that is given no file
