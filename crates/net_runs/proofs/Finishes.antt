@@ -18,7 +18,7 @@ module _ (on : Net) (steps workers : ℕ) (core : Machine) (is : core.net ≡ on
   pub legal_on : IsLegal on core.journal
   legal_on = subst (λ z. IsLegal z core.journal) is legal
 
-  least_on : workers ≡ 1 → AreLeast on core.journal
+  pub least_on : workers ≡ 1 → AreLeast on core.journal
   least_on one = subst (λ z. AreLeast z core.journal) is (least one)
 
   -- a complete journal

@@ -221,7 +221,7 @@ module _ (core : Machine) (steps : ℕ) where
   pub early_puts : (outcome : Outcome) (puts : List Put) → EndsAs steps core outcome → ((lines : List ℕ) × (outcome ≡ Stalled lines)) ⊎ ((spent : ℕ) × (outcome ≡ Spent spent)) → puts ≡ [] →
       ArePuts core (run_effect core outcome).files puts
   early_puts outcome puts ends (inl stalled) none =
-      no_puts outcome puts (ap (λ o. (run_effect core o).files) stalled.1 ∙ stalled_files stalled.0 (subst (EndsAs steps core) stalled.1 ends)) none
+      no_puts outcome puts (ap (λ o. (run_effect core o).files) stalled.1 ∙ ap in_order (stalled_files stalled.0 (subst (EndsAs steps core) stalled.1 ends))) none
   early_puts outcome puts ends (inr spent) none = no_puts outcome puts (ap (λ o. (run_effect core o).files) spent.1) none
 
   pub ended_puts : (outcome : Outcome) (puts : List Put) → EndsAs steps core outcome → ((lines : List ℕ) → outcome ≡ Stalled lines → ⊥) → ((spent : ℕ) → outcome ≡ Spent spent → ⊥) → All (IsPut core) puts →
