@@ -34,7 +34,7 @@ apart_less true y e f = refl
 apart_less false true e f = cc
 apart_less false false e f = cc
 
-same_neither : (x y : Bool) → (not x && not y) ≡ true → (x ≡ false) × (y ≡ false)
+pub same_neither : (x y : Bool) → (not x && not y) ≡ true → (x ≡ false) × (y ≡ false)
 same_neither true y e = cc
 same_neither false true e = cc
 same_neither false false e = (refl, refl)

@@ -11,6 +11,7 @@ use Rattle.pipe_model.specs.Event.{Event, records_on}
 use Rattle.pipe_model.specs.Shape.{Records, Stream, each_record, copied}
 use Rattle.pipe_model.specs.Next.{next}
 use Rattle.pipe_model.specs.Alone.{Given, alone_event}
+use Rattle.stream_laws.specs.InOrder.{puts_of, collated_in_order}
 use Rattle.pipe_model.specs.Listed.{pairs_of, taken_of, ending_of, are_sorted, are_distinct, fan_in_pairs, lookup_pairs, merge_pairs, collate_pairs}
 
 -- the first column of a record is its key
@@ -77,6 +78,11 @@ collated_all : collate_pairs first_column first_column (codes "a" ∷ codes "b" 
     (0, codes "b") ∷ (0, codes "b1") ∷ (0, codes "b2") ∷ (1, codes "a") ∷ (1, codes "d") ∷ (2, codes "c1") ∷ []
 collated_all = refl
 
+-- and before each master come the details of lesser keys
+collated_so : collated_in_order first_column first_column (codes "a" ∷ codes "b" ∷ codes "d" ∷ []) (codes "b1" ∷ codes "b2" ∷ codes "c1" ∷ []) ≡
+    (1, codes "a") ∷ (0, codes "b") ∷ (0, codes "b1") ∷ (0, codes "b2") ∷ (2, codes "c1") ∷ (1, codes "d") ∷ []
+collated_so = refl
+
 in_order : are_sorted first_column (codes "a1" ∷ codes "a0" ∷ codes "b" ∷ []) ≡ true
 in_order = refl
 
@@ -124,3 +130,6 @@ put_second = refl
 
 put_third : records_on 2 collated_history ≡ codes "c1" ∷ []
 put_third = refl
+
+put_in_order : puts_of collated_history ≡ (0, codes "b") ∷ (0, codes "b1") ∷ (0, codes "b2") ∷ (2, codes "c1") ∷ []
+put_in_order = refl

@@ -12,6 +12,7 @@ pub mod Leasts
 pub mod Sorts
 pub mod Merges
 pub mod Collated
+pub mod CollatedOrder
 pub mod CollateRounds
 pub mod Collates
 pub mod Examples

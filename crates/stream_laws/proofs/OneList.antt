@@ -21,11 +21,12 @@ use Rattle.pipe_model.specs.Next.Phase.{Doing}
 use Rattle.pipe_model.specs.Alone.{Given, IsAllAlone}
 use Rattle.pipe_model.specs.Inputs.{records_from}
 use Rattle.pipe_model.specs.Counts.{all_on}
-use Rattle.pipe_model.specs.Listed.{pairs_at, pairs_after, pairs_of, taken_after, taken_of, code_after, ending_of, IsUnlimited, Does}
+use Rattle.pipe_model.specs.Listed.{pairs_at, pairs_after, pairs_of, taken_after, taken_of, code_after, ending_of, IsUnlimited}
 use Rattle.pipe_model.proofs.Lists.{get_seam}
 use Rattle.confluence_laws.proofs.Within.{past_end}
-use Rattle.stream_laws.proofs.Streams.{on_both, records_all, output_both, last_on, last_is, connected}
-use Rattle.stream_laws.proofs.Places.{took, Reaches, take_one, write_all, write_rest, read_one, read_end, begins, IsDone, finish, puts_connected}
+use Rattle.stream_laws.specs.InOrder.{connected}
+use Rattle.stream_laws.proofs.Streams.{on_both, records_all, output_both, last_on, last_is}
+use Rattle.stream_laws.proofs.Places.{took, Reaches, take_one, write_all, write_rest, read_one, read_end, begins, IsDone, Did, finish}
 
 -- the acts of a record that causes a finite list of pairs
 acts_are : (o : Outs) (recs : Records) → are_finite o ≡ true → acts_of o recs ≡ writes (pairs_at o recs)
@@ -108,13 +109,13 @@ module _ (s : Strand) (g : Given) (unlimited : IsUnlimited g) (W : List Event) (
           (by_stops (t.stops now) (took 0 seen_it) (put ++ connected s.ports.has_output (pairs_at t.outs now)) more now_seen (list ∙ sym (ap (λ z. z ++ rest) it ∙ append_assoc (records_from 0 taken) (rec ∷ []) rest)) z go)
 
   -- what a strand of one list does
-  pub one_list : (form s).row.early ≡ None → Does s W (pairs_of t (g.inputs 0)) (taken_of t (g.inputs 0)) (ending_of t (g.inputs 0))
+  pub one_list : (form s).row.early ≡ None → Did s W (pairs_of t (g.inputs 0)) (taken_of t (g.inputs 0)) (ending_of t (g.inputs 0))
   one_list early =
       let a = subst (λ (z : Plan). Reaches s g unlimited W done nothing_known (begins_plan s.ports.has_output [] z) [] []) (plan_is nothing_known) (begins s g unlimited W done early) in
       let b = write_rest s g unlimited W done nothing_known t.before (next_record t []) [] [] a in
       let x = gives_before [] [] t.before (cond (t.stops []) [] (pairs_after t [] (g.inputs 0))) [] [] (ending_of t (g.inputs 0)) refl (taken_of t (g.inputs 0)) (by_stops (t.stops []) b) in
       record {
-        puts = puts_connected s g unlimited W done (pairs_of t (g.inputs 0)) x.0 (ending_of t (g.inputs 0)) x.1;
+        puts = x.1.puts;
         taken = x.1.takes 0 ∙ x.2;
         ended = x.1.ended;
       }

@@ -5,4 +5,4 @@ mod by_kind;
 mod by_shape;
 
 pub use by_kind::{collate, fan_in, look_up, merge};
-pub use by_shape::lists;
+pub use by_shape::{each_output, lists};
