@@ -10,9 +10,13 @@ pub mod Sights
 pub mod Rounded
 pub mod Leasts
 pub mod Sorts
+pub mod KeysInTurn
+pub mod Stable
+pub mod SortLaws
 pub mod Merges
 pub mod Collated
 pub mod CollatedOrder
 pub mod CollateRounds
 pub mod Collates
+pub mod Finishes
 pub mod Examples

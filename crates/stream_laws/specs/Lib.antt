@@ -1,2 +1,4 @@
 pub mod GivenLists
+pub mod Finished
 pub mod InOrder
+pub mod SameKeys

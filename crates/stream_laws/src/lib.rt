@@ -3,6 +3,10 @@
 
 mod by_kind;
 mod by_shape;
+mod ends;
+mod orders;
 
 pub use by_kind::{collate, fan_in, look_up, merge};
 pub use by_shape::{each_output, lists};
+pub use ends::finished;
+pub use orders::sorting;

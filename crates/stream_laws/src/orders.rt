@@ -1,0 +1,20 @@
+ghost use Rattle.std.specs.Prelude.{◌≡◌, ℕ, List, filter};
+ghost use Rattle.std.specs.List.Sorted.{IsPermutation, IsSortedBy};
+ghost use Rattle.pipe_model.specs.declared.keys.SortKey.{SortKey};
+ghost use Rattle.pipe_model.specs.Shape.{Records};
+ghost use Rattle.pipe_model.specs.Counts.{all_on};
+ghost use Rattle.pipe_model.specs.OrderRows.{goes_before, sort, sorted};
+ghost use Rattle.pipe_model.specs.Listed.{pairs_of};
+ghost use Rattle.stream_laws.specs.SameKeys.{have_same_keys};
+
+/// SORT puts the records that came, in the order of its keys, where those whose keys are all the same stand as they came.
+/// No other list is such.
+pub fn sorting()
+    ensures pairs { (keys : List SortKey) (recs : Records) → pairs_of (sort keys) recs ≡ all_on 0 (sorted keys recs) }
+    ensures permutation { (keys : List SortKey) (recs : Records) → IsPermutation recs (sorted keys recs) }
+    ensures in_order { (keys : List SortKey) (recs : Records) → IsSortedBy (goes_before keys) (sorted keys recs) }
+    ensures stable { (keys : List SortKey) (recs : Records) (rec : List ℕ) →
+        filter (have_same_keys keys rec) (sorted keys recs) ≡ filter (have_same_keys keys rec) recs }
+    ensures one { (keys : List SortKey) (recs done : Records) → IsSortedBy (goes_before keys) done →
+        ((rec : List ℕ) → filter (have_same_keys keys rec) done ≡ filter (have_same_keys keys rec) recs) → done ≡ sorted keys recs }
+{}
