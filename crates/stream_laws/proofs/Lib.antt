@@ -19,4 +19,6 @@ pub mod CollatedOrder
 pub mod CollateRounds
 pub mod Collates
 pub mod Finishes
+pub mod Together
+pub mod Uniques
 pub mod Examples

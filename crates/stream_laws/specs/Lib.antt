@@ -2,3 +2,4 @@ pub mod GivenLists
 pub mod Finished
 pub mod InOrder
 pub mod SameKeys
+pub mod KeyRuns

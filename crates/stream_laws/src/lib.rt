@@ -9,4 +9,4 @@ mod orders;
 pub use by_kind::{collate, fan_in, look_up, merge};
 pub use by_shape::{each_output, lists};
 pub use ends::finished;
-pub use orders::sorting;
+pub use orders::{runs, sorting};
