@@ -21,4 +21,9 @@ pub mod Collates
 pub mod Finishes
 pub mod Together
 pub mod Uniques
+pub mod LastParts
+pub mod EveryBlock
+pub mod AtStrings
+pub mod Measured
+pub mod BlockPuts
 pub mod Examples

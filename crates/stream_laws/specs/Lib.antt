@@ -3,3 +3,4 @@ pub mod Finished
 pub mod InOrder
 pub mod SameKeys
 pub mod KeyRuns
+pub mod AllBytes

@@ -1,0 +1,123 @@
+-- Bytes that are cut by lengths are records, each behind its length, and a rest that no whole record begins.
+use Rattle.std.proofs.Common.{◌≡◌, ℕ, zero, suc, ◌-◌, ◌≤◌, Bool, true, false, cond, ◌&&◌, List, [], ◌∷◌, ◌++◌, length, take, drop, refl, sym, ◌∙◌, ap, subst, arith}
+use Rattle.std.specs.Prelude.{nat_le, nat_lt}
+use Rattle.std.proofs.lemmas.Bool.{ne_eqb, and_parts, and_from, leb-true, le-leb}
+use Rattle.std.proofs.lemmas.Bool.Decides.{nat_tests}
+use Rattle.std.proofs.lemmas.List.{length-append, take-append-le, take-append-drop, length-take-le, drop-take}
+use Rattle.pipe_model.specs.Shape.{Records}
+use Rattle.pipe_model.specs.Parts.{without_last, last_part}
+use Rattle.pipe_model.specs.BlockRows.{sf_length, sf_begins, cut_by_lengths, is_bad_length}
+use Rattle.stream_laws.specs.AllBytes.{AreMeasured}
+
+-- some parts are those of these bytes
+abbrev Cuts : List ℕ → Records → Type 0
+Cuts bytes parts = AreMeasured bytes (without_last parts) (last_part parts)
+
+abbrev IsSome : Records → Type 0
+IsSome [] = ⊥
+IsSome (p ∷ parts) = Unit {0}
+
+by_later : (skip b : ℕ) (bytes : List ℕ) → cut_by_lengths (suc skip) (b ∷ bytes) ≡ cut_by_lengths skip bytes
+by_later skip b bytes =
+    ap (λ is. cut_by_lengths (cond is (sf_length (b ∷ bytes) - 1) (suc skip - 1)) bytes) (ne_eqb (suc skip) 0 (λ same. omega (arith, same)))
+    ∙ ap (λ n. cut_by_lengths n bytes) (omega arith)
+
+by_first : (b : ℕ) (bytes : List ℕ) (whole : Bool) → sf_begins (b ∷ bytes) ≡ whole →
+    cut_by_lengths 0 (b ∷ bytes) ≡ cond whole (drop 2 (take (sf_length (b ∷ bytes)) (b ∷ bytes)) ∷ cut_by_lengths (sf_length (b ∷ bytes) - 1) bytes) ((b ∷ bytes) ∷ [])
+by_first b bytes whole is = ap (λ c. cond c (drop 2 (take (sf_length (b ∷ bytes)) (b ∷ bytes)) ∷ cut_by_lengths (sf_length (b ∷ bytes) - 1) bytes) ((b ∷ bytes) ∷ [])) is
+
+-- a whole record at the front
+whole_first : (b c : ℕ) (rest : List ℕ) (parts : Records) → sf_begins (b ∷ c ∷ rest) ≡ true → IsSome parts → Cuts (drop (sf_length (b ∷ c ∷ rest) - 1) (c ∷ rest)) parts →
+    Cuts (b ∷ c ∷ rest) (drop 2 (take (sf_length (b ∷ c ∷ rest)) (b ∷ c ∷ rest)) ∷ parts)
+whole_first b c rest [] is some x = absurd some
+whole_first b c rest (p ∷ parts) is some x = (
+  b,
+  c,
+  drop (n - 1) (c ∷ rest),
+  ap (λ z. b ∷ c ∷ z) (sym (ap (λ z. z ++ drop (n - 1) (c ∷ rest)) its ∙ ap (λ z. take (n - 2) rest ++ z) behind ∙ take-append-drop (n - 2) rest)),
+  (let e = ap length its ∙ length-take-le (n - 2) rest (omega (arith, few, within)) in omega (arith, e, few)),
+  x,
+)
+  where
+    n : ℕ
+    n = sf_length (b ∷ c ∷ rest)
+
+    each : (nat_le 2 n ≡ true) × (nat_le n (length (b ∷ c ∷ rest)) ≡ true)
+    each = and_parts (nat_le 2 (sf_length (b ∷ c ∷ rest))) (nat_le (sf_length (b ∷ c ∷ rest)) (length (b ∷ c ∷ rest))) is
+
+    few : 2 ≤ n
+    few = leb-true 2 n each.0
+
+    within : n ≤ length (b ∷ c ∷ rest)
+    within = leb-true n (length (b ∷ c ∷ rest)) each.1
+
+    its : drop 2 (take n (b ∷ c ∷ rest)) ≡ take (n - 2) rest
+    its = ap (λ m. drop 2 (take m (b ∷ c ∷ rest))) (omega (arith, few)) ∙ drop-take 2 (n - 2) (b ∷ c ∷ rest)
+
+    behind : drop (n - 1) (c ∷ rest) ≡ drop (n - 2) rest
+    behind = ap (λ m. drop m (c ∷ rest)) (let e : n - 1 ≡ suc (n - 2) = omega (arith, few) in e)
+
+cuts : (skip : ℕ) (bytes : List ℕ) → IsSome (cut_by_lengths skip bytes) × Cuts (drop skip bytes) (cut_by_lengths skip bytes)
+cuts zero [] = (tt, (refl, refl))
+cuts (suc skip) [] = (tt, (refl, refl))
+cuts (suc skip) (b ∷ bytes) = subst (λ parts. IsSome parts × Cuts (drop skip bytes) parts) (sym (by_later skip b bytes)) (cuts skip bytes)
+cuts zero (b ∷ []) = (tt, (refl, refl))
+cuts zero (b ∷ c ∷ rest) = by_test (sf_begins (b ∷ c ∷ rest)) refl (cuts (sf_length (b ∷ c ∷ rest) - 1) (c ∷ rest))
+  where
+    by_test : (t : Bool) → sf_begins (b ∷ c ∷ rest) ≡ t →
+        IsSome (cut_by_lengths (sf_length (b ∷ c ∷ rest) - 1) (c ∷ rest)) × Cuts (drop (sf_length (b ∷ c ∷ rest) - 1) (c ∷ rest)) (cut_by_lengths (sf_length (b ∷ c ∷ rest) - 1) (c ∷ rest)) →
+        IsSome (cut_by_lengths 0 (b ∷ c ∷ rest)) × Cuts (b ∷ c ∷ rest) (cut_by_lengths 0 (b ∷ c ∷ rest))
+    by_test true is x = subst (λ parts. IsSome parts × Cuts (b ∷ c ∷ rest) parts) (sym (by_first b (c ∷ rest) true is)) (tt, whole_first b c rest (cut_by_lengths (sf_length (b ∷ c ∷ rest) - 1) (c ∷ rest)) is x.0 x.1)
+    by_test false is x = subst (λ parts. IsSome parts × Cuts (b ∷ c ∷ rest) parts) (sym (by_first b (c ∷ rest) false is)) (tt, (refl, is))
+
+pub are_measured : (bytes : List ℕ) → AreMeasured bytes (without_last (cut_by_lengths 0 bytes)) (last_part (cut_by_lengths 0 bytes))
+are_measured bytes = (cuts 0 bytes).1
+
+-- Behind a bad length nothing is cut
+
+some_parts : (skip : ℕ) (bytes : List ℕ) → IsSome (cut_by_lengths skip bytes)
+some_parts skip bytes = (cuts skip bytes).0
+
+last_behind : (p : List ℕ) (parts : Records) → IsSome parts → last_part (p ∷ parts) ≡ last_part parts
+last_behind p [] some = absurd some
+last_behind p (q ∷ parts) some = refl
+
+but_last_behind : (p : List ℕ) (parts : Records) → IsSome parts → without_last (p ∷ parts) ≡ p ∷ without_last parts
+but_last_behind p [] some = absurd some
+but_last_behind p (q ∷ parts) some = refl
+
+pub no_more : (skip : ℕ) (bytes more : List ℕ) → is_bad_length (last_part (cut_by_lengths skip bytes)) ≡ true → without_last (cut_by_lengths skip (bytes ++ more)) ≡ without_last (cut_by_lengths skip bytes)
+no_more skip [] more bad = cc
+no_more (suc skip) (b ∷ bytes) more bad =
+    ap without_last (by_later skip b (bytes ++ more)) ∙ no_more skip bytes more (ap (λ parts. is_bad_length (last_part parts)) (sym (by_later skip b bytes)) ∙ bad) ∙ ap without_last (sym (by_later skip b bytes))
+no_more zero (b ∷ []) more bad = cc
+no_more zero (b ∷ c ∷ rest) more bad = by_test (sf_begins (b ∷ c ∷ rest)) refl (no_more (n - 1) (c ∷ rest) more)
+  where
+    n : ℕ
+    n = sf_length (b ∷ c ∷ rest)
+
+    by_test : (t : Bool) → sf_begins (b ∷ c ∷ rest) ≡ t →
+        (is_bad_length (last_part (cut_by_lengths (n - 1) (c ∷ rest))) ≡ true → without_last (cut_by_lengths (n - 1) (c ∷ rest ++ more)) ≡ without_last (cut_by_lengths (n - 1) (c ∷ rest))) →
+        without_last (cut_by_lengths 0 (b ∷ c ∷ rest ++ more)) ≡ without_last (cut_by_lengths 0 (b ∷ c ∷ rest))
+    by_test true is behind =
+        let each = and_parts (nat_le 2 (sf_length (b ∷ c ∷ rest))) (nat_le (sf_length (b ∷ c ∷ rest)) (length (b ∷ c ∷ rest))) is in
+        let within : sf_length (b ∷ c ∷ rest) ≤ length (b ∷ c ∷ rest) = leb-true (sf_length (b ∷ c ∷ rest)) (length (b ∷ c ∷ rest)) each.1 in
+        let size = length-append (b ∷ c ∷ rest) more in
+        let later : sf_begins (b ∷ c ∷ rest ++ more) ≡ true = and_from (nat_le 2 (sf_length (b ∷ c ∷ rest))) (nat_le (sf_length (b ∷ c ∷ rest)) (length (b ∷ c ∷ rest ++ more))) each.0 (le-leb (sf_length (b ∷ c ∷ rest)) (length (b ∷ c ∷ rest ++ more)) (omega (arith, within, size))) in
+        let old = by_first b (c ∷ rest) true is in
+        let new = by_first b (c ∷ rest ++ more) true later in
+        let its : List ℕ = drop 2 (take (sf_length (b ∷ c ∷ rest)) (b ∷ c ∷ rest)) in
+        let old_parts : Records = cut_by_lengths (sf_length (b ∷ c ∷ rest) - 1) (c ∷ rest) in
+        let new_parts : Records = cut_by_lengths (sf_length (b ∷ c ∷ rest) - 1) (c ∷ rest ++ more) in
+        let still : is_bad_length (last_part old_parts) ≡ true = ap is_bad_length (sym (last_behind its old_parts (some_parts (sf_length (b ∷ c ∷ rest) - 1) (c ∷ rest)))) ∙ ap (λ parts. is_bad_length (last_part parts)) (sym old) ∙ bad in
+        ap without_last (new ∙ ap (λ z. drop 2 z ∷ new_parts) (take-append-le (sf_length (b ∷ c ∷ rest)) (b ∷ c ∷ rest) more within))
+        ∙ but_last_behind its new_parts (some_parts (sf_length (b ∷ c ∷ rest) - 1) (c ∷ rest ++ more)) ∙ ap (λ z. its ∷ z) (behind still)
+        ∙ sym (but_last_behind its old_parts (some_parts (sf_length (b ∷ c ∷ rest) - 1) (c ∷ rest))) ∙ ap without_last (sym old)
+    by_test false is behind =
+        let its : is_bad_length (b ∷ c ∷ rest) ≡ true = ap (λ parts. is_bad_length (last_part parts)) (sym (by_first b (c ∷ rest) false is)) ∙ bad in
+        let low = (and_parts (nat_le 2 (length (b ∷ c ∷ rest))) (nat_lt (sf_length (b ∷ c ∷ rest)) 2) its).1 in
+        let later : sf_begins (b ∷ c ∷ rest ++ more) ≡ false = ap (λ z. z && nat_le (sf_length (b ∷ c ∷ rest)) (length (b ∷ c ∷ rest ++ more))) (low_is (sf_length (b ∷ c ∷ rest)) low) in
+        ap without_last (by_first b (c ∷ rest ++ more) false later) ∙ ap without_last (sym (by_first b (c ∷ rest) false is))
+      where
+        low_is : (m : ℕ) → nat_lt m 2 ≡ true → nat_le 2 m ≡ false
+        low_is m low = grind (arith, nat_tests)
