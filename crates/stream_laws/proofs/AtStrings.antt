@@ -9,7 +9,7 @@ use Rattle.pipe_model.specs.Search.{begins, holds}
 use Rattle.pipe_model.specs.Proper.{is_filled}
 use Rattle.pipe_model.specs.Parts.{without_last, last_part}
 use Rattle.pipe_model.specs.BlockRows.{at_cut, cut_at}
-use Rattle.stream_laws.specs.AllBytes.{IsFree, AreDelimited}
+use Rattle.stream_laws.specs.AllBytes.{IsFree, ArePartsAt}
 
 -- Where a string begins some bytes
 
@@ -48,7 +48,7 @@ at_later string skip b bytes =
 module _ (string : List ℕ) (filled : is_filled string ≡ true) where
   -- some parts are those of these bytes
   abbrev Cuts : List ℕ → Records → Type 0
-  Cuts bytes parts = AreDelimited string bytes (without_last parts) (last_part parts)
+  Cuts bytes parts = ArePartsAt string bytes (without_last parts) (last_part parts)
 
   -- they aren't none
   abbrev IsSome : Records → Type 0
@@ -116,7 +116,7 @@ module _ (string : List ℕ) (filled : is_filled string ≡ true) where
           (tt, found_first (b ∷ bytes) (drop (length string - 1) bytes) (cut_at string (length string - 1) bytes) (ap (λ z. string ++ z) (sym (one_less string filled b bytes)) ∙ begins_is string (b ∷ bytes) is) behind.0 behind.1)
       by_test false is behind next = subst (λ parts. IsSome parts × Cuts (b ∷ bytes) parts) (sym (at_first string b bytes false is)) (some_first b (cut_at string 0 bytes), not_found b bytes (cut_at string 0 bytes) is next.0 next.1)
 
-  pub are_delimited : (bytes : List ℕ) → AreDelimited string bytes (without_last (cut_at string 0 bytes)) (last_part (cut_at string 0 bytes))
+  pub are_delimited : (bytes : List ℕ) → ArePartsAt string bytes (without_last (cut_at string 0 bytes)) (last_part (cut_at string 0 bytes))
   are_delimited bytes = (cuts 0 bytes).1
 
 -- At line feeds they are lines

@@ -14,7 +14,7 @@ use Rattle.pipe_model.specs.JoiningRows.{agree}
 use Rattle.pipe_model.specs.Listed.{are_sorted, are_distinct, collate_pairs}
 use Rattle.pipe_model.proofs.Truths.{both as and_both, or_first}
 use Rattle.pipe_model.proofs.Lists.{all_too}
-use Rattle.stream_laws.specs.InOrder.{with_details, collated_in_order}
+use Rattle.stream_laws.specs.InOrder.{with_its_details, collated_in_order}
 use Rattle.stream_laws.proofs.KeyOrder.{less_one_way, less_between, no_less, same_is}
 use Rattle.stream_laws.proofs.Collated.{apart_before, apart_behind, same_neither, fits, rising, match_apart, master_apart, detail_apart, Alike, left_pairs, left_is, before_same, match_round, master_round, detail_round}
 
@@ -43,7 +43,7 @@ module _ (of_master of_detail : Range) where
 
   -- the pairs of a master with details, where the first of them has gone before or not
   abbrev its_pairs : Bool → List ℕ → Records → List Pair
-  its_pairs true master details = with_details master details
+  its_pairs true master details = with_its_details master details
   its_pairs false master details = all_on 0 details
 
   -- what is left to put: by whether the first master has had no detail yet

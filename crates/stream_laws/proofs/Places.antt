@@ -5,8 +5,8 @@ use Rattle.std.proofs.lemmas.List.{append-nil}
 use Rattle.std.proofs.lemmas.Bool.{eqb-true}
 use Rattle.pipe_model.specs.declared.net.Strand.{Strand}
 use Rattle.pipe_model.specs.Event.{Event, Want, taken_from, last_seen_on, has_ended, code_of, puts_on}
-use Rattle.pipe_model.specs.Event.Event.{Up, Saw, SawEnd, Took, Put, Refused, Ended}
-use Rattle.pipe_model.specs.Event.Want.{Commit, Read, Take, Write, Done}
+use Rattle.pipe_model.specs.Event.Event.{Up, Saw, SawEnd, Took, Put, Refused, Primed, Ended}
+use Rattle.pipe_model.specs.Event.Want.{Commit, Read, Take, Write, Prime, Done}
 use Rattle.pipe_model.specs.Row.{Pair, Act, Goal, Known, without}
 use Rattle.pipe_model.specs.Row.Act.{Writes, Takes}
 use Rattle.pipe_model.specs.Row.Goal.{Asks, Ends}
@@ -135,6 +135,21 @@ module _ (s : Strand) (g : Given) (unlimited : IsUnlimited g) (W : List Event) (
       within = on k (Doing [] (Asks (Read i))) put taken h x (SawEnd i) (Read i) refl (ap (λ z. Some (look_alone i z)) (ap (slice_get (g.inputs i)) (sym (took_count i h) ∙ ap length (x.takes i)) ∙ hand));
       going = x.going;
       past = ap (λ (p : Past). after (form s).row s.ports.has_output p p.phase (SawEnd i)) x.past ∙ ap (when_asked (form s).row s.ports.has_output (mk k (Doing [] (Asks (Read i)))) (SawEnd i)) (test_same i);
+      puts = x.puts;
+      takes = x.takes;
+      last = x.last;
+    },
+  )
+
+  -- it is told whether DAM's first strand sees a record
+  pub told_primed : (k : Known) (put taken : List Pair) → Reaches k (Doing [] (Asks Prime)) put taken →
+      Reaches (hears k (Primed g.primed)) (begins_plan s.ports.has_output [] ((form s).row.plan (hears k (Primed g.primed)))) put taken
+  told_primed k put taken (h, x) = (
+    Primed g.primed ∷ h,
+    record {
+      within = on k (Doing [] (Asks Prime)) put taken h x (Primed g.primed) Prime refl refl;
+      going = x.going;
+      past = ap (λ (p : Past). after (form s).row s.ports.has_output p p.phase (Primed g.primed)) x.past;
       puts = x.puts;
       takes = x.takes;
       last = x.last;

@@ -18,7 +18,7 @@ use Rattle.pipe_model.specs.Listed.{pairs_of, pairs_after}
 use Rattle.pipe_model.proofs.Growth.{grown-all}
 use Rattle.pipe_model.proofs.Runs.{unique-grows}
 use Rattle.pipe_model.proofs.Truths.{both as and_both}
-use Rattle.stream_laws.specs.KeyRuns.{have_one_key, EndsThere, AreRuns, all_of}
+use Rattle.stream_laws.specs.KeyRuns.{have_one_key, EndsThere, AreKeyRuns, all_of}
 use Rattle.stream_laws.proofs.Together.{adding, all_after, all_never}
 
 -- Keys
@@ -50,7 +50,7 @@ module _ (range : Range) where
   -- The runs
 
   -- a record before some runs, by whether the first has its key
-  runs_with : (rec next : List ℕ) (run : Records) (runs : List Records) → AreRuns range ((next ∷ run) ∷ runs) → (b : Bool) → have_one_key range rec next ≡ b → AreRuns range (cond b ((rec ∷ next ∷ run) ∷ runs) ((rec ∷ []) ∷ (next ∷ run) ∷ runs))
+  runs_with : (rec next : List ℕ) (run : Records) (runs : List Records) → AreKeyRuns range ((next ∷ run) ∷ runs) → (b : Bool) → have_one_key range rec next ≡ b → AreKeyRuns range (cond b ((rec ∷ next ∷ run) ∷ runs) ((rec ∷ []) ∷ (next ∷ run) ∷ runs))
   runs_with rec next run runs are true is =
       let e : key rec ≡ key next = same_means (key rec) (key next) is in (
         ap (λ z. z && list_all (have_one_key range rec) run) is ∙ subst (λ z. list_all (λ other. is_same z (key other)) run ≡ true) (sym e) are.0,
@@ -64,12 +64,12 @@ module _ (range : Range) where
       ends ((other ∷ others) ∷ runs) there e = ap (λ z. is_same z (key other)) e ∙ there
   runs_with rec next run runs are false is = (refl, is, are)
 
-  onto_are : (rec : List ℕ) (runs : List Records) → AreRuns range runs → AreRuns range (onto_runs range rec runs)
+  onto_are : (rec : List ℕ) (runs : List Records) → AreKeyRuns range runs → AreKeyRuns range (onto_runs range rec runs)
   onto_are rec [] are = (refl, tt, tt)
   onto_are rec ([] ∷ runs) are = absurd are.0
   onto_are rec ((next ∷ run) ∷ runs) are = runs_with rec next run runs are (have_one_key range rec next) refl
 
-  pub are_runs : (recs : Records) → AreRuns range (runs_of range recs)
+  pub are_runs : (recs : Records) → AreKeyRuns range (runs_of range recs)
   are_runs [] = tt
   are_runs (rec ∷ recs) = onto_are rec (runs_of range recs) (are_runs recs)
 

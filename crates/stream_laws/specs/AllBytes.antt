@@ -16,7 +16,7 @@ abbrev pub IsFree : List ℕ → List ℕ → Type 0
 IsFree string part = (k : ℕ) → k < length part → begins string (drop k (part ++ string)) ≡ false
 
 -- parts that each end before the first occurrence of the string, which is dropped, and behind them a rest in which it doesn't stand
-pub record AreDelimited (string bytes : List ℕ) (parts : Records) (rest : List ℕ) : Type 0 where
+pub record ArePartsAt (string bytes : List ℕ) (parts : Records) (rest : List ℕ) : Type 0 where
   pub each : All (IsFree string) parts
   pub none : holds string rest ≡ false
   pub whole : concat (map (λ part. part ++ string) parts) ++ rest ≡ bytes

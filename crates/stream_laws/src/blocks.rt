@@ -9,7 +9,7 @@ ghost use Rattle.pipe_model.specs.Counts.{all_on};
 ghost use Rattle.pipe_model.specs.Proper.{is_filled};
 ghost use Rattle.pipe_model.specs.BlockRows.{block, deblock, fblock, filled, image_of, is_too_long, some_rest};
 ghost use Rattle.pipe_model.specs.Listed.{pairs_of};
-ghost use Rattle.stream_laws.specs.AllBytes.{AreBlocks, AreDelimited, AreMeasured};
+ghost use Rattle.stream_laws.specs.AllBytes.{AreBlocks, ArePartsAt, AreMeasured};
 
 /// FBLOCK puts the bytes of all records, one after another, in blocks of its size; the rest of fewer bytes, where there is
 /// one, is the last block, filled to the size where a byte is given.
@@ -33,7 +33,7 @@ pub fn records_of_bytes()
         AreBlocks size (concat recs) parts rest × (pairs_of (deblock (Cuttings.Fixed size)) recs ≡ all_on 0 (parts ++ some_rest rest)) }
     ensures by_lines { (recs : Records) → pairs_of (deblock Cuttings.Linend) recs ≡ all_on 0 (lines (concat recs)) }
     ensures by_string { (string : List ℕ) (recs : Records) → is_filled string ≡ true → (parts : Records) × (rest : List ℕ) ×
-        AreDelimited string (concat recs) parts rest × (pairs_of (deblock (Cuttings.Text string)) recs ≡ all_on 0 (parts ++ some_rest rest)) }
+        ArePartsAt string (concat recs) parts rest × (pairs_of (deblock (Cuttings.Text string)) recs ≡ all_on 0 (parts ++ some_rest rest)) }
     ensures by_lengths { (recs : Records) → (parts : Records) × (rest : List ℕ) ×
         AreMeasured (concat recs) parts rest × (pairs_of (deblock Cuttings.Sf) recs ≡ all_on 0 parts) }
 {}

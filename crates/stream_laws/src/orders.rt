@@ -8,7 +8,7 @@ ghost use Rattle.pipe_model.specs.Counts.{all_on};
 ghost use Rattle.pipe_model.specs.OrderRows.{goes_before, run_pairs, runs_of, sort, sorted, unique};
 ghost use Rattle.pipe_model.specs.Listed.{pairs_of};
 ghost use Rattle.stream_laws.specs.SameKeys.{have_same_keys};
-ghost use Rattle.stream_laws.specs.KeyRuns.{all_of, AreRuns};
+ghost use Rattle.stream_laws.specs.KeyRuns.{all_of, AreKeyRuns};
 
 /// SORT puts the records that came, in the order of its keys, where those whose keys are all the same stand as they came.
 /// No other list is such.
@@ -28,5 +28,5 @@ pub fn runs()
     ensures pairs { (count : Bool) (range : Range) (keep : Keep) (recs : Records) →
         pairs_of (unique count range keep) recs ≡ flat_map (run_pairs count keep) (runs_of range recs) }
     ensures whole { (range : Range) (recs : Records) → all_of (runs_of range recs) ≡ recs }
-    ensures by_key { (range : Range) (recs : Records) → AreRuns range (runs_of range recs) }
+    ensures by_key { (range : Range) (recs : Records) → AreKeyRuns range (runs_of range recs) }
 {}
