@@ -1,7 +1,7 @@
 -- What FBLOCK, BLOCK and DEBLOCK put of all records together.
-use Rattle.std.proofs.Common.{◌≡◌, ℕ, Bool, true, false, cond, ◌||◌, List, [], ◌∷◌, ◌++◌, take, map, refl, sym, ◌∙◌, ap, arith, Option, Some, ℤ, append_assoc}
+use Rattle.std.proofs.Common.{◌≡◌, ℕ, Bool, true, false, cond, ◌||◌, List, [], ◌∷◌, ◌++◌, take, map, refl, sym, ◌∙◌, ap, arith, pos, ◌==◌, Option, Some, ℤ, append_assoc}
 use Rattle.std.specs.Prelude.{nat_lt, length, not, suc, ◌+◌}
-use Rattle.std.proofs.lemmas.Bool.{cond-true}
+use Rattle.std.proofs.lemmas.Bool.{cond-true, ne_eqb}
 use Rattle.std.specs.List.{concat, list_any, before_first, prefix_len}
 use Rattle.std.proofs.lemmas.List.{append-nil, map-append}
 use Rattle.std.proofs.lemmas.List.Folds.{concat-append}
@@ -14,7 +14,7 @@ use Rattle.pipe_model.specs.Records.{lines, without_empty_last}
 use Rattle.pipe_model.specs.Counts.{all_on}
 use Rattle.pipe_model.specs.Parts.{without_last, last_part, grown, by_parts, cut_every}
 use Rattle.pipe_model.specs.BlockRows.{some_rest, filled, fblock, is_too_long, two_bytes, image_of, block, deblock_sf, cut_at, cut_by_lengths, is_bad_length, deblock}
-use Rattle.pipe_model.specs.Listed.{pairs_of, pairs_after}
+use Rattle.pipe_model.specs.Listed.{pairs_of, pairs_after, code_after, ending_of}
 use Rattle.pipe_model.proofs.Growth.{Grows, grown-all, fblock-grows, block-grows, deblock-grows}
 use Rattle.stream_laws.proofs.Streams.{at_hand_last, output_both}
 use Rattle.stream_laws.proofs.Together.{all_with, all_after, all_never}
@@ -125,6 +125,21 @@ module _ (size : ℕ) (image : Image) where
       ∙ all_after (complete blocks grows) (added blocks grows) (Some last) stops code (complete_grow blocks grows) [] recs
       ∙ block_all [] recs
 
+  -- it ends with code 8 for a record that is too long
+  code_all : (recs rest : Records) → is_too_long image (at_hand_of recs) ≡ false → code_after (block size image) recs rest ≡ cond (list_any (is_too_long image) rest) (pos 8) (pos 0)
+  code_all recs [] short = ap (λ b. cond b (pos 8) (pos 0)) short
+  code_all recs (rec ∷ rest) short =
+      ap (λ r. cond (is_too_long image r) (cond (is_too_long image r) (pos 8) (pos 0)) (code_after (block size image) (recs ++ rec ∷ []) rest)) (at_hand_last recs rec)
+      ∙ by_length (is_too_long image rec) refl (λ now. code_all (recs ++ rec ∷ []) rest now)
+    where
+      by_length : (b : Bool) → is_too_long image rec ≡ b → (is_too_long image (at_hand_of (recs ++ rec ∷ [])) ≡ false → code_after (block size image) (recs ++ rec ∷ []) rest ≡ cond (list_any (is_too_long image) rest) (pos 8) (pos 0)) →
+          cond b (cond b (pos 8) (pos 0)) (code_after (block size image) (recs ++ rec ∷ []) rest) ≡ cond (b || list_any (is_too_long image) rest) (pos 8) (pos 0)
+      by_length true is later = refl
+      by_length false is later = later (ap (is_too_long image) (at_hand_last recs rec) ∙ is)
+
+  pub block_ends : (recs : Records) → ending_of (block size image) recs ≡ cond (list_any (is_too_long image) recs) (pos 8) (pos 0)
+  block_ends recs = ap (λ b. cond b ((block size image).code []) (code_after (block size image) [] recs)) (none_yet image) ∙ code_all [] recs (none_yet image)
+
 -- DEBLOCK
 
 -- by lengths
@@ -149,13 +164,42 @@ sf_all recs (rec ∷ rest) = by_end (is_over (recs ++ rec ∷ [])) refl (sf_all 
 
     by_end : (b : Bool) → is_over now ≡ b → all_with (complete measured (deblock-grows Cuttings.Sf)) (added measured (deblock-grows Cuttings.Sf)) (Some nothing_last) is_over sf_code now rest ≡ all_on 0 (without_last (measured (now ++ rest))) →
         cond b (all_on 0 (without_last (measured now))) (all_with (complete measured (deblock-grows Cuttings.Sf)) (added measured (deblock-grows Cuttings.Sf)) (Some nothing_last) is_over sf_code now rest) ≡ all_on 0 (without_last (measured (now ++ rest)))
-    by_end true is e = ap (all_on 0) (sym (no_more 0 (concat now) (concat rest) is)) ∙ ap (λ z. all_on 0 (without_last (cut_by_lengths 0 z))) (sym (concat-append now rest))
+    by_end true is e = ap (all_on 0) (sym (no_more 0 (concat now) (concat rest) is).0) ∙ ap (λ z. all_on 0 (without_last (cut_by_lengths 0 z))) (sym (concat-append now rest))
     by_end false is e = e
 
 pub deblock_lengths_puts : (recs : Records) → pairs_of (deblock Cuttings.Sf) recs ≡ all_on 0 (without_last (measured recs))
 deblock_lengths_puts recs =
     all_after (complete measured (deblock-grows Cuttings.Sf)) (added measured (deblock-grows Cuttings.Sf)) (Some nothing_last) is_over sf_code (complete_grow measured (deblock-grows Cuttings.Sf)) [] recs
     ∙ sf_all [] recs
+
+-- a rest gives code 8
+sf_rest : (recs rest : Records) → code_after (deblock Cuttings.Sf) recs rest ≡ sf_code (recs ++ rest)
+sf_rest recs [] = ap sf_code (sym (append-nil recs))
+sf_rest recs (rec ∷ rest) = by_end (is_over (recs ++ rec ∷ [])) refl (sf_rest (recs ++ rec ∷ []) rest) ∙ ap sf_code (append_assoc recs (rec ∷ []) rest)
+  where
+    now : Records
+    now = recs ++ rec ∷ []
+
+    filled_rest : (last : List ℕ) → is_bad_length last ≡ true → (length last == 0) ≡ false
+    filled_rest [] bad = cc
+    filled_rest (b ∷ last) bad = ne_eqb (length (b ∷ last)) 0 (λ e. omega (arith, e))
+
+    still_filled : (last more : List ℕ) → (length last == 0) ≡ false → (length (last ++ more) == 0) ≡ false
+    still_filled [] more is = cc
+    still_filled (b ∷ last) more is = ne_eqb (length (b ∷ last ++ more)) 0 (λ e. omega (arith, e))
+
+    by_end : (b : Bool) → is_over now ≡ b → code_after (deblock Cuttings.Sf) now rest ≡ sf_code (now ++ rest) → cond b (sf_code now) (code_after (deblock Cuttings.Sf) now rest) ≡ sf_code (now ++ rest)
+    by_end true is e =
+        let filled = filled_rest (last_part (measured now)) is in
+        ap (λ b. cond b (pos 0) (pos 8)) (
+        filled ∙ sym (
+        ap (λ z. length (last_part (cut_by_lengths 0 z)) == 0) (concat-append now rest) ∙ ap (λ z. length z == 0) (no_more 0 (concat now) (concat rest) is).1 ∙ still_filled (last_part (measured now)) (concat rest) filled
+        )
+        )
+    by_end false is e = e
+
+pub deblock_lengths_ends : (recs : Records) → ending_of (deblock Cuttings.Sf) recs ≡ cond (length (last_part (measured recs)) == 0) (pos 0) (pos 8)
+deblock_lengths_ends recs = sf_rest [] recs
 
 pub deblock_fixed_puts : (size : ℕ) (recs : Records) → pairs_of (deblock (Cuttings.Fixed size)) recs ≡ all_on 0 (without_last (cut_every size (concat recs)) ++ some_rest (last_part (cut_every size (concat recs))))
 deblock_fixed_puts size recs = parts_put (λ all. cut_every size (concat all)) (deblock-grows (Cuttings.Fixed size)) some_rest refl recs

@@ -86,10 +86,16 @@ but_last_behind : (p : List ℕ) (parts : Records) → IsSome parts → without_
 but_last_behind p [] some = absurd some
 but_last_behind p (q ∷ parts) some = refl
 
-pub no_more : (skip : ℕ) (bytes more : List ℕ) → is_bad_length (last_part (cut_by_lengths skip bytes)) ≡ true → without_last (cut_by_lengths skip (bytes ++ more)) ≡ without_last (cut_by_lengths skip bytes)
+-- the rest is only made longer
+abbrev pub IsClosed : Records → Records → List ℕ → Type 0
+IsClosed old new more = (without_last new ≡ without_last old) × (last_part new ≡ last_part old ++ more)
+
+pub no_more : (skip : ℕ) (bytes more : List ℕ) → is_bad_length (last_part (cut_by_lengths skip bytes)) ≡ true → IsClosed (cut_by_lengths skip bytes) (cut_by_lengths skip (bytes ++ more)) more
 no_more skip [] more bad = cc
 no_more (suc skip) (b ∷ bytes) more bad =
-    ap without_last (by_later skip b (bytes ++ more)) ∙ no_more skip bytes more (ap (λ parts. is_bad_length (last_part parts)) (sym (by_later skip b bytes)) ∙ bad) ∙ ap without_last (sym (by_later skip b bytes))
+    subst (λ new. IsClosed (cut_by_lengths (suc skip) (b ∷ bytes)) new more) (sym (by_later skip b (bytes ++ more)))
+    (subst (λ old. IsClosed old (cut_by_lengths skip (bytes ++ more)) more) (sym (by_later skip b bytes))
+    (no_more skip bytes more (ap (λ parts. is_bad_length (last_part parts)) (sym (by_later skip b bytes)) ∙ bad)))
 no_more zero (b ∷ []) more bad = cc
 no_more zero (b ∷ c ∷ rest) more bad = by_test (sf_begins (b ∷ c ∷ rest)) refl (no_more (n - 1) (c ∷ rest) more)
   where
@@ -97,27 +103,31 @@ no_more zero (b ∷ c ∷ rest) more bad = by_test (sf_begins (b ∷ c ∷ rest)
     n = sf_length (b ∷ c ∷ rest)
 
     by_test : (t : Bool) → sf_begins (b ∷ c ∷ rest) ≡ t →
-        (is_bad_length (last_part (cut_by_lengths (n - 1) (c ∷ rest))) ≡ true → without_last (cut_by_lengths (n - 1) (c ∷ rest ++ more)) ≡ without_last (cut_by_lengths (n - 1) (c ∷ rest))) →
-        without_last (cut_by_lengths 0 (b ∷ c ∷ rest ++ more)) ≡ without_last (cut_by_lengths 0 (b ∷ c ∷ rest))
+        (is_bad_length (last_part (cut_by_lengths (n - 1) (c ∷ rest))) ≡ true → IsClosed (cut_by_lengths (n - 1) (c ∷ rest)) (cut_by_lengths (n - 1) (c ∷ rest ++ more)) more) →
+        IsClosed (cut_by_lengths 0 (b ∷ c ∷ rest)) (cut_by_lengths 0 (b ∷ c ∷ rest ++ more)) more
     by_test true is behind =
-        let each = and_parts (nat_le 2 (sf_length (b ∷ c ∷ rest))) (nat_le (sf_length (b ∷ c ∷ rest)) (length (b ∷ c ∷ rest))) is in
-        let within : sf_length (b ∷ c ∷ rest) ≤ length (b ∷ c ∷ rest) = leb-true (sf_length (b ∷ c ∷ rest)) (length (b ∷ c ∷ rest)) each.1 in
+        let each = and_parts (nat_le 2 n) (nat_le n (length (b ∷ c ∷ rest))) is in
+        let within : n ≤ length (b ∷ c ∷ rest) = leb-true n (length (b ∷ c ∷ rest)) each.1 in
         let size = length-append (b ∷ c ∷ rest) more in
-        let later : sf_begins (b ∷ c ∷ rest ++ more) ≡ true = and_from (nat_le 2 (sf_length (b ∷ c ∷ rest))) (nat_le (sf_length (b ∷ c ∷ rest)) (length (b ∷ c ∷ rest ++ more))) each.0 (le-leb (sf_length (b ∷ c ∷ rest)) (length (b ∷ c ∷ rest ++ more)) (omega (arith, within, size))) in
-        let old = by_first b (c ∷ rest) true is in
-        let new = by_first b (c ∷ rest ++ more) true later in
-        let its : List ℕ = drop 2 (take (sf_length (b ∷ c ∷ rest)) (b ∷ c ∷ rest)) in
-        let old_parts : Records = cut_by_lengths (sf_length (b ∷ c ∷ rest) - 1) (c ∷ rest) in
-        let new_parts : Records = cut_by_lengths (sf_length (b ∷ c ∷ rest) - 1) (c ∷ rest ++ more) in
-        let still : is_bad_length (last_part old_parts) ≡ true = ap is_bad_length (sym (last_behind its old_parts (some_parts (sf_length (b ∷ c ∷ rest) - 1) (c ∷ rest)))) ∙ ap (λ parts. is_bad_length (last_part parts)) (sym old) ∙ bad in
-        ap without_last (new ∙ ap (λ z. drop 2 z ∷ new_parts) (take-append-le (sf_length (b ∷ c ∷ rest)) (b ∷ c ∷ rest) more within))
-        ∙ but_last_behind its new_parts (some_parts (sf_length (b ∷ c ∷ rest) - 1) (c ∷ rest ++ more)) ∙ ap (λ z. its ∷ z) (behind still)
-        ∙ sym (but_last_behind its old_parts (some_parts (sf_length (b ∷ c ∷ rest) - 1) (c ∷ rest))) ∙ ap without_last (sym old)
+        let later : sf_begins (b ∷ c ∷ rest ++ more) ≡ true = and_from (nat_le 2 n) (nat_le n (length (b ∷ c ∷ rest ++ more))) each.0 (le-leb n (length (b ∷ c ∷ rest ++ more)) (omega (arith, within, size))) in
+        let its : List ℕ = drop 2 (take n (b ∷ c ∷ rest)) in
+        let old_parts : Records = cut_by_lengths (n - 1) (c ∷ rest) in
+        let new_parts : Records = cut_by_lengths (n - 1) (c ∷ rest ++ more) in
+        let old : cut_by_lengths 0 (b ∷ c ∷ rest) ≡ its ∷ old_parts = by_first b (c ∷ rest) true is in
+        let new : cut_by_lengths 0 (b ∷ c ∷ rest ++ more) ≡ its ∷ new_parts = by_first b (c ∷ rest ++ more) true later ∙ ap (λ z. drop 2 z ∷ new_parts) (take-append-le n (b ∷ c ∷ rest) more within) in
+        let some_old = some_parts (n - 1) (c ∷ rest) in
+        let some_new = some_parts (n - 1) (c ∷ rest ++ more) in
+        let closed = behind (ap is_bad_length (sym (last_behind its old_parts some_old)) ∙ ap (λ parts. is_bad_length (last_part parts)) (sym old) ∙ bad) in
+        subst (λ z. IsClosed z (cut_by_lengths 0 (b ∷ c ∷ rest ++ more)) more) (sym old) (subst (λ z. IsClosed (its ∷ old_parts) z more) (sym new) (
+          but_last_behind its new_parts some_new ∙ ap (λ z. its ∷ z) closed.0 ∙ sym (but_last_behind its old_parts some_old),
+          last_behind its new_parts some_new ∙ closed.1 ∙ ap (λ z. z ++ more) (sym (last_behind its old_parts some_old)),
+        ))
     by_test false is behind =
         let its : is_bad_length (b ∷ c ∷ rest) ≡ true = ap (λ parts. is_bad_length (last_part parts)) (sym (by_first b (c ∷ rest) false is)) ∙ bad in
-        let low = (and_parts (nat_le 2 (length (b ∷ c ∷ rest))) (nat_lt (sf_length (b ∷ c ∷ rest)) 2) its).1 in
-        let later : sf_begins (b ∷ c ∷ rest ++ more) ≡ false = ap (λ z. z && nat_le (sf_length (b ∷ c ∷ rest)) (length (b ∷ c ∷ rest ++ more))) (low_is (sf_length (b ∷ c ∷ rest)) low) in
-        ap without_last (by_first b (c ∷ rest ++ more) false later) ∙ ap without_last (sym (by_first b (c ∷ rest) false is))
+        let low = (and_parts (nat_le 2 (length (b ∷ c ∷ rest))) (nat_lt n 2) its).1 in
+        let later : sf_begins (b ∷ c ∷ rest ++ more) ≡ false = ap (λ z. z && nat_le n (length (b ∷ c ∷ rest ++ more))) (low_is n low) in
+        subst (λ z. IsClosed z (cut_by_lengths 0 (b ∷ c ∷ rest ++ more)) more) (sym (by_first b (c ∷ rest) false is))
+        (subst (λ z. IsClosed ((b ∷ c ∷ rest) ∷ []) z more) (sym (by_first b (c ∷ rest ++ more) false later)) (refl, refl))
       where
         low_is : (m : ℕ) → nat_lt m 2 ≡ true → nat_le 2 m ≡ false
         low_is m low = grind (arith, nat_tests)

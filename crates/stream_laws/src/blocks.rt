@@ -1,4 +1,4 @@
-ghost use Rattle.std.specs.Prelude.{◌≡◌, ◌<◌, ◌++◌, if◌then◌else◌, ℕ, List, [], map, true};
+ghost use Rattle.std.specs.Prelude.{◌≡◌, ◌<◌, ◌++◌, ◌==◌, if◌then◌else◌, ℕ, List, [], length, map, pos, true};
 ghost use Rattle.std.specs.List.{before_first, concat, list_any};
 ghost use Rattle.std.specs.declared.option.Option.{Option};
 ghost use Rattle.pipe_model.specs.declared.kind.Cutting.TheVariants as Cuttings;
@@ -8,7 +8,7 @@ ghost use Rattle.pipe_model.specs.Records.{lines};
 ghost use Rattle.pipe_model.specs.Counts.{all_on};
 ghost use Rattle.pipe_model.specs.Proper.{is_filled};
 ghost use Rattle.pipe_model.specs.BlockRows.{block, deblock, fblock, filled, image_of, is_too_long, some_rest};
-ghost use Rattle.pipe_model.specs.Listed.{pairs_of};
+ghost use Rattle.pipe_model.specs.Listed.{ending_of, pairs_of};
 ghost use Rattle.stream_laws.specs.AllBytes.{AreBlocks, ArePartsAt, AreMeasured};
 
 /// FBLOCK puts the bytes of all records, one after another, in blocks of its size; the rest of fewer bytes, where there is
@@ -19,15 +19,17 @@ pub fn blocks_of_bytes()
 {}
 
 /// BLOCK puts the images of the records in blocks of its size, and the rest of fewer bytes last. A record that is too long
-/// ends it: then it puts the full blocks of those before that one alone.
+/// ends it with code 8: then it puts the full blocks of those before that one alone.
 pub fn blocks_of_images()
-    ensures { (size : ℕ) (image : Image) (recs : Records) → 0 < size → (blocks : Records) × (rest : List ℕ) ×
+    ensures pairs { (size : ℕ) (image : Image) (recs : Records) → 0 < size → (blocks : Records) × (rest : List ℕ) ×
         AreBlocks size (concat (map (image_of image) (before_first (is_too_long image) recs))) blocks rest ×
         (pairs_of (block size image) recs ≡ all_on 0 (blocks ++ (if list_any (is_too_long image) recs then [] else some_rest rest))) }
+    ensures code { (size : ℕ) (image : Image) (recs : Records) →
+        ending_of (block size image) recs ≡ (if list_any (is_too_long image) recs then pos 8 else pos 0) }
 {}
 
 /// DEBLOCK cuts the bytes of all records, one after another, into records anew: of a size, where the last may have fewer
-/// bytes; into lines; between the occurrences of a string; or by the length before each, where a rest isn't put.
+/// bytes; into lines; between the occurrences of a string; or by the length before each, where a rest isn't put and gives code 8.
 pub fn records_of_bytes()
     ensures by_size { (size : ℕ) (recs : Records) → 0 < size → (parts : Records) × (rest : List ℕ) ×
         AreBlocks size (concat recs) parts rest × (pairs_of (deblock (Cuttings.Fixed size)) recs ≡ all_on 0 (parts ++ some_rest rest)) }
@@ -35,5 +37,6 @@ pub fn records_of_bytes()
     ensures by_string { (string : List ℕ) (recs : Records) → is_filled string ≡ true → (parts : Records) × (rest : List ℕ) ×
         ArePartsAt string (concat recs) parts rest × (pairs_of (deblock (Cuttings.Text string)) recs ≡ all_on 0 (parts ++ some_rest rest)) }
     ensures by_lengths { (recs : Records) → (parts : Records) × (rest : List ℕ) ×
-        AreMeasured (concat recs) parts rest × (pairs_of (deblock Cuttings.Sf) recs ≡ all_on 0 parts) }
+        AreMeasured (concat recs) parts rest × (pairs_of (deblock Cuttings.Sf) recs ≡ all_on 0 parts) ×
+        (ending_of (deblock Cuttings.Sf) recs ≡ (if length rest == 0 then pos 0 else pos 8)) }
 {}
