@@ -26,4 +26,5 @@ pub mod EveryBlock
 pub mod AtStrings
 pub mod Measured
 pub mod BlockPuts
+pub mod OneCut
 pub mod Examples

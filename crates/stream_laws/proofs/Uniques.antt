@@ -86,6 +86,35 @@ module _ (range : Range) where
   all_in_runs [] = refl
   all_in_runs (rec ∷ recs) = onto_all rec (runs_of range recs) ∙ ap (λ z. rec ∷ z) (all_in_runs recs)
 
+  -- There are no others
+
+  run_again : (rec : List ℕ) (run : Records) (runs : List Records) → list_all (have_one_key range rec) run ≡ true → EndsThere range (rec ∷ run) runs → AreKeyRuns range runs → runs_of range (all_of runs) ≡ runs →
+      runs_of range (rec ∷ run ++ all_of runs) ≡ (rec ∷ run) ∷ runs
+  run_again rec [] runs alike ends are again = ap (onto_runs range rec) again ∙ behind runs ends are
+    where
+      behind : (runs : List Records) → EndsThere range (rec ∷ []) runs → AreKeyRuns range runs → onto_runs range rec runs ≡ (rec ∷ []) ∷ runs
+      behind [] ends are = refl
+      behind ([] ∷ runs) ends are = absurd are.0
+      behind ((next ∷ run) ∷ runs) ends are = ap (λ b. cond b ((rec ∷ next ∷ run) ∷ runs) ((rec ∷ []) ∷ (next ∷ run) ∷ runs)) ends
+  run_again rec (next ∷ run) runs alike ends are again =
+      let b = and_both (have_one_key range rec next) (list_all (have_one_key range rec) run) alike in
+      let e : key rec ≡ key next = same_means (key rec) (key next) b.0 in
+      ap (onto_runs range rec) (run_again next run runs (subst (λ z. list_all (λ other. is_same z (key other)) run ≡ true) e b.1) (still runs ends e) are again)
+      ∙ ap (λ b. cond b ((rec ∷ next ∷ run) ∷ runs) ((rec ∷ []) ∷ (next ∷ run) ∷ runs)) b.0
+    where
+      still : (runs : List Records) → EndsThere range (rec ∷ next ∷ run) runs → key rec ≡ key next → EndsThere range (next ∷ run) runs
+      still [] there e = tt
+      still ([] ∷ runs) there e = tt
+      still ((other ∷ others) ∷ runs) there e = ap (λ z. is_same z (key other)) (sym e) ∙ there
+
+  all_again : (runs : List Records) → AreKeyRuns range runs → runs_of range (all_of runs) ≡ runs
+  all_again [] are = refl
+  all_again ([] ∷ runs) are = absurd are.0
+  all_again ((rec ∷ run) ∷ runs) are = run_again rec run runs are.0 are.1 are.2 (all_again runs are.2)
+
+  pub no_other_runs : (recs : Records) (runs : List Records) → all_of runs ≡ recs → AreKeyRuns range runs → runs ≡ runs_of range recs
+  no_other_runs recs runs whole are = sym (all_again runs are) ∙ ap (runs_of range) whole
+
   -- FIRST
 
   -- 1 for a record that the one before it has the key of

@@ -40,3 +40,13 @@ pub fn records_of_bytes()
         AreMeasured (concat recs) parts rest × (pairs_of (deblock Cuttings.Sf) recs ≡ all_on 0 parts) ×
         (ending_of (deblock Cuttings.Sf) recs ≡ (if length rest == 0 then pos 0 else pos 8)) }
 {}
+
+/// Bytes are blocks of a size, parts at a string or records with their lengths in one way, so what is put is told by that.
+pub fn one_cut()
+    ensures by_size { (n : ℕ) (bytes : List ℕ) (blocks others : Records) (rest other : List ℕ) →
+        AreBlocks n bytes blocks rest → AreBlocks n bytes others other → (blocks ≡ others) × (rest ≡ other) }
+    ensures by_string { (string bytes : List ℕ) (parts others : Records) (rest other : List ℕ) → is_filled string ≡ true →
+        ArePartsAt string bytes parts rest → ArePartsAt string bytes others other → (parts ≡ others) × (rest ≡ other) }
+    ensures by_lengths { (bytes : List ℕ) (parts others : Records) (rest other : List ℕ) →
+        AreMeasured bytes parts rest → AreMeasured bytes others other → (parts ≡ others) × (rest ≡ other) }
+{}

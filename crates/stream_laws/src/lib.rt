@@ -7,7 +7,7 @@ mod by_shape;
 mod ends;
 mod orders;
 
-pub use blocks::{blocks_of_bytes, blocks_of_images, records_of_bytes};
+pub use blocks::{blocks_of_bytes, blocks_of_images, one_cut, records_of_bytes};
 pub use by_kind::{collate, fan_in, look_up, merge};
 pub use by_shape::{each_output, lists};
 pub use ends::finished;

@@ -23,10 +23,13 @@ pub fn sorting()
 {}
 
 /// UNIQUE puts the pairs of one run of all records after another: with FIRST its first record on output 0 and the others on
-/// output 1, with LAST its last one, and by MULTIPLE and SINGLES by whether it has more than one.
+/// output 1, with LAST its last one, and by MULTIPLE and SINGLES by whether it has more than one. The records have one list of
+/// runs.
 pub fn runs()
     ensures pairs { (count : Bool) (range : Range) (keep : Keep) (recs : Records) →
         pairs_of (unique count range keep) recs ≡ flat_map (run_pairs count keep) (runs_of range recs) }
     ensures whole { (range : Range) (recs : Records) → all_of (runs_of range recs) ≡ recs }
     ensures by_key { (range : Range) (recs : Records) → AreKeyRuns range (runs_of range recs) }
+    ensures one { (range : Range) (recs : Records) (runs : List Records) →
+        all_of runs ≡ recs → AreKeyRuns range runs → runs ≡ runs_of range recs }
 {}
