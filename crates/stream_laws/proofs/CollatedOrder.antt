@@ -16,14 +16,7 @@ use Rattle.pipe_model.proofs.Truths.{both as and_both, or_first}
 use Rattle.pipe_model.proofs.Lists.{all_too}
 use Rattle.stream_laws.specs.InOrder.{with_its_details, collated_in_order}
 use Rattle.stream_laws.proofs.KeyOrder.{less_one_way, less_between, no_less, same_is}
-use Rattle.stream_laws.proofs.Collated.{apart_before, apart_behind, same_neither, fits, rising, match_apart, master_apart, detail_apart, Alike, left_pairs, left_is, before_same, match_round, master_round, detail_round}
-
--- none passes
-none_kept : (f : List ℕ → Bool) (xs : Records) → list_all (λ x. not (f x)) xs ≡ true → filter f xs ≡ []
-none_kept f [] none = refl
-none_kept f (x ∷ xs) none =
-    let b = and_both (not (f x)) (list_all (λ x. not (f x)) xs) none in
-    ap (λ z. cond z (x ∷ filter f xs) (filter f xs)) (not-true (f x) b.0) ∙ none_kept f xs b.1
+use Rattle.stream_laws.proofs.Collated.{none_kept, apart_before, apart_behind, same_neither, fits, rising, match_apart, master_apart, detail_apart, Alike, left_pairs, left_is, before_same, match_round, master_round, detail_round}
 
 -- all pass
 all_kept : (f : List ℕ → Bool) (xs : Records) → list_all f xs ≡ true → filter f xs ≡ xs
