@@ -4,6 +4,7 @@ pub mod Choices
 pub mod DelimitedParts
 pub mod Delimiters
 pub mod Examples
+pub mod HexDigits
 pub mod KeywordParts
 pub mod Letters
 pub mod Misfits
@@ -24,6 +25,7 @@ pub mod SpotParts
 pub mod StringPairs
 pub mod StringParts
 pub mod TakenParts
+pub mod Wanting
 pub mod WholeDigits
 pub mod WholeParts
 pub mod WordFronts
