@@ -3,6 +3,11 @@ pub mod ByteParts
 pub mod Choices
 pub mod DelimitedParts
 pub mod Delimiters
+pub mod EachPart
+pub mod EachRange
+pub mod EachSpot
+pub mod EachString
+pub mod EachWord
 pub mod Examples
 pub mod HexDigits
 pub mod KeywordParts

@@ -1,5 +1,4 @@
-use Rattle.std.proofs.Common.{◌≡◌, ◌∙◌, ◌<◌, ◌%◌, ℕ, List, Bool, true, length, arith, sym}
-use Rattle.std.specs.Bool.{IsTrue}
+use Rattle.std.proofs.Common.{◌≡◌, ◌∙◌, ◌<◌, ◌%◌, length, arith, sym}
 use Rattle.argument_parts.proofs.strings.are_pairs.Goals as goal
 use Rattle.argument_parts.proofs.strings.are_pairs.Goals.{then-not-is_empty, else-not-is_empty}
 
