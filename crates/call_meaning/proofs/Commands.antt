@@ -12,7 +12,7 @@ use Rattle.call_meaning.specs.Calls.{IsCall, StopsWords}
 
 -- a specification is refused
 pub stops_text : (words : List (List ℕ)) (command : Command) (outcome : Outcome) → command_of words ≡ Some command → IsTextOutcome (spec_of command) outcome → StopsWords words outcome
-stops_text words command outcome read (inl memory) = inl memory
+stops_text words command outcome read (inl memory) = inl memory.0
 stops_text words command outcome read (inr refusal) = inr (refused refusal.fault (record { command = command; command_is = read; refused = refusal.least }) refusal.outcome_is)
 
 module _ (words : List (List ℕ)) (command : Command) (net : Net) (call : IsCall words command net) where
