@@ -56,11 +56,11 @@ module _ (net : Net) (formed : IsWellFormed net) (acyclic : IsAcyclic net) (firs
     Seen k = CameIn net first (IsListed first) k u
 
     -- and what came before the put there
-    abbrev put_before : (k : List Event) → Seen k → List Event
-    put_before k x = before_put x.link.output (tooks_on (last_input k) k) (past first x.link.from)
+    abbrev above : (k : List Event) → Seen k → List Event
+    above k x = before_put x.link.output (tooks_on (last_input k) k) (past first x.link.from)
 
     abbrev AreSoonerAbove : Who → Seen h → Seen h' → Type 0
-    AreSoonerAbove d x x' = IsSooner net first d x.link.from (put_before h x) x'.link.from (put_before h' x')
+    AreSoonerAbove d x x' = IsSooner net first d x.link.from (above h x) x'.link.from (above h' x')
 
     strand_up : (k : List Event) (x : Seen k) → (q : Strand) × (strand_at net nothing_yet x.link.from ≡ Some q) × (acyclic.rank x.link.from < n)
     strand_up k x =
@@ -85,7 +85,7 @@ module _ (net : Net) (formed : IsWellFormed net) (acyclic : IsAcyclic net) (firs
     on_one d x x' up is = elim (equal_or_not (tooks_on (last_input h) h) (tooks_on (last_input h') h')) [
       | inl same_count ↦
           let q = strand_up h x in
-          let z = came_up net formed acyclic first pass n d x.link.from (put_before h x) q.2 q.0 q.1 (put_of first x.link (tooks_on (last_input h) h) x.holds) up in
+          let z = came_up net formed acyclic first pass n d x.link.from (above h x) q.2 q.0 q.1 (put_of first x.link (tooks_on (last_input h) h) x.holds) up in
           record {
             from = z.from;
             from' = z.from;
@@ -100,9 +100,9 @@ module _ (net : Net) (formed : IsWellFormed net) (acyclic : IsAcyclic net) (firs
           let le = grown (tooks_on (last_input h')) (λ e k. more_tooks (last_input h') k e) h' h behind in
           let same_start = ap (λ i. tooks_on i h) is in
           let listed' : IsListed first x.link (tooks_on (last_input h') h') = subst (λ (k : Link). IsListed first k (tooks_on (last_input h') h')) (sym link_is) x'.holds in
-          let y = below d x.link.from (put_before h x) (before_put x.link.output (tooks_on (last_input h') h') (past first x.link.from)) q.2 q.0 q.1 up (put_of first x.link (tooks_on (last_input h) h) x.holds) (put_of first x.link (tooks_on (last_input h') h') listed')
+          let y = below d x.link.from (above h x) (before_put x.link.output (tooks_on (last_input h') h') (past first x.link.from)) q.2 q.0 q.1 up (put_of first x.link (tooks_on (last_input h) h) x.holds) (put_of first x.link (tooks_on (last_input h') h') listed')
           (later_put (past first x.link.from) x.link.output (tooks_on (last_input h) h) (tooks_on (last_input h') h') (omega (arith, le, same_start, apart)) listed') in
-          one_put_on d x x' (subst (λ (k : Link). IsSooner net first d x.link.from (put_before h x) k.from (before_put k.output (tooks_on (last_input h') h') (past first k.from))) link_is y)
+          one_put_on d x x' (subst (λ (k : Link). IsSooner net first d x.link.from (above h x) k.from (before_put k.output (tooks_on (last_input h') h') (past first k.from))) link_is y)
     ]
       where
         link_is : x.link ≡ x'.link
@@ -148,15 +148,15 @@ module _ (net : Net) (formed : IsWellFormed net) (acyclic : IsAcyclic net) (firs
             let le = no_more_taken in
             let lt : then_taken < tooks_on (last_input h') h' = omega (arith, le, other) in
             let q = strand_up h' x' in
-            let y = below m x'.link.from (before_put x'.link.output then_taken (past first x'.link.from)) (put_before h' x') q.2 q.0 q.1 (are_forked net formed u m (last_input h') x'.link forks x'.linked) (put_of first x'.link then_taken then_listed) (put_of first x'.link (tooks_on (last_input h') h') x'.holds)
+            let y = below m x'.link.from (before_put x'.link.output then_taken (past first x'.link.from)) (above h' x') q.2 q.0 q.1 (are_forked net formed u m (last_input h') x'.link forks x'.linked) (put_of first x'.link then_taken then_listed) (put_of first x'.link (tooks_on (last_input h') h') x'.holds)
             (later_put (past first x'.link.from) x'.link.output then_taken (tooks_on (last_input h') h') lt x'.holds) in
             less_further (tag_at net first m x.link (tooks_on (last_input h) h)) (tag_at net first m x'.link then_taken) (tag_at net first m x'.link (tooks_on (last_input h') h')) less_then
             ((less_by_puts net formed acyclic first pass m x'.link x'.link then_taken (tooks_on (last_input h') h') y.from y.from' y.numbers y.numbers' (q.0, q.1) (q.0, q.1) y.comes y.comes').1 y.less)
       ]
 
       -- the puts from which they came up there
-      from_there : (k : List Event) (z : Seen k) → CameUp net first m z.link.from (put_before k z)
-      from_there k z = let q = strand_up k z in came_up net formed acyclic first pass n m z.link.from (put_before k z) q.2 q.0 q.1 (put_of first z.link (tooks_on (last_input k) k) z.holds) (are_forked net formed u m (last_input k) z.link forks z.linked)
+      from_there : (k : List Event) (z : Seen k) → CameUp net first m z.link.from (above k z)
+      from_there k z = let q = strand_up k z in came_up net formed acyclic first pass n m z.link.from (above k z) q.2 q.0 q.1 (put_of first z.link (tooks_on (last_input k) k) z.holds) (are_forked net formed u m (last_input k) z.link forks z.linked)
 
       less_there : IsLess (written (from_there h x).from ∷ (from_there h x).numbers) (written (from_there h' x').from ∷ (from_there h' x').numbers)
       less_there =
@@ -170,10 +170,10 @@ module _ (net : Net) (formed : IsWellFormed net) (acyclic : IsAcyclic net) (firs
       on_two : (d : Who) → Upstream net d m → IsSooner net first d u h u h'
       on_two d up = by_less (from_there h x) (from_there h' x') less_there
         where
-          lower_rank : (a : CameUp net first m x.link.from (put_before h x)) → acyclic.rank m < n
-          lower_rank a = let q = strand_up h x in let lt = q.2 in let le = comes_down net formed acyclic first m a.from x.link.from (put_before h x) a.numbers a.comes in omega (arith, lt, le)
+          lower_rank : (a : CameUp net first m x.link.from (above h x)) → acyclic.rank m < n
+          lower_rank a = let q = strand_up h x in let lt = q.2 in let le = comes_down net formed acyclic first m a.from x.link.from (above h x) a.numbers a.comes in omega (arith, lt, le)
 
-          by_less : (a : CameUp net first m x.link.from (put_before h x)) (b : CameUp net first m x'.link.from (put_before h' x')) → IsLess (written a.from ∷ a.numbers) (written b.from ∷ b.numbers) → IsSooner net first d u h u h'
+          by_less : (a : CameUp net first m x.link.from (above h x)) (b : CameUp net first m x'.link.from (above h' x')) → IsLess (written a.from ∷ a.numbers) (written b.from ∷ b.numbers) → IsSooner net first d u h u h'
           by_less a b (inl lt) =
               let y = below d m a.from b.from (lower_rank a) a.strand a.there up a.is_put b.is_put lt in
               one_put_on d x x' (record {
@@ -181,8 +181,8 @@ module _ (net : Net) (formed : IsWellFormed net) (acyclic : IsAcyclic net) (firs
                 from' = y.from';
                 numbers = y.numbers ++ a.numbers;
                 numbers' = y.numbers' ++ b.numbers;
-                comes = comes_further net first d y.from m a.from y.numbers x.link.from (put_before h x) a.numbers y.comes a.comes;
-                comes' = comes_further net first d y.from' m b.from y.numbers' x'.link.from (put_before h' x') b.numbers y.comes' b.comes;
+                comes = comes_further net first d y.from m a.from y.numbers x.link.from (above h x) a.numbers y.comes a.comes;
+                comes' = comes_further net first d y.from' m b.from y.numbers' x'.link.from (above h' x') b.numbers y.comes' b.comes;
                 less = less_with_ends (written y.from ∷ y.numbers) (written y.from' ∷ y.numbers') a.numbers b.numbers y.less;
               })
           by_less a b (inr same) =
@@ -193,8 +193,8 @@ module _ (net : Net) (formed : IsWellFormed net) (acyclic : IsAcyclic net) (firs
                 from' = z.from;
                 numbers = z.numbers ++ a.numbers;
                 numbers' = z.numbers ++ b.numbers;
-                comes = comes_further net first d z.from m a.from z.numbers x.link.from (put_before h x) a.numbers z.comes a.comes;
-                comes' = comes_further net first d z.from m b.from z.numbers x'.link.from (put_before h' x') b.numbers (subst (λ g. Comes net first d z.from m g z.numbers) one z.comes) b.comes;
+                comes = comes_further net first d z.from m a.from z.numbers x.link.from (above h x) a.numbers z.comes a.comes;
+                comes' = comes_further net first d z.from m b.from z.numbers x'.link.from (above h' x') b.numbers (subst (λ g. Comes net first d z.from m g z.numbers) one z.comes) b.comes;
                 less = less_behind (written z.from ∷ z.numbers) a.numbers b.numbers same.1;
               })
 
