@@ -4,7 +4,7 @@ use Rattle.pipe_model.specs.declared.net.Net.{Net}
 use Rattle.pipe_model.specs.declared.net.Strand.{Strand}
 use Rattle.pipe_model.specs.declared.kind.Kind.TheVariants.{ConsoleIn}
 use Rattle.pipe_model.specs.Members.{flag_at}
-use Rattle.pipe_model.specs.Nets.{strand}
+use Rattle.pipe_model.specs.Nets.{strand, net_from}
 use Rattle.pipe_model.specs.State.{strand_at, link_out, nothing_yet}
 use Rattle.pipe_model.specs.declared.net.Link.{Link}
 use Rattle.pipe_model.specs.Form.Parting.{Queued}
@@ -12,7 +12,7 @@ use Rattle.pipe_model.specs.Table.{form}
 use Rattle.pipe_model.specs.WellFormed.{IsOfStage, TellsPorts, IsWellFormed}
 
 abbrev pub lone : List ℕ → Net
-lone bytes = record { strands = strand 0 (ConsoleIn bytes) [] (false ∷ []) ∷ []; links = [] }
+lone bytes = net_from (strand 0 (ConsoleIn bytes) [] (false ∷ []) ∷ []) []
 
 module _ (bytes : List ℕ) where
   abbrev console : Strand

@@ -74,7 +74,7 @@ module _ (net : Net) (steps workers : ℕ) (formed : IsWellFormed net) (settled 
   read_by es legal complete st size reading = reading.one es legal complete
 
   committed : (order : List Entry) → IsLegal net order → IsCommittedFirst net order
-  committed order legal = λ k move s lt. committed_before net formed order k legal move s lt
+  committed order legal = λ k move s there. committed_before net formed order k legal move s there
 
   module _ (trace : Option (List ℕ)) (outcome : Outcome) (effect : Effect) where
     -- it came to its end

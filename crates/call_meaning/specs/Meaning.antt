@@ -13,7 +13,7 @@ use Rattle.pipe_model.specs.Play.{play, step, IsLegal, IsLicensed, IsComplete}
 use Rattle.pipe_model.specs.Committed.{IsCommitted, IsMove, event_at}
 use Rattle.pipe_model.specs.Reply.{Reply, WaitLine, reply}
 use Rattle.pipe_model.specs.Run.{IsRun}
-use Rattle.pipe_model.specs.State.{State, nothing_yet}
+use Rattle.pipe_model.specs.State.{State, Who, IsThere, nothing_yet}
 use Rattle.pipe_model.specs.Straight.{selected_by}
 use Rattle.pipe_model.specs.Table.{Feed, line_of}
 use Rattle.pipe_model.specs.Table.Feed.{Unfed, Input, OfFile}
@@ -149,7 +149,7 @@ net_on before net = fed before.input before.files net
 
 -- no record moves before every stage has reached commit level 0 with code 0
 abbrev pub IsCommittedFirst : Net → List Entry → Type 0
-IsCommittedFirst net journal = (k : ℕ) → IsMove (event_at net journal k) → (s : ℕ) → s < length net.strands → IsCommitted net (play net (take k journal)) s
+IsCommittedFirst net journal = (k : ℕ) → IsMove (event_at net journal k) → (s : Who) → IsThere net (play net (take k journal)) s → IsCommitted net (play net (take k journal)) s
 
 -- an entry is the least that may be made: of the least strand that may have an event, and on its least stream
 abbrev pub IsLeast : Net → State → Entry → Type 0

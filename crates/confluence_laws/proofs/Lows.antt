@@ -1,44 +1,41 @@
 -- How far the strands on the ways to a strand have come, against what the first pass says of a record at hand and of one that comes later.
-use Rattle.std.proofs.Common.{◌≡◌, ℕ, zero, suc, ◌≤◌, ◌<◌, Bool, true, false, ◌&&◌, ◌||◌, ◌==◌, List, [], ◌∷◌, length, refl, sym, ◌∙◌, ap, subst, arith, Some, None, slice_get, is_some, is_none}
+use Rattle.std.proofs.Common.{◌≡◌, ◌≢◌, inl, inr, ℕ, zero, suc, ◌≤◌, ◌<◌, Bool, true, false, ◌&&◌, ◌==◌, List, [], ◌∷◌, length, refl, sym, ◌∙◌, ap, subst, arith, Option, Some, None, slice_get}
 use Rattle.std.proofs.lemmas.Bool.{eqb-true}
 use Rattle.std.proofs.lemmas.Option.{slice_get_within}
 use Rattle.pipe_model.specs.declared.net.Net.{Net}
 use Rattle.pipe_model.specs.declared.net.Link.{Link}
 use Rattle.pipe_model.specs.declared.net.Strand.{Strand}
-use Rattle.pipe_model.specs.Event.{Event, puts_on, tooks_on, records_on, has_ended}
+use Rattle.pipe_model.specs.Event.{Event, puts_on, tooks_on, records_on, has_ended, in_sight}
 use Rattle.pipe_model.specs.Event.Event.{Put}
 use Rattle.pipe_model.specs.Event.Want.{Write}
+use Rattle.pipe_model.specs.Row.{sees}
 use Rattle.pipe_model.specs.Table.{form}
-use Rattle.pipe_model.specs.Next.{next}
+use Rattle.pipe_model.specs.Form.Meeting.{Ordered, Braided}
+use Rattle.pipe_model.specs.Form.Parting.{Queued}
+use Rattle.pipe_model.specs.Next.{Past, next, IsOwn}
 use Rattle.pipe_model.specs.State.{State, Who, past, same, nothing_yet, strand_at, link_in, link_out}
 use Rattle.pipe_model.specs.Licence.{none_left, want_after, want_at, puts, tooks}
 use Rattle.pipe_model.specs.WellFormed.{IsWellFormed}
-use Rattle.pipe_model.specs.Settled.{is_thin, walk, joins_at, first_link, fork, is_braided}
+use Rattle.pipe_model.specs.Settled.{is_thin}
 use Rattle.pipe_model.specs.Plain.{IsPlain}
-use Rattle.pipe_model.specs.Tags.{written, before_put}
-use Rattle.pipe_model.specs.Alone.{Given, list_on, whole, lists_of, tag_orders, IsFirstPass, IsTaggedPass}
+use Rattle.pipe_model.specs.Tags.{written, last_input, before_put}
+use Rattle.pipe_model.specs.Alone.{Given, list_on, whole, lists_of, tag_orders, IsAlone, IsFirstPass, IsTaggedPass}
 use Rattle.pipe_model.proofs.Truths.{both}
 use Rattle.pipe_model.proofs.Lists.{found_at}
 use Rattle.confluence_laws.proofs.Asked.{plain_strand}
-use Rattle.confluence_laws.proofs.Basics.{the_event, not_ended, from_in, more_tooks, put_asked}
+use Rattle.confluence_laws.proofs.Basics.{not_ended, from_in, more_tooks, put_asked}
 use Rattle.confluence_laws.proofs.Sound.{sound_line}
-use Rattle.confluence_laws.proofs.Owns.{thin_writes}
+use Rattle.confluence_laws.proofs.Fitting.{sees_is}
+use Rattle.confluence_laws.proofs.Owns.{last_zero}
 use Rattle.confluence_laws.proofs.Braids.{plain_link, writes_there}
 use Rattle.confluence_laws.proofs.Reached.{IsWriting}
-use Rattle.confluence_laws.proofs.Walks.{first_there}
 use Rattle.confluence_laws.proofs.Within.{Within, alone_within, is_all, count_is}
 use Rattle.confluence_laws.proofs.Cuts.{next_put}
 use Rattle.confluence_laws.proofs.Ways.{HasNoEarly, IsOnTheWay, IsFollowing, following, so_far}
 use Rattle.confluence_laws.proofs.Befores.{grown, more_written, before_it, found_put, put_there, alone_own, sight_listed}
-
--- Where the ways part
-
--- a braided strand that has a link has one
-pub parts_there : (net : Net) (s : Who) (j : ℕ) (l : Link) → is_braided net s ≡ true → slice_get net.links j ≡ Some l → same l.to s ≡ true → (d : Who) × (fork net s ≡ Some d) × (joins_at net s d ≡ true)
-parts_there net s j l braided at to =
-    let m = first_there s net.links j l at to in
-    let d = the_event (fork net s) (ap (λ z. is_none z || is_some (fork net s)) (sym m.1) ∙ braided) in
-    (d.0, d.1, (found_at (joins_at net s) (walk net (length net.strands) [] (first_link s net.links)) d.1).0)
+use Rattle.confluence_laws.proofs.Upstream.{PassesOn}
+use Rattle.confluence_laws.proofs.LastSeen.{sight_there}
+use Rattle.confluence_laws.proofs.Paths.{CameIn}
 
 -- a place behind the end holds nothing
 pub no_place : {A : Type 0} (xs : List A) (k : ℕ) → slice_get xs k ≡ None → length xs ≤ k
@@ -46,23 +43,45 @@ no_place [] k e = omega arith
 no_place (x ∷ xs) zero e = cc
 no_place (x ∷ xs) (suc k) e = let r = no_place xs k e in omega (arith, r)
 
-module _ (net : Net) (first : State) (pass : IsTaggedPass net first) where
-  -- where a thin strand put a record, the one that it had in sight is on the list
-  pub up_listed : (l : Link) (k : ℕ) → k < puts_on l.output (past first l.from) → (p : Strand) → strand_at net nothing_yet l.from ≡ Some p → is_thin p ≡ true → (m : Link) → link_in net nothing_yet l.from 0 ≡ Some m →
-      tooks_on 0 (before_put l.output k (past first l.from)) < puts_on m.output (past first m.from)
-  up_listed l k less p e thin m at =
-      let t = both (form p).thin (p.ports.inputs == 1) thin in
-      let h = before_put l.output k (past first l.from) in
-      let there = put_there (past first l.from) l.output k less in
-      let put = alone_within p (whole net (tag_orders net first) (lists_of first) l.from) (past first l.from) (pass l.from p e) (Put l.output there.0 ∷ h) there.1 in
-      let own = alone_own p (whole net (tag_orders net first) (lists_of first) l.from) (Put l.output there.0 ∷ h) put in
-      let want = put_asked (next p h) l.output there.0 own.0 in
-      let sight = thin_writes p t.0 h own.1 l.output want.0 want.1 in
-      let seen = sight_listed p (whole net (tag_orders net first) (lists_of first) l.from) h 0 put.1 sight in
-      let on_list : slice_get (records_on m.output (past first m.from)) (tooks_on 0 h) ≡ Some seen.0 = ap (λ z. slice_get (list_on (lists_of first) z) (tooks_on 0 h)) (sym at) ∙ seen.1 in
-      let place = slice_get_within (records_on m.output (past first m.from)) (tooks_on 0 h) _ on_list in
-      let count = count_is m.output (past first m.from) in
-      omega (arith, place, count)
+-- a strand that passes records on is no part of a stage with a queue
+not_queued : (p : Strand) → PassesOn p → (form p).parting ≢ Queued
+not_queued p on queued = elim on [
+  | inl thin ↦ (let z : true ≡ false = sym (both (form p).thin (p.ports.inputs == 1) thin).0 ∙ ((sound_line p).queued queued).0 in cc)
+  | inr braided ↦ (let z : Braided ≡ Ordered = sym braided ∙ ((sound_line p).queued queued).1 in cc)
+]
+
+-- the record is on the link's list
+abbrev pub IsListed : State → Link → ℕ → Type 0
+IsListed first l k = k < puts_on l.output (past first l.from)
+
+module _ (net : Net) (first : State) (pass : IsTaggedPass net first) (u : Who) (h : List Event) (o : ℕ) (rec : List ℕ) (put : Within (past first u) (Put o rec ∷ h)) (p : Strand) (here : strand_at net nothing_yet u ≡ Some p) where
+  by_itself : IsAlone p (whole net (tag_orders net first) (lists_of first) u) (Put o rec ∷ h)
+  by_itself = alone_within p (whole net (tag_orders net first) (lists_of first) u) (past first u) (pass u p here) (Put o rec ∷ h) put
+
+  own_put : IsOwn p (Put o rec ∷ h)
+  own_put = alone_own p (whole net (tag_orders net first) (lists_of first) u) (Put o rec ∷ h) by_itself
+
+  -- where a strand that passes records on put one, it had one in sight
+  pub sight_at_put : PassesOn p → in_sight (last_input h) h ≡ true
+  sight_at_put on = let want = put_asked (next p h) o rec own_put.0 in sight_there p on h own_put.1 o want.0 want.1
+
+  -- which is on the list
+  pub up_listed : PassesOn p → CameIn net first (IsListed first) h u
+  up_listed on =
+      let seen = sight_listed p (whole net (tag_orders net first) (lists_of first) u) h (last_input h) by_itself.1 (sight_at_put on) in
+      by_link (link_in net nothing_yet u (last_input h)) refl seen.0 seen.1
+    where
+      by_link : (lk : Option Link) → link_in net nothing_yet u (last_input h) ≡ lk → (x : List ℕ) → slice_get (list_on (lists_of first) lk) (tooks_on (last_input h) h) ≡ Some x → CameIn net first (IsListed first) h u
+      by_link None e x seen = cc
+      by_link (Some m) e x seen = record {
+        link = m;
+        linked = e;
+        holds = (let place = slice_get_within (records_on m.output (past first m.from)) (tooks_on (last_input h) h) _ seen in let count = count_is m.output (past first m.from) in omega (arith, place, count));
+        thin = λ q there thin.
+            let one : Some p ≡ Some q = sym here ∙ there in
+            let it : p ≡ q = cc in
+            last_zero p (both (form p).thin (p.ports.inputs == 1) (subst (λ z. is_thin z ≡ true) (sym it) thin)).0 h own_put.1;
+      }
 
 module _ (net : Net) (formed : IsWellFormed net) (plain : IsPlain net) (calm : HasNoEarly net) (first : State) (pass : IsTaggedPass net first) where
   -- the first pass's lists
@@ -117,20 +136,26 @@ module _ (net : Net) (formed : IsWellFormed net) (plain : IsPlain net) (calm : H
           let j = formed.joined r.1.0 l r.1.1 in
           (j.producer, j.from_strand)
 
-    -- the link before it, into a thin strand that goes on
-    pub into_thin : (u : Who) (p : Strand) (m : Link) → strand_at net nothing_yet u ≡ Some p → is_thin p ≡ true → has_ended (past st u) ≡ false → link_in net nothing_yet u 0 ≡ Some m → IsInto m
-    into_thin u p m e thin going at =
-        let x = from_in net formed nothing_yet u 0 m at in
-        let t = both (form p).thin (p.ports.inputs == 1) thin in
+    -- a link into a strand that passes records on and goes on
+    pub into_passing : (u : Who) (i : ℕ) (p : Strand) (m : Link) → strand_at net nothing_yet u ≡ Some p → PassesOn p → has_ended (past st u) ≡ false → link_in net nothing_yet u i ≡ Some m → IsInto m
+    into_passing u i p m e on going at =
+        let x = from_in net formed nothing_yet u i m at in
         record {
-          linked = subst (λ z. link_in net nothing_yet m.to z ≡ Some m) (sym x.1) (subst (λ z. link_in net nothing_yet z 0 ≡ Some m) (sym x.0) at);
-          plain_one = plain_link net formed st way.reached u 0 m p at e (λ queued. let z : true ≡ false = sym t.0 ∙ ((sound_line p).queued queued).0 in cc);
+          linked = subst (λ z. link_in net nothing_yet m.to z ≡ Some m) (sym x.1) (subst (λ z. link_in net nothing_yet z i ≡ Some m) (sym x.0) at);
+          plain_one = plain_link net formed st way.reached u i m p at e (not_queued p on);
           going = subst (λ z. has_ended (past st z) ≡ false) (sym x.0) going;
         }
 
     -- what was taken on a link into u
     pub took_there : (u : Who) (i : ℕ) (m : Link) → link_in net nothing_yet u i ≡ Some m → tooks st m ≡ tooks_on i (past st u)
     took_there u i m at = let x = from_in net formed nothing_yet u i m at in ap (λ z. tooks_on m.input (past st z)) x.0 ∙ ap (λ z. tooks_on z (past st u)) x.1
+
+    -- whoever follows has the same in sight
+    same_sight : (u : Who) (q : Strand) (e : strand_at net nothing_yet u ≡ Some q) (y : Following st u q e) (i : ℕ) → in_sight i y.other ≡ in_sight i (past st u)
+    same_sight u q e y i =
+        sym (sees_is q y.other (alone_own q (given u) y.other (alone_within q (given u) (past first u) (pass u q e) y.other y.within)) i)
+        ∙ ap (λ (z : Past). sees i z.known.sight) (y.past_other) ∙ sym (ap (λ (z : Past). sees i z.known.sight) y.past)
+        ∙ sees_is q (past st u) (way.own u q e) i
 
     -- A record at hand
 
@@ -162,16 +187,26 @@ module _ (net : Net) (formed : IsWellFormed net) (plain : IsPlain net) (calm : H
           let r = put_next q.0 q.1 in
           (wants.0, subst (λ z. Within (past first l.from) (Put l.output wants.0 ∷ z)) (sym r.2) r.1, record { strand = q.0; there = q.1; follows = r.0; is = ap written r.2 })
 
-      pub low_up : (p : Strand) → strand_at net nothing_yet l.from ≡ Some p → is_thin p ≡ true → (m : Link) → link_in net nothing_yet l.from 0 ≡ Some m → IsLow m (tooks_on 0 (before_put l.output k (past first l.from)))
-      low_up p e thin m at =
-          let t = both (form p).thin (p.ports.inputs == 1) thin in
-          let sight = thin_writes p t.0 (past st l.from) (way.own l.from p e) l.output wants.0 (wants_it p e) in
-          let i = into_thin l.from p m e thin writer_goes at in
-          let r = put_next p e in
+      -- so did the strand before it
+      pub low_up : ((p : Strand) → strand_at net nothing_yet l.from ≡ Some p → PassesOn p) → CameIn net first IsLow (before_put l.output k (past first l.from)) l.from
+      low_up passing =
+          let q = producer l x.into in
+          let r = put_next q.0 q.1 in
+          let h = before_put l.output k (past first l.from) in
+          let within = subst (λ z. Within (past first l.from) (Put l.output wants.0 ∷ z)) (sym r.2) r.1 in
+          let up = up_listed net first pass l.from h l.output wants.0 within q.0 q.1 (passing q.0 q.1) in
+          let sight = sight_at_put net first pass l.from h l.output wants.0 within q.0 q.1 (passing q.0 q.1) in
+          let now : in_sight (last_input h) (past st l.from) ≡ true = sym (same_sight l.from q.0 q.1 r.0 (last_input h)) ∙ ap (in_sight (last_input h)) (sym r.2) ∙ sight in
+          let i = into_passing l.from (last_input h) q.0 up.link q.1 (passing q.0 q.1) writer_goes up.linked in
           record {
-            into = i;
-            writing = way.reached.waits l.from 0 m at i.plain_one writer_goes sight;
-            next_is = ap (tooks_on 0) r.2 ∙ r.0.tooks 0 ∙ sym (took_there l.from 0 m at);
+            link = up.link;
+            linked = up.linked;
+            holds = record {
+              into = i;
+              writing = way.reached.waits l.from (last_input h) up.link up.linked i.plain_one writer_goes now;
+              next_is = ap (tooks_on (last_input h)) r.2 ∙ r.0.tooks (last_input h) ∙ sym (took_there l.from (last_input h) up.link up.linked);
+            };
+            thin = up.thin;
           }
 
     -- A record that comes later
@@ -216,14 +251,22 @@ module _ (net : Net) (formed : IsWellFormed net) (plain : IsPlain net) (calm : H
               let f = x.listed_there in
               absurd (omega (arith, a, b, c, d, f))
 
-      pub high_up : (p : Strand) → strand_at net nothing_yet l.from ≡ Some p → is_thin p ≡ true → (m : Link) → link_in net nothing_yet l.from 0 ≡ Some m → IsHigh m (tooks_on 0 (before_put l.output k (past first l.from)))
-      high_up p e thin m at =
-          let y = follows_there l x.into p e in
-          let less = grown (tooks_on 0) (λ e h. more_tooks 0 h e) (before_put l.output k (past first l.from)) y.other (was_before p e y) in
-          let same_tooks = y.tooks 0 in
-          let taken = took_there l.from 0 m at in
+      pub high_up : ((p : Strand) → strand_at net nothing_yet l.from ≡ Some p → PassesOn p) → CameIn net first IsHigh (before_put l.output k (past first l.from)) l.from
+      high_up passing =
+          let q = producer l x.into in
+          let h = before_put l.output k (past first l.from) in
+          let up = up_listed net first pass l.from h l.output there.0 there.1 q.0 q.1 (passing q.0 q.1) in
+          let y = follows_there l x.into q.0 q.1 in
+          let less = grown (tooks_on (last_input h)) (λ e h'. more_tooks (last_input h) h' e) h y.other (was_before q.0 q.1 y) in
+          let same_tooks = y.tooks (last_input h) in
+          let taken = took_there l.from (last_input h) up.link up.linked in
           record {
-            into = into_thin l.from p m e thin (goes_there p e) at;
-            not_taken = omega (arith, less, same_tooks, taken);
-            listed_there = up_listed net first pass l k x.listed_there p e thin m at;
+            link = up.link;
+            linked = up.linked;
+            holds = record {
+              into = into_passing l.from (last_input h) q.0 up.link q.1 (passing q.0 q.1) (goes_there q.0 q.1) up.linked;
+              not_taken = omega (arith, less, same_tooks, taken);
+              listed_there = up.holds;
+            };
+            thin = up.thin;
           }

@@ -14,7 +14,8 @@ use Rattle.pipe_model.specs.WellFormed.{IsWellFormed}
 use Rattle.pipe_model.specs.Alone.{Given, inputs_of, primes, limit_of, cut, lists_of, tag_orders, IsAllAlone, IsTaggedPass, IsSecondPass, is_early, worst_of_early, barred_history, IsBarred, IsPlainReading}
 use Rattle.pipe_model.specs.Plain.{IsPlain}
 use Rattle.pipe_model.proofs.Lists.{at_some}
-use Rattle.confluence_laws.proofs.Passes.{rises_out, consumer, fair, ran, ran_done, same_given, first_pass, one_first, one_whole, mk_given, below_top, rounds}
+use Rattle.confluence_laws.proofs.Ranks.{rises_out}
+use Rattle.confluence_laws.proofs.Passes.{consumer, fair, ran, ran_done, same_given, first_pass, one_first, one_whole, mk_given, below_top, rounds}
 
 module _ (net : Net) (formed : IsWellFormed net) (plain : IsPlain net) where
   -- what the consumers take of each output
@@ -46,7 +47,7 @@ module _ (net : Net) (formed : IsWellFormed net) (plain : IsPlain net) where
     settles_back : (n s : ℕ) (p : Strand) → strand_at net nothing_yet s ≡ Some p → rounds net formed plain < n + plain.acyclic.rank s → back (suc n) s ≡ back n s
     settles_back zero s p here lt = let r = below_top plain.acyclic.rank (length net.strands) s (slice_get_within net.strands s _ here) in absurd (omega (arith, lt, r))
     settles_back (suc n) s p here lt =
-        let e = same_limits (back (suc n)) (back n) s (λ o l q is there. let r = rises_out net formed plain s o l is in settles_back n l.to q there (omega (arith, lt, r))) in
+        let e = same_limits (back (suc n)) (back n) s (λ o l q is there. let r = rises_out net formed plain.acyclic s o l is in settles_back n l.to q there (omega (arith, lt, r))) in
         let g = ap (λ z. mk_given (inputs_of net (lists_of first) s) (tag_orders net first s) (primes net (lists_of first) s) z) e in
         one_whole p (cut_given first (back n) s) (back (suc n) s) (back_alone n s p here) (back (suc (suc n)) s) (subst (λ z. IsAllAlone p z (back (suc (suc n)) s)) g (back_alone (suc n) s p here))
 
@@ -80,7 +81,7 @@ module _ (net : Net) (formed : IsWellFormed net) (plain : IsPlain net) where
         (n s : ℕ) (p : Strand) → rounds net formed plain < n + plain.acyclic.rank s → strand_at net nothing_yet s ≡ Some p → past a s ≡ past b s
     same_from first first' x y u v zero s p lt here = let r = below_top plain.acyclic.rank (length net.strands) s (slice_get_within net.strands s _ here) in absurd (omega (arith, lt, r))
     same_from first first' x y u v (suc n) s p lt here =
-        let limits = same_limits b a s (λ o l q is there. let r = rises_out net formed plain s o l is in sym (same_from first first' x y u v n l.to q (omega (arith, lt, r)) there)) in
+        let limits = same_limits b a s (λ o l q is there. let r = rises_out net formed plain.acyclic s o l is in sym (same_from first first' x y u v n l.to q (omega (arith, lt, r)) there)) in
         let g = same_given net formed plain first' first s p here (λ t q there less. one_first net formed plain first' first y x t q there) (limits_of b s) in
         let h = ap (λ z. mk_given (inputs_of net (lists_of first) s) (tag_orders net first s) (primes net (lists_of first) s) z) limits in
         sym (one_whole p (cut_given first a s) (past a s) (u s p here) (past b s) (subst (λ z. IsAllAlone p z (past b s)) (g ∙ h) (v s p here)))

@@ -29,10 +29,17 @@ pub record IsReached (net : Net) (st : State) : Type 0 where
   pub own : (s : Who) (p : Strand) → strand_at net st s ≡ Some p → IsOwn p (past st s)
   -- as long as a record is in sight, its writer waits
   pub waits : (s : Who) (i : ℕ) (l : Link) → link_in net st s i ≡ Some l → l.queue ≡ false → has_ended (past st s) ≡ false → in_sight i (past st s) ≡ true → IsWriting net st l
+  -- and it came in on a link
+  pub linked : (s : Who) (i : ℕ) → in_sight i (past st s) ≡ true → (l : Link) × (link_in net st s i ≡ Some l)
 
 -- it holds before the first entry
 pub at_first : (net : Net) → IsReached net nothing_yet
-at_first net = record { own = λ s p e. tt; waits = λ s i l e q g x. cc }
+at_first net = record { own = λ s p e. tt; waits = λ s i l e q g x. cc; linked = λ s i x. cc }
+
+-- a record at hand is at hand on a link
+pub hand_linked : (net : Net) (st : State) (left : Left) (lk : Option Link) (rec : List ℕ) → at_hand net st left lk ≡ Some rec → (l : Link) × (lk ≡ Some l)
+hand_linked net st left None rec e = cc
+hand_linked net st left (Some l) rec e = (l, refl)
 
 -- what a look shows is written there
 pub seen_there : (net : Net) (st : State) (l : Link) (rec : List ℕ) → l.queue ≡ false → shown net st none_left l ≡ Some rec → IsWriting net st l
@@ -131,9 +138,22 @@ module _ (net : Net) (formed : IsWellFormed net) (st : State) (reached : IsReach
                 ∙ w.level;
           }
 
+  -- what is in sight came in on a link
+  linked_after : (s : Who) (i : ℕ) → in_sight i (past (with_event st t f) s) ≡ true → (l : Link) × (link_in net st s i ≡ Some l)
+  linked_after s i sight = elim (equal_or_not s t) [
+    | inl it ↦
+        let now : past (with_event st t f) s ≡ f ∷ past st t = ap (past (with_event st t f)) it ∙ at_same st t f in
+        subst (λ z. (l : Link) × (link_in net st z i ≡ Some l)) (sym it) (by_sight (sight_before i f (past st t) (subst (λ x. in_sight i x ≡ true) now sight)))
+    | inr other ↦ reached.linked s i (subst (λ x. in_sight i x ≡ true) (at_other st t f s other) sight)
+  ]
+    where
+      by_sight : (in_sight i (past st t) ≡ true) ⊎ ((rec : List ℕ) × (f ≡ Saw i rec)) → (l : Link) × (link_in net st t i ≡ Some l)
+      by_sight (inl before) = reached.linked t i before
+      by_sight (inr now) = hand_linked net st none_left (link_in net st t i) now.0 (saw_it net st none_left t k i now.0 (licensed ∙ ap Some now.1))
+
   -- so all that holds of reached states holds after it
   pub reached_after : IsReached net (with_event st t f)
-  reached_after = record { own = own_after; waits = waits_after }
+  reached_after = record { own = own_after; waits = waits_after; linked = linked_after }
 
 module _ (net : Net) (formed : IsWellFormed net) where
   -- and after any licensed entry

@@ -12,8 +12,8 @@ use Rattle.pipe_model.specs.Shape.Order.{WritesFirst}
 use Rattle.pipe_model.specs.Shape.Shape.{Dams}
 use Rattle.pipe_model.specs.Next.{hears}
 use Rattle.pipe_model.specs.Members.{has}
-use Rattle.confluence_laws.proofs.Facts.{Fits, IsLook, IsSound, IsFiniteRow, IsFiniteLook, NoRepeats, LooksAtAny, LooksAtGate, AsksDam}
-use Rattle.confluence_laws.proofs.SoundActs.{fits_writes, no_repeats, sees_new, without_new}
+use Rattle.confluence_laws.proofs.Facts.{Fits, IsLook, IsSound, IsFiniteRow, IsFiniteLook, IsPassing, NoRepeats, ThinActs, LooksAtAny, LooksAtGate, AsksDam}
+use Rattle.confluence_laws.proofs.SoundActs.{thin_writes, fits_writes, no_repeats, sees_new, without_new}
 use Rattle.confluence_laws.proofs.SoundLists.{IsLooking, list_row, list_sound, list_finite}
 
 module _ (outs : List Pair → List Pair) where
@@ -41,6 +41,14 @@ module _ (outs : List Pair → List Pair) where
     where
       goes : (k : Known) (e : Event) → NoRepeats (first_plan outs (hears k e) (hears k e).told).acts
       goes k (Saw i rec) = no_repeats (outs (k.seen ++ (i, rec) ∷ [])) (Takes i ∷ []) tt
+      goes k _ = tt
+
+  -- it writes the pairs of a record before it takes it
+  pub first_passing : IsPassing LooksAtAny first_row
+  first_passing = record { starts = tt; goes = λ k want e a it. goes k e; asks = λ k o rec a. (let z = a.want_is in cc) }
+    where
+      goes : (k : Known) (e : Event) → ThinActs (first_plan outs (hears k e) (hears k e).told).acts
+      goes k (Saw i rec) = (thin_writes (outs (hears k (Saw i rec)).seen) i).1
       goes k _ = tt
 
 -- GATE's row is sound

@@ -100,8 +100,11 @@ one_finite k want a = subst (IsFiniteLook k) (sym a.want_is) (ap (sees 0) a.sigh
 pub list_thin : (t : Stream) (yields : Bool) → (has_none t.before && is_none t.last) ≡ true → IsThin ReadsOne (list_row WritesFirst t yields)
 list_thin t yields thin = record {
   reads = λ k want a. (a.want_is, a.sight);
-  starts = subst (λ ps. NoWrites (writes ps)) (sym (none_left t.before (both _ _ thin).0)) tt;
-  goes = λ k want e a it. goes k e;
+  passing = record {
+    starts = subst (λ ps. NoWrites (writes ps)) (sym (none_left t.before (both _ _ thin).0)) tt;
+    goes = λ k want e a it. goes k e;
+    asks = λ k o rec a. (let z = a.want_is in cc);
+  };
 }
   where
     thin_order : (outs : Outs) (recs : Records) (i : ℕ) → ThinActs (in_order WritesFirst (acts_of outs recs) (Takes i))

@@ -4,7 +4,7 @@ use Rattle.std.specs.declared.option.Option.TheVariants.{Some}
 use Rattle.pipe_model.specs.declared.net.Net.{Net}
 use Rattle.pipe_model.specs.declared.net.Strand.{Strand}
 use Rattle.pipe_model.specs.declared.kind.Kind.TheVariants.{ConsoleIn, ConsoleOut, Locate}
-use Rattle.pipe_model.specs.Nets.{strand}
+use Rattle.pipe_model.specs.Nets.{strand, net_from}
 use Rattle.pipe_model.specs.Straight.{all_columns, chain}
 
 -- the CONSOLE that reads
@@ -26,4 +26,4 @@ strands_from k (string ∷ strings) = locate_strand k string ∷ strands_from (s
 
 -- the net of the straight line that reads these bytes and has LOCATEs of these strings
 abbrev pub line_net : List ℕ → List (List ℕ) → Net
-line_net bytes strings = record { strands = first_strand bytes ∷ strands_from 1 strings; links = chain 0 (length strings + 1) }
+line_net bytes strings = net_from (first_strand bytes ∷ strands_from 1 strings) (chain 0 (length strings + 1))

@@ -12,7 +12,7 @@ use Rattle.pipe_model.specs.declared.net.Ports.{Ports}
 use Rattle.pipe_model.specs.declared.net.Strand.{Strand}
 use Rattle.pipe_model.specs.Form.{Parting, inputs_by, parting_by}
 use Rattle.pipe_model.specs.Form.Parting.{Whole, Queued, Streamed}
-use Rattle.pipe_model.specs.Nets.{rendezvous}
+use Rattle.pipe_model.specs.Nets.{rendezvous, net_from}
 use Rattle.pipe_model.specs.Table.{line_of, outputs_by}
 use Rattle.pipe_model.specs.WellFormed.{places_of, strands_of}
 use Rattle.stage_syntax.specs.declared.fault.KindFault.{KindFault}
@@ -184,7 +184,7 @@ strands_from sizes links stage (size ∷ more) =
 
 -- of stages of these sizes, with these joins
 abbrev pub net_by : List StageSize → List Link → Net
-net_by sizes joins = record { strands = strands_from sizes (links_of sizes joins) 0 sizes; links = links_of sizes joins }
+net_by sizes joins = net_from (strands_from sizes (links_of sizes joins) 0 sizes) (links_of sizes joins)
 
 -- of pipelines whose stages are of these kinds
 abbrev pub net_of : List (List Piece) → List Kind → Net

@@ -1,5 +1,5 @@
 -- What follows from a stage's shape.
-use Rattle.std.specs.Prelude.{ℕ, Bool, true, false, ◌&&◌, if◌then◌else◌, List, [], ◌∷◌, is_none}
+use Rattle.std.specs.Prelude.{ℕ, Bool, true, false, ◌&&◌, List, [], ◌∷◌, is_none}
 use Rattle.pipe_model.specs.Row.{Pair}
 use Rattle.pipe_model.specs.Shape.{Outs, Width, Keeping, Shape}
 use Rattle.pipe_model.specs.Shape.Outs.{Pairs, Endless}
@@ -37,7 +37,7 @@ inputs_by Absent = 0
 inputs_by (Sources pairs) = 0
 inputs_by (Lists order t) = 1
 inputs_by (Sinks keeping) = 1
-inputs_by (Firsts width settles outs) = most_of width
+inputs_by (Firsts width outs) = most_of width
 inputs_by (Turns width t) = most_of width
 inputs_by (Rounds width t) = most_of width
 inputs_by Gates = any_number
@@ -50,7 +50,7 @@ parting_by Queues = Queued
 parting_by _ = Whole
 
 abbrev pub meeting_by : Shape → Meeting
-meeting_by (Firsts width settles outs) = if settles then Braided else Loose
+meeting_by (Firsts width outs) = Braided
 meeting_by Gates = Loose
 meeting_by _ = Ordered
 

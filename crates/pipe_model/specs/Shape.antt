@@ -81,9 +81,8 @@ pub data Shape : Type 0 where
   Lists : Order → (List Bool → Stream) → Shape
   -- it writes each record on output 0 before it takes it, and refusals never end it
   Sinks : Keeping → Shape
-  -- it looks at any input, and writes the pairs of each record, by all records so far and their inputs, before it takes it;
-  -- where its inputs lead back to one strand, their order is settled, or it never is
-  Firsts : Width → Bool → (List Pair → List Pair) → Shape
+  -- it looks at any input, and writes the pairs of each record, by all records so far and their inputs, before it takes it
+  Firsts : Width → (List Pair → List Pair) → Shape
   -- it reads one input at a time
   Turns : Width → Turning → Shape
   -- it reads each input that has no record in sight and hasn't ended, ascending, and then acts
@@ -266,7 +265,7 @@ row_of s Absent = record { early = Some (pos 28); plan = λ k. ends (pos 28); yi
 row_of s (Sources pairs) = source pairs
 row_of s (Lists order t) = listed order (t s.ports.has_output)
 row_of s (Sinks keeping) = sink
-row_of s (Firsts width settles outs) = row (λ k. first_plan outs k k.told)
+row_of s (Firsts width outs) = row (λ k. first_plan outs k k.told)
 row_of s (Turns width t) = row (λ k. turn_plan (reads_of width s) t k k.told)
 row_of s (Rounds width t) = row (round_plan (reads_of width s) t)
 row_of s Gates = row (λ k. gate_plan k.told)

@@ -2,7 +2,7 @@
 use Rattle.std.specs.Prelude.{◌≡◌, [], ◌∷◌, ◌++◌, false, refl}
 use Rattle.pipe_model.specs.declared.kind.Kind.TheVariants.{Juxtapose}
 use Rattle.pipe_model.specs.Event.Want.{Any, Take}
-use Rattle.pipe_model.specs.Form.Meeting.{Loose}
+use Rattle.pipe_model.specs.Form.Meeting.{Braided}
 use Rattle.pipe_model.specs.Table.{form}
 use Rattle.row_examples.specs.Wants.{part_of_stage, wants_of, wants_refused, written_by, all, on, writes, ends}
 
@@ -28,6 +28,6 @@ refused = refl
 not_connected : wants_of Juxtapose (all 2) (false ∷ []) (on 0 "h" ++ on 1 "x") ≡ Any ∷ Take 0 ∷ Any ∷ Take 1 ∷ Any ∷ ends ∷ []
 not_connected = refl
 
--- no net with it is settled
-meets : (form (part_of_stage Juxtapose 0 (all 2) (all 1))).meeting ≡ Loose
+-- where its inputs lead back to one strand, the order of its records is settled
+meets : (form (part_of_stage Juxtapose 0 (all 2) (all 1))).meeting ≡ Braided
 meets = refl

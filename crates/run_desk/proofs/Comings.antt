@@ -52,7 +52,7 @@ asks_no_write s Absent k o rec asked = asked
 asks_no_write s (Sources pairs) k o rec asked = asked
 asks_no_write s (Lists order t) k o rec asked = let z = asked.want_is in cc
 asks_no_write s (Sinks keeping) k o rec asked = let z = asked.want_is in cc
-asks_no_write s (Firsts width settles outs) k o rec asked = let z = asked.want_is in cc
+asks_no_write s (Firsts width outs) k o rec asked = let z = asked.want_is in cc
 asks_no_write s (Turns width t) k o rec asked = let z = asked.want_is in cc
 asks_no_write s (Rounds width t) k o rec asked = let z = asked.want_is in cc
 asks_no_write s Gates k o rec asked = let z = asked.want_is in cc
