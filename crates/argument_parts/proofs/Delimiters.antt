@@ -14,6 +14,11 @@ use Rattle.argument_parts.specs.Strings.{IsDelimited, IsString, IsUnclosed, is_d
 pub delimiter_from : (byte : ℕ) → byte ≢ 32 → is_ascii_alphanumeric byte ≡ false → is_delimiter byte ≡ true
 delimiter_from byte other sign = rw (ne_eqb byte 32 other, sign) refl
 
+-- a text that begins with neither a blank nor a letter or digit begins with a delimiter
+pub delimiter_begins : (text : List ℕ) → get_or text 0 32 ≢ 32 → is_ascii_alphanumeric (get_or text 0 0) ≡ false → is_delimiter (get_or text 0 32) ≡ true
+delimiter_begins [] begins sign = absurd (begins refl)
+delimiter_begins (byte ∷ text) begins sign = delimiter_from byte begins sign
+
 -- a byte that is nowhere doesn't stand after others
 pub nowhere_after : (after string rest : List ℕ) (byte : ℕ) → IsFirstByte (is_byte byte) after None → after ≢ string ++ byte ∷ rest
 nowhere_after after string rest byte nowhere is =

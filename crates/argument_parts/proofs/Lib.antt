@@ -3,7 +3,13 @@ pub mod ByteParts
 pub mod Choices
 pub mod DelimitedParts
 pub mod Delimiters
+pub mod EachPart
+pub mod EachRange
+pub mod EachSpot
+pub mod EachString
+pub mod EachWord
 pub mod Examples
+pub mod HexDigits
 pub mod KeywordParts
 pub mod Letters
 pub mod Misfits
@@ -24,6 +30,7 @@ pub mod SpotParts
 pub mod StringPairs
 pub mod StringParts
 pub mod TakenParts
+pub mod Wanting
 pub mod WholeDigits
 pub mod WholeParts
 pub mod WordFronts

@@ -8,3 +8,8 @@ use Rattle.argument_parts.specs.declared.refusal.Refusal.TheVariants.{Fault, NoM
 abbrev pub Refuses : (TextFault → Type 0) → Refusal → Type 0
 Refuses Reason (Fault fault) = Reason fault
 Refuses Reason NoMemory = ⊤
+
+-- want of memory comes only where this is so
+abbrev pub Wants : Type 0 → Refusal → Type 0
+Wants Asked (Fault fault) = ⊤
+Wants Asked NoMemory = Asked

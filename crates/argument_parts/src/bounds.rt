@@ -1,8 +1,4 @@
 ghost use Rattle.std.specs.Prelude.{◌≡◌, IfOk, IfErr, MatchOption};
-ghost use Rattle.pipe_model.specs.declared.range.Range.{Range};
-ghost use Rattle.pipe_model.specs.declared.range.Span.{Span};
-ghost use Rattle.argument_parts.specs.declared.bounds.Misfit.{Misfit};
-ghost use Rattle.argument_parts.specs.declared.ranges.Spelling.{Spelling};
 ghost use Rattle.argument_parts.specs.Bounds.{Fits, IsMisfit, IsRangeOf};
 
 use crate::ranges::{Ending, Spelling};
@@ -53,8 +49,3 @@ pub fn within(number: u64) -> Option<u32>
         Some(number as u32)
     }
 }
-
-/// A spelling that is a range is no misfit, so `range_of` gives a range wherever there is one.
-pub fn no_misfit()
-    ensures { (span : Span) (spelling : Spelling) (range : Range) (misfit : Misfit) → IsRangeOf span spelling range → ¬ IsMisfit spelling misfit }
-{}

@@ -1,6 +1,6 @@
-ghost use Rattle.std.specs.Prelude.{◌≤◌, length, drop, IfOk, IfErr};
+ghost use Rattle.std.specs.Prelude.{◌≤◌, ℕ, List, length, drop, IfOk, IfErr};
 ghost use Rattle.argument_parts.specs.NamesOfFiles.{IsName, IsNameMisfit};
-ghost use Rattle.argument_parts.specs.Refusals.{Refuses};
+ghost use Rattle.argument_parts.specs.Refusals.{Refuses, Wants};
 
 use crate::fault::FaultKind;
 use crate::refusal::Refusal;
@@ -16,6 +16,7 @@ pub fn name(alloc: Global, text: &[u8]) -> Result<Spelled, Refusal>
     ensures within { IfOk result (λ spelled. spelled.len ≤ length text.now) }
     ensures read { IfOk result (λ spelled. IsName text.now spelled.string (drop spelled.len text.now)) }
     ensures refused { IfErr result (Refuses (IsNameMisfit text.now)) }
+    ensures memory { IfErr result (Wants ((name : List ℕ) × (rest : List ℕ) × IsName text.now name rest)) }
 {
     let (word, _rest) = first_word(text);
     if word.len() > LONGEST {

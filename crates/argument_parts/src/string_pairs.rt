@@ -1,7 +1,7 @@
-ghost use Rattle.std.specs.Prelude.{◌≡◌, ◌≢◌, ◌≤◌, length, drop, true, get_or, IfOk, IfErr, IfSome, MatchOption};
+ghost use Rattle.std.specs.Prelude.{◌≡◌, ◌≢◌, ◌≤◌, ℕ, List, length, drop, true, get_or, IfOk, IfErr, IfSome, MatchOption};
 ghost use Rattle.std.specs.Char.{is_ascii_alphanumeric};
 ghost use Rattle.argument_parts.specs.PairsOfStrings.{AreMisfits, AreStrings, IsAnyString, IsAnyStringMisfit};
-ghost use Rattle.argument_parts.specs.Refusals.{Refuses};
+ghost use Rattle.argument_parts.specs.Refusals.{Refuses, Wants};
 ghost use Rattle.argument_parts.specs.Strings.{IsOtherWord, is_delimiter};
 
 use crate::fault::FaultKind;
@@ -27,6 +27,7 @@ pub fn any_string(alloc: Global, text: &[u8]) -> Result<Option<Spelled>, Refusal
     ensures within { IfOk result (λ found. IfSome found (λ spelled. spelled.len ≤ length text.now)) }
     ensures read { IfOk result (λ found. MatchOption found (IsOtherWord text.now) (λ spelled. IsAnyString text.now spelled.string (drop spelled.len text.now))) }
     ensures refused { IfErr result (Refuses (IsAnyStringMisfit text.now)) }
+    ensures memory { IfErr result (Wants ((string : List ℕ) × (rest : List ℕ) × IsAnyString text.now string rest)) }
 {
     if text[0].is_ascii_alphanumeric() {
         return hexadecimal_word(alloc, text);

@@ -1,8 +1,9 @@
-ghost use Rattle.std.specs.Prelude.{◌≡◌, ℕ, List, true, get_or, IfOk, IfNone, MatchOption};
+ghost use Rattle.std.specs.Prelude.{◌≡◌, ◌<◌, ◌%◌, ◌↔◌, ℕ, List, IsTrue, length, true, get_or, IfOk, IfNone, OnErr, MatchOption};
+ghost use Rattle.std.specs.Char.{is_ascii_hexdigit};
+ghost use Rattle.std.specs.List.{list_all};
 ghost use Rattle.argument_parts.specs.Strings.{IsDelimited, IsHexadecimal, IsUnclosed, is_delimiter};
 
 use bstr::ByteSlice;
-use hex::FromHexError;
 use pipe_model::{NoMemory, Rec};
 use std::alloc::Global;
 
@@ -23,17 +24,42 @@ pub fn delimited(text: &[u8]) -> Option<(&[u8], &[u8])>
 
 /// The string that a word of `x` and hexadecimal digits stands for, or None for any other word.
 pub fn hexadecimal(alloc: Global, word: &[u8]) -> Result<Option<Rec>, NoMemory>
-    ensures { IfOk result (λ found. MatchOption found ((string : List ℕ) → ¬ IsHexadecimal word.now string) (λ string. IsHexadecimal word.now string)) }
+    ensures read { IfOk result (λ found. MatchOption found ((string : List ℕ) → ¬ IsHexadecimal word.now string) (λ string. IsHexadecimal word.now string)) }
+    ensures memory { OnErr result ((string : List ℕ) × IsHexadecimal word.now string) }
 {
-    let [b'x', digits @ ..] = word else {
+    let Some(digits) = hexadecimal_digits(word) else {
         return Ok(None);
     };
-    if digits.is_empty() {
-        return Ok(None);
-    }
     match hex::decode(alloc, digits) {
         Ok(bytes) => Ok(Some(Rec::from_vec(bytes))),
-        Err(FromHexError::OutOfMemory) => Err(NoMemory),
-        Err(_) => Ok(None),
+        Err(_) => Err(NoMemory),
     }
+}
+
+// The digits of such a word.
+fn hexadecimal_digits(word: &[u8]) -> Option<&[u8]>
+    ensures { MatchOption result ((string : List ℕ) → ¬ IsHexadecimal word.now string) (λ digits. (string : List ℕ) × (is : IsHexadecimal word.now string) × (is.digits ≡ digits.now)) }
+{
+    let [b'x', digits @ ..] = word else {
+        return None;
+    };
+    if are_pairs(digits) {
+        Some(digits)
+    } else {
+        None
+    }
+}
+
+// Whether the bytes are pairs of hexadecimal digits, one pair at least.
+fn are_pairs(bytes: &[u8]) -> bool
+    ensures { IsTrue result ↔ (0 < length bytes.now) × (length bytes.now % 2 ≡ 0) × (list_all is_ascii_hexdigit bytes.now ≡ true) }
+{
+    !bytes.is_empty() && bytes.len() % 2 == 0 && are_digits(bytes)
+}
+
+// Whether the bytes are hexadecimal digits.
+fn are_digits(bytes: &[u8]) -> bool
+    ensures { result ≡ list_all is_ascii_hexdigit bytes.now }
+{
+    bytes.iter().all(|byte| byte.is_ascii_hexdigit())
 }

@@ -1,7 +1,7 @@
 ghost use Rattle.std.specs.Prelude.{◌≡◌, ℕ, List, ◌≢◌, ◌≤◌, length, drop, true, get_or, IfOk, IfErr, IfSome, MatchOption};
 ghost use Rattle.argument_parts.specs.declared.fault.FaultKind.{FaultKind};
 ghost use Rattle.std.specs.Char.{is_ascii_alphanumeric};
-ghost use Rattle.argument_parts.specs.Refusals.{Refuses};
+ghost use Rattle.argument_parts.specs.Refusals.{Refuses, Wants};
 ghost use Rattle.argument_parts.specs.Strings.{IsBadHexAt, IsHexadecimalWord, IsNoString, IsOtherWord, IsString, IsStringFault, is_delimiter};
 
 use crate::fault::FaultKind;
@@ -23,6 +23,7 @@ fn between_delimiters(alloc: Global, text: &[u8]) -> Result<Spelled, Refusal>
     ensures within { IfOk result (λ spelled. spelled.len ≤ length text.now) }
     ensures read { IfOk result (λ spelled. IsString text.now spelled.string (drop spelled.len text.now)) }
     ensures refused { IfErr result (Refuses (IsStringFault text.now)) }
+    ensures memory { IfErr result (Wants ((string : List ℕ) × (rest : List ℕ) × IsString text.now string rest)) }
 {
     let Some((string, rest)) = delimited(text) else {
         return Err(Refusal::at(text, FaultKind::Unclosed));
@@ -42,6 +43,7 @@ pub fn hexadecimal_word(alloc: Global, text: &[u8]) -> Result<Option<Spelled>, R
     ensures within { IfOk result (λ found. IfSome found (λ spelled. spelled.len ≤ length text.now)) }
     ensures read { IfOk result (λ found. MatchOption found (IsOtherWord text.now) (λ spelled. IsHexadecimalWord text.now spelled.string (drop spelled.len text.now))) }
     ensures refused { IfErr result (Refuses (IsBadHexAt text.now)) }
+    ensures memory { IfErr result (Wants ((string : List ℕ) × (rest : List ℕ) × IsHexadecimalWord text.now string rest)) }
 {
     let (word, _rest) = first_word(text);
     match hexadecimal(alloc, word)? {
@@ -60,6 +62,7 @@ fn of_first_word(alloc: Global, text: &[u8]) -> Result<Spelled, Refusal>
     ensures within { IfOk result (λ spelled. spelled.len ≤ length text.now) }
     ensures read { IfOk result (λ spelled. IsString text.now spelled.string (drop spelled.len text.now)) }
     ensures refused { IfErr result (Refuses (IsStringFault text.now)) }
+    ensures memory { IfErr result (Wants ((string : List ℕ) × (rest : List ℕ) × IsString text.now string rest)) }
 {
     match hexadecimal_word(alloc, text)? {
         Some(spelled) => Ok(spelled),
@@ -73,6 +76,7 @@ pub fn string(alloc: Global, text: &[u8]) -> Result<Spelled, Refusal>
     ensures within { IfOk result (λ spelled. spelled.len ≤ length text.now) }
     ensures read { IfOk result (λ spelled. IsString text.now spelled.string (drop spelled.len text.now)) }
     ensures refused { IfErr result (Refuses (IsStringFault text.now)) }
+    ensures memory { IfErr result (Wants ((string : List ℕ) × (rest : List ℕ) × IsString text.now string rest)) }
 {
     if text[0].is_ascii_alphanumeric() {
         of_first_word(alloc, text)

@@ -9,17 +9,18 @@ use Rattle.net_graph.specs.Fed.{reads_any}
 use Rattle.call_meaning.specs.declared.status.Status.{Status}
 use Rattle.call_meaning.specs.declared.status.Status.TheVariants as Told
 use Rattle.call_meaning.specs.declared.status.Outcome.{Outcome}
-use Rattle.call_meaning.specs.declared.status.Outcome.TheVariants.{ReadFault, WriteFault, ShelfFault}
+use Rattle.call_meaning.specs.declared.status.Outcome.TheVariants.{ReadFault, WriteFault, ShelfFault, NoMemory}
 use Rattle.call_meaning.specs.Effects.{Before, Effect}
 use Rattle.call_meaning.specs.Status.{status_of}
-use Rattle.call_meaning.specs.Devices.{Outside, AllSteady, NoneFailed, Steady, Failed}
+use Rattle.call_meaning.specs.Devices.{Outside, AllSteady, NoneFailed, Steady, Failed, IsDone}
 use Rattle.call_meaning.specs.Meaning.{CheckMeans, ComesTo, IsTooLarge, Means, RunMeans, fed_size, input_limit, net_on}
 use Rattle.call_meaning.specs.Meaning.ComesTo.{ran, checked, sampled}
 use Rattle.call_meaning.specs.Meaning.Means.{unrun as means_unrun, unchecked as means_unchecked, too_large as means_large, came as means_came}
-use Rattle.call_meaning.specs.Answer.{HasCause, HasDone, HasUsed, IsTorn, IsUsed, Decides, Reports, IsMeant, Answers}
+use Rattle.call_meaning.specs.Answer.{HasCause, HasDone, HasUsed, IsTold, IsTorn, IsUsed, Decides, Reports, Answers}
 use Rattle.call_meaning.specs.Answer.HasCause.{unrun, unchecked, too_large, came, fetch_failed, read_failed, write_failed, no_memory}
 use Rattle.call_meaning.specs.Answer.HasDone.{whole, half}
 use Rattle.call_meaning.specs.Answer.IsTorn.{torn_failed, torn_memory}
+use Rattle.call_meaning.proofs.Headlines.{headline}
 use Rattle.call_meaning.proofs.Unread.{fed_unread}
 
 -- an outcome that is no fault was decided without one
@@ -36,9 +37,9 @@ module _ (words : List (List ℕ)) (old new : Outside) (given : Before) (effect 
 
   unfailed_torn : (name : List ℕ) → IsTorn old new name decided → new.shelf.faults ≡ old.shelf.faults
   unfailed_torn name (torn_failed is failed) = absurd (no_shelf name is)
-  unfailed_torn name (torn_memory is steady) = steady
+  unfailed_torn name (torn_memory is steady wanted) = steady
 
-  unfailed : HasDone words old new given effect decided → AllSteady old new
+  pub unfailed : HasDone words old new given effect decided → AllSteady old new
   unfailed (whole done cause) = unfailed_cause cause
   unfailed (half part) = record { input = part.input; output = part.output; shelf = unfailed_torn part.name part.torn }
 
@@ -98,7 +99,7 @@ module _ (words : List (List ℕ)) (old new : Outside) where
       trace = r.trace;
       runs = r.runs;
       fits = unread_fits d.given r.net leaves all r.fits;
-      means = subst (λ net. RunMeans net r.steps r.trace decided d.effect) (unread_same d.given r.net leaves all) r.means;
+      means = subst (λ net. RunMeans net r.steps r.runs.run.workers r.trace decided d.effect) (unread_same d.given r.net leaves all) r.means;
     }))
     come_meant (checked c) used = used_meant c.net used (checked c) (λ leaves all. checked (record {
       net = c.net;
@@ -112,47 +113,72 @@ module _ (words : List (List ℕ)) (old new : Outside) where
     large_meant : IsTooLarge words d.given → (all : List ℕ) → length d.given.input ≤ length all → IsTooLarge words (on_all d.given all)
     large_meant large all more = record { net = large.net; feeds = large.feeds; large = more_fed (reads_any large.net) _ _ _ more large.large }
 
-    abbrev Meaning : Status → Type 0
-    Meaning status = (status ≡ Told.NoMemory) ⊎ IsMeant words old d.given d.effect decided status
+    -- unhindered it was decided for what the words mean on all that the input tells
+    module _ (none : NoneFailed old new) (some : decided ≢ NoMemory) where
+      all_meant_by : HasCause words old new d.given d.effect decided → IfSome old.input.bytes Meant
+      all_meant_by (unrun why unread done steady) = at_some old.input.bytes (λ all. means_unrun why done)
+      all_meant_by (unchecked why unread done steady) = at_some old.input.bytes (λ all. means_unchecked why done)
+      all_meant_by (too_large large is done steady) =
+          weaker_some old.input.bytes (λ all more. means_large (large_meant large all more) is done) (some_given d.given.input old.input.bytes new.input.bytes d.gave)
+      all_meant_by (came comes used steady) = come_meant comes used
+      all_meant_by (fetch_failed name fetching unread is done input output failed) = absurd (none.shelf failed)
+      all_meant_by (read_failed reading is done failed output shelf) = absurd (none.input failed)
+      all_meant_by (write_failed written is input failed shelf) = absurd (none.output failed)
+      all_meant_by (no_memory is done steady) = absurd (some is)
 
-    meant_cause : (status : Status) → status ≡ status_of decided → NoneFailed old new → HasCause words old new d.given d.effect decided → Meaning status
-    meant_cause status told none (unrun why unread done steady) = inr (record { same = told; means = at_some old.input.bytes (λ all. means_unrun why done) })
-    meant_cause status told none (unchecked why unread done steady) = inr (record { same = told; means = at_some old.input.bytes (λ all. means_unchecked why done) })
-    meant_cause status told none (too_large large is done steady) =
-        inr (record { same = told; means = weaker_some old.input.bytes (λ all more. means_large (large_meant large all more) is done) (some_given d.given.input old.input.bytes new.input.bytes d.gave) })
-    meant_cause status told none (came comes used steady) = inr (record { same = told; means = come_meant comes used })
-    meant_cause status told none (fetch_failed name fetching unread is done input output failed) = absurd (none.shelf failed)
-    meant_cause status told none (read_failed reading is done failed output shelf) = absurd (none.input failed)
-    meant_cause status told none (write_failed written is input failed shelf) = absurd (none.output failed)
-    meant_cause status told none (no_memory is done steady) = inl (told ∙ ap status_of is)
+      -- and for what they mean on what it gave
+      given_meant_by : HasCause words old new d.given d.effect decided → Means words d.given decided d.effect
+      given_meant_by (unrun why unread done steady) = means_unrun why done
+      given_meant_by (unchecked why unread done steady) = means_unchecked why done
+      given_meant_by (too_large large is done steady) = means_large large is done
+      given_meant_by (came comes used steady) = means_came comes
+      given_meant_by (fetch_failed name fetching unread is done input output failed) = absurd (none.shelf failed)
+      given_meant_by (read_failed reading is done failed output shelf) = absurd (none.input failed)
+      given_meant_by (write_failed written is input failed shelf) = absurd (none.output failed)
+      given_meant_by (no_memory is done steady) = absurd (some is)
 
-    meant_torn : (status : Status) → status ≡ status_of decided → NoneFailed old new → (name : List ℕ) → IsTorn old new name decided → Meaning status
-    meant_torn status told none name (torn_failed is failed) = absurd (none.shelf failed)
-    meant_torn status told none name (torn_memory is steady) = inl (told ∙ ap status_of is)
+      -- so all of it was done
+      whole_of : HasDone words old new d.given d.effect decided → IsDone d.effect old new × HasCause words old new d.given d.effect decided
+      whole_of (whole done cause) = (done, cause)
+      whole_of (half part) = absurd (untorn part.torn)
+        where
+          untorn : {name : List ℕ} → IsTorn old new name decided → ⊥
+          untorn (torn_failed is failed) = none.shelf failed
+          untorn (torn_memory is steady wanted) = some is
 
-    meant : (status : Status) → status ≡ status_of decided → NoneFailed old new → HasDone words old new d.given d.effect decided → Meaning status
-    meant status told none (whole done cause) = meant_cause status told none cause
-    meant status told none (half part) = meant_torn status told none part.name part.torn
+      pub all_meant : IfSome old.input.bytes Meant
+      all_meant = all_meant_by (whole_of d.done).1
 
-  pub answers : (diag diag' : Device) (decided : Outcome) (status : Status) → Decides words old new decided → Reports decided status diag diag' → Answers words old new diag diag' status
-  answers diag diag' decided status d reports = record {
-    decided = decided;
-    decides = d;
-    reports = reports;
-    steady = steady;
-    complete = complete;
-  }
-    where
-      steady : status ≢ Told.ReadFault → status ≢ Told.WriteFault → status ≢ Told.ShelfFault → AllSteady old new × Steady diag diag'
-      steady no_read no_write no_shelf =
-          ⊎_elim
-          (λ told. (unfailed words old new d.given d.effect decided (λ is. no_read (told.same ∙ ap status_of is)) (λ is. no_write (told.same ∙ ap status_of is)) (λ name is. no_shelf (told.same ∙ ap status_of is)) d.done, told.steady))
-          (λ half. absurd (no_write half.turned))
-          reports
+      given_meant : Means words d.given decided d.effect
+      given_meant = given_meant_by (whole_of d.done).1
 
-      complete : NoneFailed old new → ¬ Failed diag diag' → (status ≡ Told.NoMemory) ⊎ IsMeant words old d.given d.effect decided status
-      complete none told_all =
-          ⊎_elim
-          (λ told. meant decided d status told.same none d.done)
-          (λ half. absurd (told_all half.failed))
-          reports
+      all_done : IsDone d.effect old new
+      all_done = (whole_of d.done).0
+
+  module _ (diag diag' : Device) (status : Status) where
+    -- the status and its text were told whole
+    pub told_whole : (decided : Outcome) → ¬ Failed diag diag' → Reports decided status diag diag' → IsTold decided status diag diag'
+    told_whole decided unfailed reports = ⊎_elim (λ told. told) (λ half. absurd (unfailed half.failed)) reports
+
+    -- memory wasn't wanted
+    pub some_memory : (decided : Outcome) → IsTold decided status diag diag' → status ≢ Told.NoMemory → decided ≢ NoMemory
+    some_memory decided told some is = some (told.same ∙ ap status_of is)
+
+    pub answers : (decided : Outcome) → Decides words old new decided → Reports decided status diag diag' → Answers words old new diag diag' status
+    answers decided d reports = record {
+      decided = decided;
+      decides = d;
+      reports = reports;
+      headline = λ free.
+          (let told = told_whole decided free.told reports in
+          let some = some_memory decided told free.memory in
+          (headline words d.given decided d.effect (given_meant decided d free.none some), all_done decided d free.none some, told));
+    }
+
+    -- a status that is no fault leaves the counts of faults as they were
+    pub steady : Answers words old new diag diag' status → status ≢ Told.ReadFault → status ≢ Told.WriteFault → status ≢ Told.ShelfFault → AllSteady old new × Steady diag diag'
+    steady a no_read no_write no_shelf =
+        ⊎_elim
+        (λ told. (unfailed words old new a.decides.given a.decides.effect a.decided (λ is. no_read (told.same ∙ ap status_of is)) (λ is. no_write (told.same ∙ ap status_of is)) (λ name is. no_shelf (told.same ∙ ap status_of is)) a.decides.done, told.steady))
+        (λ half. absurd (no_write half.turned))
+        a.reports

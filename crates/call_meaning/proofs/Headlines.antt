@@ -1,8 +1,5 @@
 -- From what a call answers to the headline.
-use Rattle.std.proofs.Common.{◌≡◌, ◌≢◌, ⊎_elim, inl, inr, ℕ, ◌<◌, ◌≤◌, List, [], ◌∷◌, ◌++◌, length, refl, sym, ◌∙◌, ap, subst, arith, length-append, ℤ, pos, negsuc, zero, suc, Option, Some}
-use Rattle.std.specs.Option.{IfSome}
-use Rattle.outside.specs.Device.{Device}
-use Rattle.outside.specs.Files.{Files}
+use Rattle.std.proofs.Common.{◌≡◌, ◌≢◌, inl, inr, ℕ, ◌<◌, ◌≤◌, List, [], ◌∷◌, ◌++◌, length, refl, sym, ◌∙◌, ap, subst, arith, length-append, ℤ, pos, negsuc, zero, suc, Option, None}
 use Rattle.pipe_model.specs.declared.net.Net.{Net}
 use Rattle.pipe_model.specs.declared.step.Entry.{Entry}
 use Rattle.pipe_model.specs.Alone.{Lists, IsPlainReading}
@@ -14,30 +11,26 @@ use Rattle.pipe_model.specs.State.{State, nothing_yet}
 use Rattle.pipe_model.specs.WellFormed.{IsWellFormed}
 use Rattle.confluence_laws.proofs.Commits.{committed_before}
 use Rattle.confluence_laws.proofs.Lengths.{few_steps, legal_last}
-use Rattle.confluence_laws.proofs.Plains.{one_reading}
 use Rattle.confluence_laws.proofs.Prefixes.{alike, beginning_of}
+use Rattle.confluence_laws.proofs.Readings.{plain_reading}
 use Rattle.confluence_laws.proofs.WaitLines.{none_ended, some_unended, unended_some}
-use Rattle.net_graph.proofs.Feeds.{fed_formed}
-use Rattle.call_meaning.specs.declared.status.Status.{Status}
-use Rattle.call_meaning.specs.declared.status.Status.TheVariants.{NoMemory}
-use Rattle.call_words.specs.declared.command.Command.TheVariants.{Run}
+use Rattle.net_graph.specs.Fed.{with_input}
+use Rattle.net_graph.proofs.Feeds.{fed_formed, input_formed}
+use Rattle.call_words.specs.declared.command.Command.TheVariants.{Run, Sample}
 use Rattle.call_meaning.specs.declared.status.Outcome.{Outcome}
 use Rattle.call_meaning.specs.declared.status.Outcome.TheVariants.{Spent}
-use Rattle.call_meaning.specs.Answer.{Answers, HasDone, IsMeant, IsTold, IsTorn}
-use Rattle.call_meaning.specs.Answer.HasDone.{whole, half}
-use Rattle.call_meaning.specs.Answer.IsTorn.{torn_failed, torn_memory}
-use Rattle.call_meaning.specs.Devices.{Outside, Failed, IsDone, NoneFailed}
 use Rattle.call_meaning.specs.Effects.{Before, Effect, effect_of, no_effect, traced, untraced}
-use Rattle.call_meaning.specs.Headline.{AreKnown, Headline, IsEnded, IsHeadline, IsOneReading, IsReplyOf, IsStall}
+use Rattle.call_meaning.specs.Headline.{HasOneSummary, Headline, IsEnded, IsHeadline, IsOneReading, IsReplyOf, IsStall}
 use Rattle.call_meaning.specs.Headline.HasOneAnswer.{reads, spends}
-use Rattle.call_meaning.specs.Meaning.{Exhausts, Finishes, IsCommittedFirst, Means, RunMeans, RunsNet, fed_size, input_limit, net_on, outcome_by, outcome_of}
+use Rattle.call_meaning.specs.Headline.HasOneSummary.{sums_up as one_sum, falls_short}
+use Rattle.call_meaning.specs.Meaning.{Exhausts, Finishes, IsCommittedFirst, Means, RunMeans, RunsNet, SampleMeans, SamplesNet, fed_size, input_limit, net_on, outcome_by, outcome_of, summed_up}
 use Rattle.call_meaning.specs.Meaning.RunMeans.{finishes, exhausts}
-use Rattle.call_meaning.specs.Status.{status_of}
+use Rattle.call_meaning.specs.Meaning.SampleMeans.{sums_up, spends as sample_spends}
+use Rattle.call_meaning.specs.Sample.{sample_spec, sample_text}
 use Rattle.call_meaning.proofs.Journals.{goes_further}
-use Rattle.call_meaning.proofs.Meanings.{IfFits, meaning_at, run_called}
+use Rattle.call_meaning.proofs.Lists.{some_lists}
+use Rattle.call_meaning.proofs.Meanings.{IfFits, meaning_at, run_called, sample_called}
 use Rattle.call_meaning.proofs.OneTexts.{net_formed}
-use Rattle.call_meaning.proofs.SameReplies.{same_reply}
-use Rattle.call_meaning.proofs.Unread.{fed_unfiled, none_unfiled}
 use Rattle.call_meaning.proofs.Untraced.{traced_by, untraced_is}
 
 -- The outcome of a reply
@@ -67,7 +60,7 @@ stall_by net [] code some = absurd (some refl)
 
 -- A settled net
 
-module _ (net : Net) (steps : ℕ) (formed : IsWellFormed net) (settled : IsSettled net) where
+module _ (net : Net) (steps workers : ℕ) (formed : IsWellFormed net) (settled : IsSettled net) where
   -- a complete order has the reading
   reading_of : (es : List Entry) → IsLegal net es → IsComplete net es → IsOneReading net (play net es) (length es)
   reading_of es legal complete = record {
@@ -85,7 +78,7 @@ module _ (net : Net) (steps : ℕ) (formed : IsWellFormed net) (settled : IsSett
 
   module _ (trace : Option (List ℕ)) (outcome : Outcome) (effect : Effect) where
     -- it came to its end
-    module _ (answer : Reply) (done : Finishes net steps answer) (outcome_is : outcome ≡ outcome_of net answer) (effect_is : effect ≡ traced trace done.journal (effect_of answer)) where
+    module _ (answer : Reply) (done : Finishes net steps workers answer) (outcome_is : outcome ≡ outcome_of net answer) (effect_is : effect ≡ traced trace done.journal (effect_of answer)) where
       abbrev st : State
       st = play net done.journal
 
@@ -98,10 +91,11 @@ module _ (net : Net) (steps : ℕ) (formed : IsWellFormed net) (settled : IsSett
       ended : IsEnded outcome → HasEnded net st
       ended is = none_ended net st (by_ended net (reply net st).waits (reply net st).code (subst IsEnded outcome_by_st is))
 
-      by_streams : IsPlain net → IsEnded outcome → (other : State) → IsPlainReading net other → IsReplyOf net other outcome effect
-      by_streams plain is other reading =
-          subst (λ (r : Reply). (outcome ≡ outcome_of net r) × (untraced effect ≡ effect_of r))
-          (same_reply net st other (one_reading net formed plain st other (done.plainly plain (ended is)) reading)) replied
+      by_streams : IsPlain net → IsEnded outcome → (other : State) × IsPlainReading net other × IsReplyOf net other outcome effect
+      by_streams plain is = (st, plain_reading net formed plain done.journal done.legal (ended is), replied)
+
+      enough_for : IsPlain net → (lists : Lists) × AreLists net lists × (enough net lists ≤ steps → outcome ≢ Spent steps)
+      enough_for plain = (let some = some_lists net formed plain in (some.0, some.1, λ few spent. by_unspent net (reply net st).waits (reply net st).code steps (sym outcome_by_st ∙ spent)))
 
       to_stall : IsStall outcome → (other : State) × (size : ℕ) × IsOneReading net other size × (size ≤ steps) × ¬ HasEnded net other
       to_stall is = (
@@ -117,18 +111,18 @@ module _ (net : Net) (steps : ℕ) (formed : IsWellFormed net) (settled : IsSett
           let same = (reading.one done.journal done.legal done.complete).0 in
           subst IsStall (sym outcome_by_st) (stall_by net (reply net st).waits (reply net st).code (unended_some net st (subst (λ z. ¬ HasEnded net z) (sym same) unended)))
 
-      finished : IsHeadline net steps trace outcome effect
+      finished : IsHeadline net steps workers trace outcome effect
       finished = record {
         answer = reads st (length done.journal) (reading_of done.journal done.legal done.complete) done.within replied;
         streams = by_streams;
         stalls = (to_stall, from_stall);
-        enough = λ plain lists are few spent. by_unspent net (reply net st).waits (reply net st).code steps (sym outcome_by_st ∙ spent);
+        enough = enough_for;
         first = committed;
-        traced = traced_by done.journal net done.legal trace effect (effect_of answer) refl effect_is;
+        traced = traced_by done.journal net steps workers done.legal (inl done.complete) done.least trace effect (effect_of answer) refl effect_is;
       }
 
     -- it had more to do
-    module _ (spent : Exhausts net steps) (outcome_is : outcome ≡ Spent steps) where
+    module _ (spent : Exhausts net steps workers) (outcome_is : outcome ≡ Spent steps) where
       none_short : (order : List Entry) → IsLegal net order → IsComplete net order → steps < length order
       none_short order legal complete =
           let longer = goes_further net formed settled order spent.journal spent.more.0 legal complete spent.legal spent.more.1 in
@@ -145,8 +139,8 @@ module _ (net : Net) (steps : ℕ) (formed : IsWellFormed net) (settled : IsSett
           let is = (reading.one order reading.some.1 reading.some.2).1 in
           absurd (omega (arith, longer, is, within))
 
-      not_enough : IsPlain net → (lists : Lists) → AreLists net lists → enough net lists ≤ steps → outcome ≢ Spent steps
-      not_enough plain lists are few is =
+      too_few : IsPlain net → (lists : Lists) → AreLists net lists → enough net lists ≤ steps → outcome ≢ Spent steps
+      too_few plain lists are few is =
           let more = spent.journal ++ spent.more.0 ∷ [] in
           let legal : IsLegal net more = legal_last net nothing_yet spent.journal spent.more.0 spent.legal spent.more.1 in
           let size = length-append spent.journal (spent.more.0 ∷ []) in
@@ -154,76 +148,43 @@ module _ (net : Net) (steps : ℕ) (formed : IsWellFormed net) (settled : IsSett
           let full = spent.full in
           omega (arith, size, least, full, few)
 
-    headline_net : RunMeans net steps trace outcome effect → IsHeadline net steps trace outcome effect
+      not_enough : IsPlain net → (lists : Lists) × AreLists net lists × (enough net lists ≤ steps → outcome ≢ Spent steps)
+      not_enough plain = (let some = some_lists net formed plain in (some.0, some.1, too_few plain some.0 some.1))
+
+    headline_net : RunMeans net steps workers trace outcome effect → IsHeadline net steps workers trace outcome effect
     headline_net (finishes answer done outcome_is effect_is) = finished answer done outcome_is effect_is
     headline_net (exhausts spent outcome_is effect_is) = record {
       answer = spends (none_short spent outcome_is) outcome_is (untraced_is spent.journal trace effect no_effect effect_is);
-      streams = λ plain is st reading. absurd (subst IsEnded outcome_is is);
+      streams = λ plain is. absurd (subst IsEnded outcome_is is);
       stalls = (λ is. absurd (no_stall spent outcome_is is), no_reading spent outcome_is);
       enough = not_enough spent outcome_is;
       first = committed;
-      traced = traced_by spent.journal net spent.legal trace effect no_effect refl effect_is;
+      traced = traced_by spent.journal net steps workers spent.legal (inr spent.full) spent.least trace effect no_effect refl effect_is;
     }
+
+    -- and the sample
+    summary_net : (count : ℕ) → SampleMeans count net steps workers outcome effect → HasOneSummary net count steps outcome effect
+    summary_net count (sums_up answer done outcome_is effect_is) =
+        one_sum (play net done.journal) (length done.journal) (reading_of done.journal done.legal done.complete) done.within
+        (outcome_is ∙ ap (outcome_of net) (sym done.replies))
+        (effect_is ∙ ap (λ (r : Reply). summed_up count r.console (length done.journal) outcome) (sym done.replies))
+    summary_net count (sample_spends spent outcome_is effect_is) = falls_short (none_short spent outcome_is) outcome_is effect_is
 
 -- A call
 
-abbrev before_of : List ℕ → Files → Before
-before_of input files = record { input = input; files = files }
-
-module _ (words : List (List ℕ)) (net : Net) (steps : ℕ) (trace : Option (List ℕ)) (runs : RunsNet words net steps trace) where
-  module _ (before : Before) (settled : IsSettled (net_on before net)) (fits : fed_size before net ≤ input_limit) (outcome : Outcome) (effect : Effect) where
-    by_meaning : Means words before outcome effect → IsHeadline (net_on before net) steps trace outcome effect
-    by_meaning means = by (meaning_at words before (Run runs.spec runs.run.workers steps trace) net (run_called words net steps trace runs) outcome effect means)
-      where
-        by : IfFits before net outcome effect (RunMeans (net_on before net) steps trace outcome effect) → IsHeadline (net_on before net) steps trace outcome effect
-        by (inl large) = (let past = large.0 in absurd (omega (arith, fits, past)))
-        by (inr run) = headline_net (net_on before net) steps (fed_formed before.input before.files net (net_formed runs.spec net runs.net_of)) settled trace outcome effect run.1
-
-  -- on files that it doesn't read a net is the same
-  by_files : (input : List ℕ) (files given : Files) (told : Option Files) → AreKnown net told files → IfSome told (λ there. given ≡ there) →
-      (net_on (before_of input given) net ≡ net_on (before_of input files) net) × (fed_size (before_of input given) net ≡ fed_size (before_of input files) net)
-  by_files input files given told (inl known) found =
-      let same : given ≡ files = subst (λ o. IfSome o (λ there. given ≡ there)) known found in
-      (ap (λ f. net_on (before_of input f) net) same, ap (λ f. fed_size (before_of input f) net) same)
-  by_files input files given told (inr none) found =
-      let sizes = none_unfiled given files net none in
-      (fed_unfiled given files net none input, (let e : fed_size (before_of input given) net ≡ fed_size (before_of input files) net = omega (arith, sizes) in e))
-
-  -- what they mean on the files that were given
-  by_given : (input : List ℕ) (files given : Files) (told : Option Files) → AreKnown net told files → IfSome told (λ there. given ≡ there) → IsSettled (net_on (before_of input files) net) → fed_size (before_of input files) net ≤ input_limit →
-      (outcome : Outcome) (effect : Effect) → Means words (before_of input given) outcome effect → IsHeadline (net_on (before_of input files) net) steps trace outcome effect
-  by_given input files given told known found settled fits outcome effect means =
-      let same = by_files input files given told known found in
-      subst (λ z. IsHeadline z steps trace outcome effect) same.0
-      (by_meaning (before_of input given) (subst IsSettled (sym same.0) settled) (subst (λ n. n ≤ input_limit) (sym same.1) fits) outcome effect means)
-
-module _ (words : List (List ℕ)) (old new : Outside) (diag diag' : Device) (status : Status) (answers : Answers words old new diag diag' status) where
-  -- its text was told
-  told_of : ¬ Failed diag diag' → IsTold answers.decided status diag diag'
-  told_of untold = ⊎_elim (λ told. told) (λ half. absurd (untold half.failed)) answers.reports
-
-  -- its effect was carried out
-  done_by : NoneFailed old new → ¬ Failed diag diag' → status ≢ NoMemory → HasDone words old new answers.decides.given answers.decides.effect answers.decided → IsDone answers.decides.effect old new
-  done_by none untold some (whole done cause) = done
-  done_by none untold some (half part) = by part.torn
+module _ (words : List (List ℕ)) (given : Before) (outcome : Outcome) (effect : Effect) (means : Means words given outcome effect) where
+  by_run : (net : Net) (steps : ℕ) (trace : Option (List ℕ)) (runs : RunsNet words net steps trace) → IsSettled (net_on given net) → fed_size given net ≤ input_limit →
+      IsHeadline (net_on given net) steps runs.run.workers trace outcome effect
+  by_run net steps trace runs settled fits = by (meaning_at words given (Run runs.spec runs.run.workers steps trace) net (run_called words net steps trace runs) outcome effect means)
     where
-      by : IsTorn old new part.name answers.decided → IsDone answers.decides.effect old new
-      by (torn_failed is failed) = absurd (none.shelf failed)
-      by (torn_memory is steady) = absurd (some ((told_of untold).same ∙ ap status_of is))
+      by : IfFits given net outcome effect (RunMeans (net_on given net) steps runs.run.workers trace outcome effect) → IsHeadline (net_on given net) steps runs.run.workers trace outcome effect
+      by (inl large) = (let past = large.0 in absurd (omega (arith, fits, past)))
+      by (inr run) = headline_net (net_on given net) steps runs.run.workers (fed_formed given.input given.files net (net_formed runs.spec net runs.net_of)) settled trace outcome effect run.1
 
-  -- what it means
-  meant_of : (input : List ℕ) → old.input.bytes ≡ Some input → IsMeant words old answers.decides.given answers.decides.effect answers.decided status →
-      Means words (record answers.decides.given { input = input }) answers.decided answers.decides.effect
-  meant_of input told_input meant = subst (λ o. IfSome o (λ z. Means words (record answers.decides.given { input = z }) answers.decided answers.decides.effect)) told_input meant.means
+  by_sample : (net : Net) (count steps : ℕ) → SamplesNet words net count steps → IsSettled (with_input (sample_text count) net) → HasOneSummary (with_input (sample_text count) net) count steps outcome effect
+  by_sample net count steps samples settled =
+      summary_net (with_input (sample_text count) net) steps samples.workers (input_formed (sample_text count) net (net_formed sample_spec net samples.net_of)) settled None outcome effect count
+      (meaning_at words given (Sample count samples.workers steps) net (sample_called words net count steps samples) outcome effect means)
 
-  pub headline : Headline words old new diag diag' status
-  headline = λ input files net steps trace told_input known runs settled fits none untold some. (
-    answers.decided,
-    answers.decides.effect,
-    ⊎_elim
-        (λ lacks. absurd (some lacks))
-        (λ meant. by_given words net steps trace runs input files answers.decides.given.files old.shelf.files known answers.decides.found settled fits answers.decided answers.decides.effect (meant_of input told_input meant))
-        (answers.complete none untold),
-    done_by none untold some answers.decides.done,
-    told_of untold,
-  )
+  pub headline : Headline words given outcome effect
+  headline = record { runs = by_run; samples = by_sample }

@@ -33,10 +33,10 @@ module _ (words : List (List ℕ)) (spec : List ℕ) (steps : ℕ) (strings : Li
   on_formed : IsWellFormed (line_net before.input strings)
   on_formed = subst IsWellFormed (line_fed before strings) (fed_formed before.input before.files (line_net [] strings) (net_formed spec (line_net [] strings) line))
 
-  answer_is : (reply_was : Reply) → Finishes (line_net before.input strings) steps reply_was → reply_was ≡ answer
+  answer_is : (reply_was : Reply) → Finishes (line_net before.input strings) steps run.workers reply_was → reply_was ≡ answer
   answer_is reply_was done = sym done.replies ∙ line_replies before.input strings on_formed done.journal done.legal done.complete
 
-  run_told : (outcome : Outcome) (effect : Effect) → RunMeans (line_net before.input strings) steps trace outcome effect → Told outcome effect
+  run_told : (outcome : Outcome) (effect : Effect) → RunMeans (line_net before.input strings) steps run.workers trace outcome effect → Told outcome effect
   run_told outcome effect (finishes reply_was done outcome_is effect_is) =
       let same = answer_is reply_was done in
       subst (λ o. Told o effect) (sym (outcome_is ∙ ap (outcome_of (line_net before.input strings)) same))
@@ -48,6 +48,6 @@ module _ (words : List (List ℕ)) (spec : List ℕ) (steps : ℕ) (strings : Li
   line_means outcome effect means =
       by (meaning_at words before (Run spec run.workers steps trace) (line_net [] strings) (record { command_is = run.command; net_of = line }) outcome effect means)
     where
-      by : IfFits before (line_net [] strings) outcome effect (RunMeans (net_on before (line_net [] strings)) steps trace outcome effect) → Told outcome effect
+      by : IfFits before (line_net [] strings) outcome effect (RunMeans (net_on before (line_net [] strings)) steps run.workers trace outcome effect) → Told outcome effect
       by (inl large) = subst (λ o. Told o effect) (sym large.1) (subst (λ n. input_limit < n) (line_size before strings) large.0, large.2)
-      by (inr run) = run_told outcome effect (subst (λ z. RunMeans z steps trace outcome effect) (line_fed before strings) run.1)
+      by (inr ran) = run_told outcome effect (subst (λ z. RunMeans z steps run.workers trace outcome effect) (line_fed before strings) ran.1)

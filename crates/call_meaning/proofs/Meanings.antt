@@ -44,9 +44,9 @@ pub data ChecksOut (before : Before) (name : List ℕ) (net : Net) (outcome : Ou
       ChecksOut before name net outcome effect
 
 abbrev pub CarriesOut : Before → Command → Net → Outcome → Effect → Type 0
-CarriesOut before (Run spec workers steps trace) net outcome effect = IfFits before net outcome effect (RunMeans (net_on before net) steps trace outcome effect)
+CarriesOut before (Run spec workers steps trace) net outcome effect = IfFits before net outcome effect (RunMeans (net_on before net) steps workers trace outcome effect)
 CarriesOut before (Check spec name) net outcome effect = ChecksOut before name net outcome effect
-CarriesOut before (Sample count workers steps) net outcome effect = SampleMeans count (with_input (sample_text count) net) steps outcome effect
+CarriesOut before (Sample count workers steps) net outcome effect = SampleMeans count (with_input (sample_text count) net) steps workers outcome effect
 
 -- the words are this command, of this net, which comes to this
 pub record IsCarriedOut (words : List (List ℕ)) (before : Before) (outcome : Outcome) (effect : Effect) : Type 0 where
@@ -63,7 +63,7 @@ module _ (words : List (List ℕ)) where
   check_called : (net : Net) (name : List ℕ) (checks : ChecksNet words net name) → IsCall words (Check checks.spec name) net
   check_called net name checks = record { command_is = checks.command; net_of = checks.net_of }
 
-  sample_called : (net : Net) (count steps : ℕ) (samples : SamplesNet words net count steps) → IsCall words (Sample count samples.workers steps) net
+  pub sample_called : (net : Net) (count steps : ℕ) (samples : SamplesNet words net count steps) → IsCall words (Sample count samples.workers steps) net
   sample_called net count steps samples = record { command_is = samples.command; net_of = samples.net_of }
 
   -- words are one command, of one net
@@ -184,12 +184,12 @@ module _ (words : List (List ℕ)) where
         one_command : (command : Command) (net : Net) → IsCall words command net → CarriesOut before command net a x → CarriesOut before command net b y → AreOne
         one_command (Run spec workers steps trace) net call first second =
             let runs : RunsNet words net steps trace = record { spec = spec; run = record { workers = workers; command = call.command_is }; net_of = call.net_of } in
-            one_fitting net (one_run (net_on before net) steps (fed_formed before.input before.files net (net_formed spec net call.net_of)) (settled (net_on before net) (steps_of_run net steps trace runs refl)) trace a b x y) first second
+            one_fitting net (one_run (net_on before net) steps workers (fed_formed before.input before.files net (net_formed spec net call.net_of)) (settled (net_on before net) (steps_of_run net steps trace runs refl)) trace a b x y) first second
         one_command (Check spec name) net call first second = one_checked name net first second
         one_command (Sample count workers steps) net call first second =
             let samples : SamplesNet words net count steps = record { workers = workers; command = call.command_is; net_of = call.net_of } in
             let fed = with_input (sample_text count) net in
-            let one = one_sample fed steps (input_formed (sample_text count) net (net_formed (spec_of (Sample count workers steps)) net call.net_of)) (settled fed (of_sample net count steps samples refl)) count a b x y first second in
+            let one = one_sample fed steps workers (input_formed (sample_text count) net (net_formed (spec_of (Sample count workers steps)) net call.net_of)) (settled fed (of_sample net count steps samples refl)) count a b x y first second in
             (one.0, ap untraced one.1)
 
         pub one_of_each : Means words before a x → Means words before b y → AreOne

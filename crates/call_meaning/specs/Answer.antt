@@ -14,7 +14,8 @@ use Rattle.call_meaning.specs.declared.status.Outcome.TheVariants.{ReadFault, Wr
 use Rattle.call_meaning.specs.Effects.{Before, Effect, no_effect, output_of}
 use Rattle.call_meaning.specs.Status.{status_of, text_of}
 use Rattle.call_meaning.specs.Devices.{Outside, Steady, Failed, IsRead, AllSteady, NoneFailed, IsDone, IsPartDone}
-use Rattle.call_meaning.specs.Meaning.{ChecksNet, ComesTo, FeedsNet, HasRun, IsFileOf, IsTooLarge, IsUnchecked, IsUnrun, Means, fed_size, input_limit}
+use Rattle.call_meaning.specs.Headline.{Headline}
+use Rattle.call_meaning.specs.Meaning.{ChecksNet, ComesTo, FeedsNet, HasRun, IsNextFile, IsTooLarge, IsUnchecked, IsUnrun, fed_size, input_limit}
 use Rattle.call_meaning.specs.Meaning.ComesTo.{ran, checked, sampled}
 
 -- the bytes are the front of these and not all of them
@@ -30,8 +31,8 @@ pub record IsUsed (net : Net) (given : Before) (input : Device) : Type 0 where
 
 -- the words fetch the file of this name
 pub data IsFetching (words : List (List ℕ)) (files : Files) (name : List ℕ) : Type 0 where
-  -- a stage reads it
-  of_stage : (net : Net) → FeedsNet words files net → IsFileOf net name → IsFetching words files name
+  -- a stage reads it, and what was fetched before fits
+  of_stage : (net : Net) → FeedsNet words files net → IsNextFile net files name → IsFetching words files name
   -- or it is to have the journal that they check
   of_journal : (net : Net) → ChecksNet words net name → IsFetching words files name
 
@@ -58,10 +59,10 @@ pub record IsHalfWritten (words : List (List ℕ)) (given : Before) (input : Dev
   pub cut : IsCutShort wrote whole.output
   pub effect_is : effect ≡ output_of wrote
 
--- why a replacement ended the call: the shelf failed at this name, or memory was wanted
+-- why a replacement ended the call: the shelf failed at this name, or wanted memory
 pub data IsTorn (old new : Outside) (name : List ℕ) (decided : Outcome) : Type 0 where
   torn_failed : decided ≡ ShelfFault name → Rose old.shelf.faults new.shelf.faults → IsTorn old new name decided
-  torn_memory : decided ≡ NoMemory → new.shelf.faults ≡ old.shelf.faults → IsTorn old new name decided
+  torn_memory : decided ≡ NoMemory → new.shelf.faults ≡ old.shelf.faults → Rose old.shelf.wants new.shelf.wants → IsTorn old new name decided
 
 -- why an outcome was decided, where the call was given this and its effect is this, which was carried out
 pub data HasCause (words : List (List ℕ)) (old new : Outside) (given : Before) (effect : Effect) (decided : Outcome) : Type 0 where
@@ -128,18 +129,18 @@ pub record IsHalfTold (decided : Outcome) (status : Status) (diag diag' : Device
 abbrev pub Reports : Outcome → Status → Device → Device → Type 0
 Reports decided status diag diag' = IsTold decided status diag diag' ⊎ IsHalfTold decided status diag diag'
 
--- the status and the effect are those that the words mean on all of the input, where it is told
-pub record IsMeant (words : List (List ℕ)) (old : Outside) (given : Before) (effect : Effect) (decided : Outcome) (status : Status) : Type 0 where
-  pub same : status ≡ status_of decided
-  pub means : IfSome old.input.bytes (λ input. Means words (record given { input = input }) decided effect)
+-- no call failed, and memory wasn't wanted
+pub record IsUnhindered (old new : Outside) (diag diag' : Device) (status : Status) : Type 0 where
+  pub none : NoneFailed old new
+  pub told : ¬ Failed diag diag'
+  pub memory : status ≢ Told.NoMemory
 
 -- a call with these words, before which and after which its objects show this, may answer this status
 pub record Answers (words : List (List ℕ)) (old new : Outside) (diag diag' : Device) (status : Status) : Type 0 where
-  -- the outcome that was decided, and then told
+  -- the outcome that was decided, and what was done
   pub decided : Outcome
   pub decides : Decides words old new decided
+  -- its text was told
   pub reports : Reports decided status diag diag'
-  -- a status that is no fault leaves the counts of faults as they were
-  pub steady : status ≢ Told.ReadFault → status ≢ Told.WriteFault → status ≢ Told.ShelfFault → AllSteady old new × Steady diag diag'
-  -- where no call failed, it answers what the words mean, or want of memory
-  pub complete : NoneFailed old new → ¬ Failed diag diag' → (status ≡ Told.NoMemory) ⊎ IsMeant words old decides.given decides.effect decided status
+  -- unhindered it is all done and told, and is what the stages of a settled specification come to as functions on streams, whatever the order of steps
+  pub headline : IsUnhindered old new diag diag' status → Headline words decides.given decided decides.effect × IsDone decides.effect old new × IsTold decided status diag diag'

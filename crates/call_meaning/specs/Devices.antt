@@ -2,11 +2,10 @@
 use Rattle.std.specs.Prelude.{◌≡◌, ℕ, List}
 use Rattle.std.specs.Io.KnownBytes.{Appends, IsAtEnd}
 use Rattle.std.specs.declared.option.Option.{Option}
-use Rattle.std.specs.declared.option.Option.TheVariants.{Some}
 use Rattle.outside.specs.Faults.{Rose}
 use Rattle.outside.specs.Files.{Files}
 use Rattle.outside.specs.Device.{Device}
-use Rattle.call_meaning.specs.Effects.{Effect, AreReplaced, AreReplacedBelow, AreReplacedBut, IsNameOf, replaced_by}
+use Rattle.call_meaning.specs.Effects.{Effect, AreReplaced, ArePartReplaced, replaced_by}
 
 -- no call failed
 abbrev pub Steady : Device → Device → Type 0
@@ -20,13 +19,14 @@ Failed old new = Rose old.faults new.faults
 abbrev pub IsRead : Device → Type 0
 IsRead source = IsAtEnd source.bytes
 
--- a shelf: the files, where they are told, and the count of its faults
+-- a shelf: the files, where they are told, the count of its faults, and how many replacements wanted memory
 pub record Store : Type 0 where
   pub files : Option Files
   pub faults : ℕ
+  pub wants : ℕ
 
-abbrev pub store : Option Files → ℕ → Store
-store files faults = record { files = files; faults = faults }
+abbrev pub store : Option Files → ℕ → ℕ → Store
+store files faults wants = record { files = files; faults = faults; wants = wants }
 
 -- what a run reads and writes: all objects of a call but standard error
 pub record Outside : Type 0 where
@@ -49,17 +49,10 @@ pub record NoneFailed (old new : Outside) : Type 0 where
   pub output : ¬ Failed old.output new.output
   pub shelf : ¬ Rose old.shelf.faults new.shelf.faults
 
--- which files of the effect were replaced, and no others, where the replacement of the one of this name ended the call: what this one holds is open
-pub data IsPartReplaced (name : List ℕ) (effect : Effect) (old new : Option Files) : Type 0 where
-  -- it is a stage's: those of lesser names
-  at_file : IsNameOf effect.files name → AreReplacedBelow name effect.files old new → IsPartReplaced name effect old new
-  -- it is the journal's: all of the stages
-  at_trace : (text : List ℕ) → effect.trace ≡ Some (name, text) → AreReplacedBut name effect.files old new → IsPartReplaced name effect old new
-
--- the output of the effect was written, and of its files those before this one were replaced, and nothing else was written
+-- the output of the effect was written, and of its files those before the one of this name were replaced, and nothing else was written
 pub record IsPartDone (name : List ℕ) (effect : Effect) (old new : Outside) : Type 0 where
   pub output : Appends old.output.bytes new.output.bytes effect.output
-  pub files : IsPartReplaced name effect old.shelf.files new.shelf.files
+  pub files : ArePartReplaced name (replaced_by effect) old.shelf.files new.shelf.files
 
 -- the effect was carried out, and nothing else was written
 pub record IsDone (effect : Effect) (old new : Outside) : Type 0 where

@@ -7,8 +7,6 @@ use Rattle.std.specs.Prelude.{◌≡◌, ◌≢◌, ◌<◌, ◌≤◌, ◌⊎�
 use Rattle.std.specs.declared.option.Option.{Option}
 use Rattle.std.specs.declared.option.Option.TheVariants.{Some, None}
 use Rattle.journal_file.specs.Text.{journal_text}
-use Rattle.outside.specs.Device.{Device}
-use Rattle.outside.specs.Files.{Files}
 use Rattle.pipe_model.specs.declared.net.Net.{Net}
 use Rattle.pipe_model.specs.declared.step.Entry.{Entry}
 use Rattle.pipe_model.specs.Alone.{Lists, IsPlainReading}
@@ -17,14 +15,12 @@ use Rattle.pipe_model.specs.Play.{play, HasEnded, IsComplete, IsLegal}
 use Rattle.pipe_model.specs.Reply.{FileText, reply}
 use Rattle.pipe_model.specs.Settled.{IsSettled}
 use Rattle.pipe_model.specs.State.{State}
-use Rattle.call_meaning.specs.declared.status.Status.{Status}
-use Rattle.call_meaning.specs.declared.status.Status.TheVariants.{NoMemory}
 use Rattle.call_meaning.specs.declared.status.Outcome.{Outcome}
 use Rattle.call_meaning.specs.declared.status.Outcome.TheVariants.{Done, Coded, Stalled, Spent}
-use Rattle.call_meaning.specs.Answer.{IsTold}
-use Rattle.call_meaning.specs.Devices.{Outside, Failed, IsDone, NoneFailed}
 use Rattle.call_meaning.specs.Effects.{Before, Effect, effect_of, no_effect, untraced}
-use Rattle.call_meaning.specs.Meaning.{IsCommittedFirst, IsFileOf, RunsNet, fed_size, input_limit, net_on, outcome_of}
+use Rattle.call_meaning.specs.Meaning.{AreLeast, IsCommittedFirst, RunsNet, SamplesNet, fed_size, input_limit, net_on, outcome_of, summed_up}
+use Rattle.call_meaning.specs.Sample.{sample_text}
+use Rattle.net_graph.specs.Fed.{with_input}
 
 -- the reading of a net: every complete order of steps comes to these histories, in so many steps, and no order goes on for longer
 pub record IsOneReading (net : Net) (st : State) (size : ℕ) : Type 0 where
@@ -53,36 +49,36 @@ abbrev pub IsStall : Outcome → Type 0
 IsStall (Stalled lines) = Unit {0}
 IsStall _ = ⊥
 
--- the journal's file, where one is named, has the text of an order of steps
-abbrev pub IsTraced : Net → Option (List ℕ) → Option FileText → Type 0
-IsTraced net None file = file ≡ None
-IsTraced net (Some name) file = (order : List Entry) × IsLegal net order × (file ≡ Some (name, journal_text order))
+-- the journal's file, where one is named, has the text of an order of steps, which is complete or as long as the steps allow; one worker takes the least step
+-- each time
+abbrev pub IsTraced : Net → ℕ → ℕ → Option (List ℕ) → Option FileText → Type 0
+IsTraced net steps workers None file = file ≡ None
+IsTraced net steps workers (Some name) file =
+    (order : List Entry) × IsLegal net order × (IsComplete net order ⊎ (length order ≡ steps)) × (workers ≡ 1 → AreLeast net order) × (file ≡ Some (name, journal_text order))
 
 -- what a settled net comes to, whose stages are fed
-pub record IsHeadline (net : Net) (steps : ℕ) (trace : Option (List ℕ)) (outcome : Outcome) (effect : Effect) : Type 0 where
+pub record IsHeadline (net : Net) (steps workers : ℕ) (trace : Option (List ℕ)) (outcome : Outcome) (effect : Effect) : Type 0 where
   -- whatever the order of steps
   pub answer : HasOneAnswer net steps outcome effect
   -- that of its stages read as functions on streams, where the net is plain and every stage ended
-  pub streams : IsPlain net → IsEnded outcome → (st : State) → IsPlainReading net st → IsReplyOf net st outcome effect
+  pub streams : IsPlain net → IsEnded outcome → (st : State) × IsPlainReading net st × IsReplyOf net st outcome effect
   -- a stall exactly where the reading leaves stages unfinished
   pub stalls : IsStall outcome ↔ ((st : State) × (size : ℕ) × IsOneReading net st size × (size ≤ steps) × ¬ HasEnded net st)
   -- a plain net has steps enough by the records on its links, its places and its strands
-  pub enough : IsPlain net → (lists : Lists) → AreLists net lists → enough net lists ≤ steps → outcome ≢ Spent steps
+  pub enough : IsPlain net → (lists : Lists) × AreLists net lists × (enough net lists ≤ steps → outcome ≢ Spent steps)
   -- no record moves before every stage is ready
   pub first : (order : List Entry) → IsLegal net order → IsCommittedFirst net order
   -- the order in which the steps were taken is told where it is asked for
-  pub traced : IsTraced net trace effect.trace
+  pub traced : IsTraced net steps workers trace effect.trace
 
--- the shelf tells these files, or no stage of the net reads one
-abbrev pub AreKnown : Net → Option Files → Files → Type 0
-AreKnown net told files = (told ≡ Some files) ⊎ ((name : List ℕ) → ¬ IsFileOf net name)
+-- what the sample of so many lines comes to, whose net is fed them: what its reading is summed up as, or too few steps
+pub data HasOneSummary (net : Net) (count steps : ℕ) (outcome : Outcome) (effect : Effect) : Type 0 where
+  sums_up : (st : State) (size : ℕ) → IsOneReading net st size → size ≤ steps → outcome ≡ outcome_of net (reply net st) → effect ≡ summed_up count (reply net st).console size outcome →
+      HasOneSummary net count steps outcome effect
+  falls_short : ((order : List Entry) → IsLegal net order → IsComplete net order → steps < length order) → outcome ≡ Spent steps → effect ≡ no_effect → HasOneSummary net count steps outcome effect
 
--- a call of a settled specification: where its input tells what it holds, and its shelf the files that are read, that fits, no call failed, and memory
--- wasn't wanted
-abbrev pub Headline : List (List ℕ) → Outside → Outside → Device → Device → Status → Type 0
-Headline words old new diag diag' status =
-    (input : List ℕ) (files : Files) (net : Net) (steps : ℕ) (trace : Option (List ℕ)) →
-    let before : Before = record { input = input; files = files } in
-    old.input.bytes ≡ Some input → AreKnown net old.shelf.files files → RunsNet words net steps trace → IsSettled (net_on before net) → fed_size before net ≤ input_limit →
-    NoneFailed old new → ¬ Failed diag diag' → status ≢ NoMemory →
-    (outcome : Outcome) × (effect : Effect) × IsHeadline (net_on before net) steps trace outcome effect × IsDone effect old new × IsTold outcome status diag diag'
+-- what words of a settled specification come to, on the bytes that the input gave and the files that there were
+pub record Headline (words : List (List ℕ)) (given : Before) (outcome : Outcome) (effect : Effect) : Type 0 where
+  pub runs : (net : Net) (steps : ℕ) (trace : Option (List ℕ)) (runs : RunsNet words net steps trace) → IsSettled (net_on given net) → fed_size given net ≤ input_limit →
+      IsHeadline (net_on given net) steps runs.run.workers trace outcome effect
+  pub samples : (net : Net) (count steps : ℕ) → SamplesNet words net count steps → IsSettled (with_input (sample_text count) net) → HasOneSummary (with_input (sample_text count) net) count steps outcome effect

@@ -1,6 +1,6 @@
 -- What words mean, where nothing fails.
-use Rattle.std.specs.Prelude.{◌≡◌, ℕ, ◌+◌, ◌<◌, ◌≤◌, Bool, if◌then◌else◌, List, [], ◌∷◌, ◌++◌, length, take, codes, decimal, ℤ, pos, zero}
-use Rattle.std.specs.List.{sum_by, Contains}
+use Rattle.std.specs.Prelude.{◌≡◌, ◌⊎◌, ℕ, ◌+◌, ◌<◌, ◌≤◌, Bool, if◌then◌else◌, List, [], ◌∷◌, ◌++◌, length, take, codes, decimal, ℤ, pos, zero}
+use Rattle.std.specs.List.{sum_by}
 use Rattle.std.specs.Option.{option_map_or}
 use Rattle.std.specs.declared.option.Option.{Option}
 use Rattle.std.specs.declared.option.Option.TheVariants.{Some, None}
@@ -9,12 +9,11 @@ use Rattle.pipe_model.specs.Records.{lines, text}
 use Rattle.pipe_model.specs.declared.net.Net.{Net}
 use Rattle.pipe_model.specs.declared.net.Strand.{Strand}
 use Rattle.pipe_model.specs.declared.step.Entry.{Entry}
-use Rattle.pipe_model.specs.Play.{play, HasEnded, IsLegal, IsLicensed, IsComplete}
-use Rattle.pipe_model.specs.Alone.{IsPlainReading}
+use Rattle.pipe_model.specs.Play.{play, step, IsLegal, IsLicensed, IsComplete}
 use Rattle.pipe_model.specs.Committed.{IsCommitted, IsMove, event_at}
-use Rattle.pipe_model.specs.Plain.{IsPlain}
-use Rattle.pipe_model.specs.State.{Who, IsThere}
 use Rattle.pipe_model.specs.Reply.{Reply, WaitLine, reply}
+use Rattle.pipe_model.specs.Run.{IsRun}
+use Rattle.pipe_model.specs.State.{State, Who, IsThere, nothing_yet}
 use Rattle.pipe_model.specs.Straight.{selected_by}
 use Rattle.pipe_model.specs.Table.{Feed, line_of}
 use Rattle.pipe_model.specs.Table.Feed.{Unfed, Input, OfFile}
@@ -122,15 +121,21 @@ file_size files Unfed = 0
 file_size files Input = 0
 file_size files (OfFile name) = option_map_or (λ (bytes : List ℕ). length bytes) (files name) 0
 
--- how many bytes files give to the stages of a net
-abbrev pub files_size : Files → Net → ℕ
-files_size files net = sum_by (λ (p : Strand). file_size files (line_of p.kind).feed) net.strands
+-- how many bytes files give to the stages of some strands
+abbrev pub strands_size : Files → List Strand → ℕ
+strands_size files strands = sum_by (λ (p : Strand). file_size files (line_of p.kind).feed) strands
 
--- a stage of the net is fed the file of this name
-pub record IsFileOf (net : Net) (name : List ℕ) : Type 0 where
+abbrev pub files_size : Files → Net → ℕ
+files_size files net = strands_size files net.strands
+
+-- a stage of the net is fed the file of this name, and what the stages before it are fed of files fits
+pub record IsNextFile (net : Net) (files : Files) (name : List ℕ) : Type 0 where
+  pub before : List Strand
   pub strand : Strand
-  pub among : Contains net.strands strand
+  pub behind : List Strand
+  pub strands : net.strands ≡ before ++ strand ∷ behind
   pub fed_is : (line_of strand.kind).feed ≡ OfFile name
+  pub fits : strands_size files before ≤ input_limit
 
 -- how many bytes all stages are fed: those of the input, if a stage reads it, and those of the files
 abbrev pub fed_size : Before → Net → ℕ
@@ -146,23 +151,29 @@ net_on before net = fed before.input before.files net
 abbrev pub IsCommittedFirst : Net → List Entry → Type 0
 IsCommittedFirst net journal = (k : ℕ) → IsMove (event_at net journal k) → (s : Who) → IsThere net (play net (take k journal)) s → IsCommitted net (play net (take k journal)) s
 
--- a legal journal within the steps is complete, and has this reply
-pub record Finishes (net : Net) (steps : ℕ) (answer : Reply) : Type 0 where
+-- an entry is the least that may be made: of the least strand that may have an event, and on its least stream
+abbrev pub IsLeast : Net → State → Entry → Type 0
+IsLeast net st e = (other : Entry) → IsLicensed net st other → (e.strand < other.strand) ⊎ ((e.strand ≡ other.strand) × (e.stream ≤ other.stream))
+
+-- each entry is the least that may be made then
+abbrev pub AreLeast : Net → List Entry → Type 0
+AreLeast net journal = IsRun (step net) (IsLeast net) nothing_yet journal
+
+-- a legal journal within the steps is complete, and has this reply; one worker makes the least entry each time
+pub record Finishes (net : Net) (steps workers : ℕ) (answer : Reply) : Type 0 where
   pub journal : List Entry
   pub legal : IsLegal net journal
   pub complete : IsComplete net journal
   pub within : length journal ≤ steps
+  pub least : workers ≡ 1 → AreLeast net journal
   pub replies : reply net (play net journal) ≡ answer
-  pub committed : IsCommittedFirst net journal
-  -- where the net is plain and all its strands have ended, the histories are those of its stages read as functions on streams
-  pub plainly : IsPlain net → HasEnded net (play net journal) → IsPlainReading net (play net journal)
 
--- a legal journal has as many entries as the steps allow, and one more may be made
-pub record Exhausts (net : Net) (steps : ℕ) : Type 0 where
+-- a legal journal has as many entries as the steps allow, and one more may be made; one worker makes the least entry each time
+pub record Exhausts (net : Net) (steps workers : ℕ) : Type 0 where
   pub journal : List Entry
   pub legal : IsLegal net journal
   pub full : length journal ≡ steps
-  pub committed : IsCommittedFirst net journal
+  pub least : workers ≡ 1 → AreLeast net journal
   pub more : (e : Entry) × IsLicensed net (play net journal) e
 
 -- the outcome that a reply tells: strands wait, or the worst code is 0, or another one
@@ -174,12 +185,12 @@ outcome_by net [] code = Coded code
 abbrev pub outcome_of : Net → Reply → Outcome
 outcome_of net answer = outcome_by net answer.waits answer.code
 
--- what a run of so many steps at most comes to, whose journal goes to the file of this name, if one is named
-pub data RunMeans (net : Net) (steps : ℕ) (trace : Option (List ℕ)) (outcome : Outcome) (effect : Effect) : Type 0 where
+-- what a run of so many steps at most by so many workers comes to, whose journal goes to the file of this name, if one is named
+pub data RunMeans (net : Net) (steps workers : ℕ) (trace : Option (List ℕ)) (outcome : Outcome) (effect : Effect) : Type 0 where
   -- it ends, and the outcome and the effect are those of its reply
-  finishes : (answer : Reply) (done : Finishes net steps answer) → outcome ≡ outcome_of net answer → effect ≡ traced trace done.journal (effect_of answer) → RunMeans net steps trace outcome effect
+  finishes : (answer : Reply) (done : Finishes net steps workers answer) → outcome ≡ outcome_of net answer → effect ≡ traced trace done.journal (effect_of answer) → RunMeans net steps workers trace outcome effect
   -- or it has more to do
-  exhausts : (spent : Exhausts net steps) → outcome ≡ Spent steps → effect ≡ traced trace spent.journal no_effect → RunMeans net steps trace outcome effect
+  exhausts : (spent : Exhausts net steps workers) → outcome ≡ Spent steps → effect ≡ traced trace spent.journal no_effect → RunMeans net steps workers trace outcome effect
 
 -- ---- a check of a journal on a net whose stages are fed
 
@@ -202,11 +213,11 @@ summed_up count console steps Done = output_of (summary count console steps)
 summed_up count console steps _ = no_effect
 
 -- what the sample of so many lines comes to, whose net is fed them
-pub data SampleMeans (count : ℕ) (net : Net) (steps : ℕ) (outcome : Outcome) (effect : Effect) : Type 0 where
+pub data SampleMeans (count : ℕ) (net : Net) (steps workers : ℕ) (outcome : Outcome) (effect : Effect) : Type 0 where
   -- it ends as a run does
-  sums_up : (answer : Reply) (done : Finishes net steps answer) → outcome ≡ outcome_of net answer → effect ≡ summed_up count answer.console (length done.journal) outcome → SampleMeans count net steps outcome effect
+  sums_up : (answer : Reply) (done : Finishes net steps workers answer) → outcome ≡ outcome_of net answer → effect ≡ summed_up count answer.console (length done.journal) outcome → SampleMeans count net steps workers outcome effect
   -- or it has more to do
-  spends : Exhausts net steps → outcome ≡ Spent steps → effect ≡ no_effect → SampleMeans count net steps outcome effect
+  spends : Exhausts net steps workers → outcome ≡ Spent steps → effect ≡ no_effect → SampleMeans count net steps workers outcome effect
 
 -- ---- the call
 
@@ -223,7 +234,7 @@ pub record HasRun (words : List (List ℕ)) (before : Before) (outcome : Outcome
   pub trace : Option (List ℕ)
   pub runs : RunsNet words net steps trace
   pub fits : fed_size before net ≤ input_limit
-  pub means : RunMeans (net_on before net) steps trace outcome effect
+  pub means : RunMeans (net_on before net) steps runs.run.workers trace outcome effect
 
 -- the words check a journal on a net, which comes to this
 pub record HasChecked (words : List (List ℕ)) (before : Before) (outcome : Outcome) (effect : Effect) : Type 0 where
@@ -239,7 +250,7 @@ pub record HasSampled (words : List (List ℕ)) (outcome : Outcome) (effect : Ef
   pub count : ℕ
   pub steps : ℕ
   pub samples : SamplesNet words net count steps
-  pub means : SampleMeans count (with_input (sample_text count) net) steps outcome effect
+  pub means : SampleMeans count (with_input (sample_text count) net) steps samples.workers outcome effect
 
 -- the words are carried out, and come to this
 pub data ComesTo (words : List (List ℕ)) (before : Before) (outcome : Outcome) (effect : Effect) : Type 0 where

@@ -2,7 +2,7 @@
 use Rattle.std.specs.Prelude.{◌≡◌, ◌⊎◌, ℕ, List}
 use Rattle.spec_scanner.specs.declared.fault.Fault.{Fault}
 use Rattle.spec_scanner.specs.declared.piece.Piece.{Piece}
-use Rattle.spec_scanner.specs.Reads.{Reads, IsRefused as IsTextRefused}
+use Rattle.spec_scanner.specs.Reads.{HasGoodOptions, Reads, IsRefused as IsTextRefused}
 use Rattle.net_graph.specs.Faults.{IsRefused as AreRefused}
 use Rattle.call_meaning.specs.declared.status.Outcome.{Outcome}
 use Rattle.call_meaning.specs.declared.status.Outcome.TheVariants.{SpecRefused, NoMemory}
@@ -17,6 +17,6 @@ pub record IsRefusal (spec : List ℕ) (outcome : Outcome) : Type 0 where
   pub least : HasLeastFault spec fault
   pub outcome_is : outcome ≡ SpecRefused fault.number fault.argument fault.place
 
--- or want of memory
+-- or want of memory, which comes only where the text isn't too long and has options without a fault
 abbrev pub IsTextOutcome : List ℕ → Outcome → Type 0
-IsTextOutcome spec outcome = (outcome ≡ NoMemory) ⊎ IsRefusal spec outcome
+IsTextOutcome spec outcome = ((outcome ≡ NoMemory) × HasGoodOptions spec) ⊎ IsRefusal spec outcome

@@ -1,4 +1,4 @@
-ghost use Rattle.std.specs.Prelude.{◌≡◌, ℕ, List, map, MatchResult, IfOk};
+ghost use Rattle.std.specs.Prelude.{◌≡◌, ℕ, List, [], Err, map, MatchResult, IfOk};
 ghost use Rattle.std.specs.String.{string_bytes};
 ghost use Rattle.pipe_model.specs.WellFormed.{IsWellFormed};
 ghost use Rattle.spec_scanner.specs.declared.piece.Piece.{Piece};
@@ -31,6 +31,7 @@ pub struct Call {
 /// The command that words mean, and its net. An error is that they aren't carried out, or want of memory.
 pub fn called(alloc: Global, words: &[String]) -> Result<Call, Outcome>
     ensures called { MatchResult result (λ call. IsCall (map (λ word. string_bytes word) words.now) call.command call.net) (λ outcome. StopsWords (map (λ word. string_bytes word) words.now) outcome) }
+    ensures none { words.now ≡ [] → result ≡ Err Outcome.Usage }
     ensures whole { IfOk result (λ call. IsWellFormed call.net) }
     ensures unfiled { IfOk result (λ call. AreUnfiled call.net) }
     ensures few { IfOk result (λ call. IsWithinRanges call.command) }

@@ -3,9 +3,11 @@
 #![tactic(auto)]
 
 mod calls;
+mod laws;
 mod meaning;
 mod status;
 
 pub use calls::{Call, called};
+pub use laws::{all_is_meant, no_fault_without_its_status, one_plain_reply};
 pub use meaning::{one_meaning, straight_line_is_plain, straight_line_means};
 pub use status::{Outcome, Status};

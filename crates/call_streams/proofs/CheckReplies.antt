@@ -139,7 +139,7 @@ module _ (words : List (List ℕ)) (net : Net) (name : List ℕ) (checks : Check
   module _ (found : List Found) (journal : List Entry) (has : HasJournal name shelf middle found journal) (input' : Device) (shelf' : Store) where
     -- the fetching of the journal shows in no object
     as_before : outside input output middle ≡ old
-    as_before = ap₂ (λ files faults. outside input output (store files faults)) has.kept has.steady
+    as_before = λ i. outside input output (store (has.kept i) (has.steady i) (has.wants i))
 
     abbrev fed : Outside
     fed = outside input' output shelf'

@@ -110,5 +110,6 @@ module _ (net : Net) (before : List Found) (input output : Device) (shelf shelf'
       fits = all_fits bytes took.fits;
       used = record { reads = λ some. took.reads (reads_same ∙ some); leaves = λ none. took.leaves (reads_same ∙ none) };
       steady = record { input = took.steady; output = refl; shelf = fetched.steady };
+      wants = fetched.wants;
       after_is = is ∙ ap (with_input bytes) filed_is ∙ input_of_filed bytes files net;
     }

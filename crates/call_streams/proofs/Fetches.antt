@@ -1,9 +1,11 @@
 -- The files that a net reads, while they are fetched.
-use Rattle.std.proofs.Common.{◌≡◌, ◌⊎◌, inl, inr, ℕ, zero, suc, ◌+◌, ◌<◌, ◌≤◌, ◌||◌, Bool, true, false, cond, List, [], ◌∷◌, ◌++◌, length, take, refl, sym, ◌∙◌, ap, subst, arith, Option, Some, None, slice_get, get_or, add-one}
+use Rattle.std.proofs.Common.{◌≡◌, ◌⊎◌, inl, inr, ℕ, zero, suc, ◌+◌, ◌<◌, ◌≤◌, ◌||◌, Bool, true, false, cond, List, [], ◌∷◌, ◌++◌, length, take, drop, refl, sym, ◌∙◌, ap, subst, arith, Option, Some, None, slice_get, get_or, add-one}
 use Rattle.std.specs.Prelude.{Ok, Err, MatchResult, OnOk}
 use Rattle.std.specs.declared.result.Result.{Result}
 use Rattle.std.specs.List.{All, find, sum_by}
 use Rattle.std.specs.Option.{IfSome, option_and_then, option_map_or}
+use Rattle.std.proofs.Math.Seq.{drop-cons}
+use Rattle.std.proofs.lemmas.List.{take-append-drop}
 use Rattle.std.proofs.lemmas.List.Elements.{All-nil, All-cons, All-head, All-tail, All-push}
 use Rattle.std.proofs.lemmas.List.Sums.{sum_by_more, sum_by-take-le}
 use Rattle.std.proofs.lemmas.Option.{get_or_from_slice_get, slice_get_within}
@@ -23,7 +25,7 @@ use Rattle.call_meaning.specs.declared.status.Outcome.{Outcome}
 use Rattle.call_meaning.specs.declared.status.Outcome.TheVariants.{ShelfFault, NoMemory, InputTooLarge}
 use Rattle.call_streams.specs.declared.text.Told.{Told}
 use Rattle.call_meaning.specs.Devices.{Store}
-use Rattle.call_meaning.specs.Meaning.{IsFileOf, file_size, files_size, input_limit}
+use Rattle.call_meaning.specs.Meaning.{IsNextFile, file_size, files_size, input_limit, strands_size}
 use Rattle.call_streams.specs.Fetched.{AreFetched, AreFetchedPart, AreOf, IsGiven, IsUngiven, StopsFetching, StopsGiving, fetched_files, file_for, files_known, has_name}
 use Rattle.call_streams.specs.Texts.{IsToldAs, wants_memory}
 use Rattle.call_streams.proofs.Feds.{net_with, with_all, with_at, with_more, with_same}
@@ -95,19 +97,21 @@ given_again : (shelf : Store) (found : List Found) (name : List ℕ) (file : Fou
 given_again shelf found name file is = record {
   kept = refl;
   steady = refl;
+  wants = refl;
   file = λ files are. found_bytes files found name file are is;
   more = λ files are. are;
   known = λ are. are;
 }
 
 -- one that wasn't
-given_new : (old new : Store) (found : List Found) (name : List ℕ) (bytes : Option (List ℕ)) → find (has_name name) found ≡ None → new.files ≡ old.files → new.faults ≡ old.faults →
+given_new : (old new : Store) (found : List Found) (name : List ℕ) (bytes : Option (List ℕ)) → find (has_name name) found ≡ None → new.files ≡ old.files → new.faults ≡ old.faults → new.wants ≡ old.wants →
     IfSome old.files (λ files. files name ≡ bytes) → IsGiven (OfFile name) old new found (found ++ record { name = name; bytes = bytes } ∷ []) bytes
-given_new old new found name bytes none kept steady has =
+given_new old new found name bytes none kept steady wants has =
     let last : Found = record { name = name; bytes = bytes } in
     record {
       kept = kept;
       steady = steady;
+      wants = wants;
       file = λ files are. sym (last_of last (λ (f : Found). files f.name ≡ f.bytes) found are);
       more = λ files are. front_of last (λ (f : Found). files f.name ≡ f.bytes) found are;
       known = known_more last old.files found none has;
@@ -115,12 +119,12 @@ given_new old new found name bytes none kept steady has =
 
 -- as the call answers it, which keeps the file
 pub fetched : (old new : Store) (found found' : List Found) (name called : List ℕ) (bytes : Option (List ℕ)) (kept : Result (Option (List ℕ)) Told) → find (has_name name) found ≡ None →
-    called ≡ name → new.files ≡ old.files → new.faults ≡ old.faults → IfSome old.files (λ files. files called ≡ bytes) →
+    called ≡ name → new.files ≡ old.files → new.faults ≡ old.faults → new.wants ≡ old.wants → IfSome old.files (λ files. files called ≡ bytes) →
     MatchResult kept (λ same. same ≡ bytes) (λ told. told.outcome ≡ NoMemory) → OnOk kept (found' ≡ found ++ record { name = name; bytes = bytes } ∷ []) →
     MatchResult kept (λ given. IsGiven (OfFile name) old new found found' given) (λ told. IsUngiven (OfFile name) old new told.outcome)
-fetched old new found found' name called bytes (Ok given) none same files faults has is more =
-    rw (is, more) (given_new old new found name bytes none files faults (subst (λ z. IfSome old.files (λ files. files z ≡ bytes)) same has))
-fetched old new found found' name called bytes (Err told) none same files faults has is more = record { kept = files; stops = subst (StopsGiving (OfFile name) old new) (sym is) faults }
+fetched old new found found' name called bytes (Ok given) none same files faults wants has is more =
+    rw (is, more) (given_new old new found name bytes none files faults wants (subst (λ z. IfSome old.files (λ files. files z ≡ bytes)) same has))
+fetched old new found found' name called bytes (Err told) none same files faults wants has is more = record { kept = files; stops = subst (StopsGiving (OfFile name) old new) (sym is) faults }
 
 pub fetched_again : (shelf : Store) (found : List Found) (kind : Kind) (name : List ℕ) (bytes : Option (List ℕ)) (file : Found) (copied : Result (Option (List ℕ)) Told) →
     kind ≡ FileIn name bytes → find (has_name name) found ≡ Some file → MatchResult copied (λ copy. copy ≡ file.bytes) (λ told. told.outcome ≡ NoMemory) →
@@ -161,7 +165,7 @@ absent_size files (OfFile name) is = ap (λ file. option_map_or (λ (bytes : Lis
 
 -- how many bytes these files give to the first strands
 abbrev pub front_size : Files → ℕ → Net → ℕ
-front_size files k net = sum_by (λ (p : Strand). file_size files (line_of p.kind).feed) (take k net.strands)
+front_size files k net = strands_size files (take k net.strands)
 
 pub record AreFiled (net : Net) (k : ℕ) (now : Net) (size : ℕ) (found : List Found) : Type 0 where
   pub net_is : (files : Files) → AreOf files found → now ≡ net_with (filed_kind files) k net
@@ -179,11 +183,20 @@ module _ (net : Net) (k : ℕ) (now : Net) (size : ℕ) (found : List Found) (wa
       ∙ ap (λ (q : Strand). front_size files k net + file_size files (line_of q.kind).feed) (get_or_from_slice_get net.strands k p p there)
       ∙ ap (λ n. n + file_size files (line_of p.kind).feed) (sym (was.size_is files are))
 
-  -- the file of the strand is one of the net
-  file_among : (files : Files) → AreOf files found → (name : List ℕ) → (line_of p.kind).feed ≡ OfFile name → IsFileOf net name
-  file_among files are name is =
+  -- the file of the strand is the next one of the net
+  file_next : size ≤ input_limit → (files : Files) → AreOf files found → (name : List ℕ) → (line_of p.kind).feed ≡ OfFile name → IsNextFile net files name
+  file_next fits files are name is =
       let there = strand_was files are in
-      record { strand = p; among = (k, slice_get_within net.strands k p there, get_or_from_slice_get net.strands k p p there); fed_is = is }
+      let here : drop k net.strands ≡ p ∷ drop (suc k) net.strands =
+      drop-cons net.strands k p (slice_get_within net.strands k p there) ∙ ap (λ q. q ∷ drop (suc k) net.strands) (get_or_from_slice_get net.strands k p p there) in
+      record {
+        before = take k net.strands;
+        strand = p;
+        behind = drop (suc k) net.strands;
+        strands = sym (take-append-drop k net.strands) ∙ ap (λ z. take k net.strands ++ z) here;
+        fed_is = is;
+        fits = subst (λ n. n ≤ input_limit) (was.size_is files are) fits;
+      }
 
   module _ (old new : Store) (found' : List Found) where
     -- one strand more that is given no file
@@ -239,7 +252,7 @@ known_there None found = tt
 known_there (Some files) found = refl
 
 module _ (net : Net) (k : ℕ) (now : Net) (size : ℕ) (found : List Found) (was : AreFiled net k now size found) (p : Strand) (at : slice_get now.strands k ≡ Some p) (old middle new : Store)
-    (kept : middle.files ≡ old.files) (steady : middle.faults ≡ old.faults) (known : AreOf (files_known old.files found) found) (before : List Found)
+    (kept : middle.files ≡ old.files) (steady : middle.faults ≡ old.faults) (fits : size ≤ input_limit) (known : AreOf (files_known old.files found) found) (before : List Found)
     (front : (files : Files) → AreOf files found → AreOf files before) where
   -- a file more is known
   pub still_known : (found' : List Found) (bytes : Option (List ℕ)) → IsGiven (line_of p.kind).feed middle new found found' bytes → AreOf (files_known old.files found') found'
@@ -248,7 +261,7 @@ module _ (net : Net) (k : ℕ) (now : Net) (size : ℕ) (found : List Found) (wa
 
   -- the fetching ends at a file
   stops_fetching : (outcome : Outcome) → StopsGiving (line_of p.kind).feed middle new outcome → StopsFetching net old new (files_known old.files found) outcome
-  stops_fetching (ShelfFault name) stops = (file_among net k now size found was p at (files_known old.files found) known name stops.0, subst (λ n. Rose n new.faults) steady stops.1)
+  stops_fetching (ShelfFault name) stops = (file_next net k now size found was p at fits (files_known old.files found) known name stops.0, subst (λ n. Rose n new.faults) steady stops.1)
   stops_fetching NoMemory stops = stops ∙ steady
   stops_fetching InputTooLarge stops = absurd stops
   stops_fetching _ stops = absurd stops
@@ -279,12 +292,12 @@ module _ (net : Net) (k : ℕ) (now : Net) (size : ℕ) (found : List Found) (wa
 
 -- it ended behind the last file
 pub fetched_all : (net now : Net) (size : ℕ) (before found : List Found) (old new : Store) → AreFiled net (length net.strands) now size found → AreOf (files_known old.files found) found →
-    ((files : Files) → AreOf files found → AreOf files before) → size ≤ input_limit → new.files ≡ old.files → new.faults ≡ old.faults →
+    ((files : Files) → AreOf files found → AreOf files before) → size ≤ input_limit → new.files ≡ old.files → new.faults ≡ old.faults → new.wants ≡ old.wants →
     (files : Files) × AreFetched net before old new files × (now ≡ filed files net) × (size ≡ files_size files net)
-fetched_all net now size before found old new are known front fits kept steady =
+fetched_all net now size before found old new are known front fits kept steady wants =
     let there = files_known old.files found in
     let all = filed_all net now size found are there known in
-    (there, record { found = known_there old.files found; of = front there known; kept = kept; fits = subst (λ n. n ≤ input_limit) all.1 fits; steady = steady }, all.0, all.1)
+    (there, record { found = known_there old.files found; of = front there known; kept = kept; fits = subst (λ n. n ≤ input_limit) all.1 fits; steady = steady; wants = wants }, all.0, all.1)
 
 -- that the files are too large wants no memory to be told
 pub told_too_large : (told : Told) → IsToldAs InputTooLarge told → told.outcome ≡ InputTooLarge

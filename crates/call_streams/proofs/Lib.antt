@@ -3,7 +3,6 @@ pub mod FedNets
 pub mod Feds
 pub mod Feedings
 pub mod Fetches
-pub mod Names
 pub mod Orders
 pub mod Replacements
 pub mod Replies

@@ -1,5 +1,5 @@
--- Replacements in the order of the names, on the files that a shelf tells.
-use Rattle.std.proofs.Common.{◌≡◌, ℕ, Bool, true, false, cond, List, [], ◌∷◌, ◌++◌, refl, sym, ◌∙◌, ap, Option, Some, None}
+-- Replacements, one after the other, on the files that a shelf tells.
+use Rattle.std.proofs.Common.{◌≡◌, ℕ, Bool, true, false, cond, List, [], ◌∷◌, ◌++◌, refl, sym, ◌∙◌, ap, append_assoc, Option, Some, None}
 use Rattle.std.proofs.lemmas.Bool.{both_ways}
 use Rattle.std.proofs.lemmas.Slice.Eq.{bytes_eq-Decides}
 use Rattle.std.specs.Str.{bytes_eq}
@@ -8,8 +8,8 @@ use Rattle.outside.specs.declared.shelf.Replaced.TheVariants.{Stored}
 use Rattle.outside.specs.Files.{Files}
 use Rattle.outside.specs.Shelf.{Replaces}
 use Rattle.pipe_model.specs.Reply.{FileText}
-use Rattle.call_meaning.specs.Effects.{AreReplaced, AreReplacedBelow, AreReplacedBut, files_after, in_order}
-use Rattle.call_streams.proofs.Orders.{after_append, after_at, after_in_order, after_part}
+use Rattle.call_meaning.specs.Effects.{ArePartReplaced, AreReplaced, AreReplacedBut, files_after}
+use Rattle.call_streams.proofs.Orders.{after_append, after_at}
 
 -- nothing is replaced at first
 pub none_replaced : (told : Option Files) → AreReplaced [] told told
@@ -31,21 +31,6 @@ replaced_more done file (Some old) (Some now) (Some new) replaced stores = λ na
     by name true is = ap new ((bytes_eq-Decides name file.0).0 is) ∙ stores.0 ∙ left name true is
     by name false is = stores.1 name (λ same. both_ways (bytes_eq name file.0) is ((bytes_eq-Decides name file.0).1 same)) ∙ replaced name ∙ left name false is
 
--- all were, in whatever order they stood
-pub replaced_all : (files : List FileText) (old new : Option Files) → AreReplaced (in_order files) old new → AreReplaced files old new
-replaced_all files None new replaced = replaced
-replaced_all files (Some old) None replaced = absurd replaced
-replaced_all files (Some old) (Some new) replaced = λ name. replaced name ∙ after_in_order files old name
-
--- those of lesser names were, where one wasn't
-pub replaced_part : (files done later : List FileText) (file : FileText) → done ++ file ∷ later ≡ in_order files → (bytes : List ℕ) (answer : Replaced) (old now new : Option Files) → AreReplaced done old now → Replaces now new file.0 bytes answer →
-    AreReplacedBelow file.0 files old new
-replaced_part files done later file is bytes answer None None new replaced leaves = leaves
-replaced_part files done later file is bytes answer None (Some now) new replaced leaves = cc
-replaced_part files done later file is bytes answer (Some old) None new replaced leaves = absurd replaced
-replaced_part files done later file is bytes answer (Some old) (Some now) None replaced leaves = absurd leaves
-replaced_part files done later file is bytes answer (Some old) (Some now) (Some new) replaced leaves = λ name other. leaves.1 name other ∙ replaced name ∙ after_part files done later file is old name other
-
 -- One replacement after another
 
 -- these and then those were replaced
@@ -64,3 +49,42 @@ replaced_but files name None (Some now) new first others = cc
 replaced_but files name (Some old) None new first others = absurd first
 replaced_but files name (Some old) (Some now) None first others = absurd others
 replaced_but files name (Some old) (Some now) (Some new) first others = λ other differs. others other differs ∙ first other
+
+-- Up to one that wasn't carried out
+
+-- a replacement changes at most its own name
+one_changed : (name bytes : List ℕ) (answer : Replaced) (now new : Option Files) → Replaces now new name bytes answer → AreReplacedBut name [] now new
+one_changed name bytes answer None new leaves = leaves
+one_changed name bytes answer (Some now) None leaves = absurd leaves
+one_changed name bytes answer (Some now) (Some new) leaves = leaves.1
+
+-- those before it were replaced
+pub replaced_part : (files done later : List FileText) (file : FileText) → done ++ file ∷ later ≡ files → (bytes : List ℕ) (answer : Replaced) (old now new : Option Files) → AreReplaced done old now → Replaces now new file.0 bytes answer →
+    ArePartReplaced file.0 files old new
+replaced_part files done later file is bytes answer old now new replaced leaves = record {
+  before = done;
+  text = file.1;
+  behind = later;
+  order = sym is;
+  others = replaced_but done file.0 old now new replaced (one_changed file.0 bytes answer now new leaves);
+}
+
+-- also where more stand behind
+pub part_further : (name : List ℕ) (files more : List FileText) (old new : Option Files) → ArePartReplaced name files old new → ArePartReplaced name (files ++ more) old new
+part_further name files more old new part = record {
+  before = part.before;
+  text = part.text;
+  behind = part.behind ++ more;
+  order = ap (λ z. z ++ more) part.order ∙ append_assoc part.before ((name, part.text) ∷ part.behind) more;
+  others = part.others;
+}
+
+-- and where all but the last were
+pub part_last : (files : List FileText) (name text : List ℕ) (old now new : Option Files) → AreReplaced files old now → AreReplacedBut name [] now new → ArePartReplaced name (files ++ (name, text) ∷ []) old new
+part_last files name text old now new replaced others = record {
+  before = files;
+  text = text;
+  behind = [];
+  order = refl;
+  others = replaced_but files name old now new replaced others;
+}

@@ -10,7 +10,7 @@ use Rattle.call_meaning.specs.declared.status.Outcome.TheVariants.{ReadFault, Sh
 use Rattle.call_streams.specs.declared.fetch.Found.{Found}
 use Rattle.call_meaning.specs.Devices.{AllSteady, Failed, Outside, Steady}
 use Rattle.call_meaning.specs.Effects.{Before}
-use Rattle.call_meaning.specs.Meaning.{IsFileOf, fed_size, input_limit, net_on}
+use Rattle.call_meaning.specs.Meaning.{IsNextFile, fed_size, input_limit, net_on}
 use Rattle.call_meaning.specs.Answer.{IsUsed}
 use Rattle.call_streams.specs.Fetched.{AreOf}
 
@@ -25,11 +25,12 @@ pub record IsFed (net : Net) (before : List Found) (old new : Outside) (after : 
   pub fits : fed_size given net ≤ input_limit
   pub used : IsUsed net given new.input
   pub steady : AllSteady old new
+  pub wants : new.shelf.wants ≡ old.shelf.wants
   pub after_is : after ≡ net_on given net
 
 -- why it wasn't: a file failed, the input failed, they gave too much, or memory was wanted
 abbrev pub StopsFeeding : Net → Outside → Outside → Before → Outcome → Type 0
-StopsFeeding net old new given (ShelfFault name) = IsFileOf net name × (given.input ≡ []) × Steady old.input new.input × Rose old.shelf.faults new.shelf.faults
+StopsFeeding net old new given (ShelfFault name) = IsNextFile net given.files name × (given.input ≡ []) × Steady old.input new.input × Rose old.shelf.faults new.shelf.faults
 StopsFeeding net old new given ReadFault = (reads_any net ≡ true) × (fed_size given net ≤ input_limit) × Failed old.input new.input × (new.shelf.faults ≡ old.shelf.faults)
 StopsFeeding net old new given InputTooLarge = (input_limit < fed_size given net) × AllSteady old new
 StopsFeeding net old new given NoMemory = AllSteady old new

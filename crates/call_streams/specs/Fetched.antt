@@ -17,7 +17,7 @@ use Rattle.call_streams.specs.declared.fetch.Found.{Found}
 use Rattle.journal_file.specs.Faults.{IsFirstFault}
 use Rattle.journal_file.specs.Text.{IsJournal, journal_text}
 use Rattle.call_meaning.specs.Devices.{Store}
-use Rattle.call_meaning.specs.Meaning.{IsFileOf, files_size, input_limit}
+use Rattle.call_meaning.specs.Meaning.{IsNextFile, files_size, input_limit}
 
 -- the file has this name
 abbrev pub has_name : List ℕ → Found → Bool
@@ -46,6 +46,7 @@ file_for files (OfFile name) = files name
 pub record IsGiven (fed : Feed) (old new : Store) (found found' : List Found) (bytes : Option (List ℕ)) : Type 0 where
   pub kept : new.files ≡ old.files
   pub steady : new.faults ≡ old.faults
+  pub wants : new.wants ≡ old.wants
   pub file : (files : Files) → AreOf files found' → bytes ≡ file_for files fed
   pub more : (files : Files) → AreOf files found' → AreOf files found
   pub known : AreOf (files_known old.files found) found → AreOf (files_known old.files found') found'
@@ -67,10 +68,11 @@ pub record AreFetched (net : Net) (before : List Found) (old new : Store) (files
   pub kept : new.files ≡ old.files
   pub fits : files_size files net ≤ input_limit
   pub steady : new.faults ≡ old.faults
+  pub wants : new.wants ≡ old.wants
 
 -- why the fetching ended before
 abbrev pub StopsFetching : Net → Store → Store → Files → Outcome → Type 0
-StopsFetching net old new files (ShelfFault name) = IsFileOf net name × Rose old.faults new.faults
+StopsFetching net old new files (ShelfFault name) = IsNextFile net files name × Rose old.faults new.faults
 StopsFetching net old new files InputTooLarge = (input_limit < files_size files net) × (new.faults ≡ old.faults)
 StopsFetching net old new files NoMemory = new.faults ≡ old.faults
 StopsFetching net old new files _ = ⊥
@@ -87,6 +89,7 @@ pub record AreFetchedPart (net : Net) (before : List Found) (old new : Store) (o
 pub record HasJournal (name : List ℕ) (old new : Store) (found : List Found) (journal : List Entry) : Type 0 where
   pub kept : new.files ≡ old.files
   pub steady : new.faults ≡ old.faults
+  pub wants : new.wants ≡ old.wants
   pub is_journal : IsJournal journal
   pub stored : (files : Files) → AreOf files found → files name ≡ Some (journal_text journal)
   pub known : AreOf (files_known old.files found) found

@@ -29,8 +29,8 @@ pub fn feed_net<I: Source, F: Shelf>(
     requires unfiled { AreUnfiled net }
     requires known { AreOf (files_known (F.files shelf.old) found.items) found.items }
     ensures fed { (output : Device) →
-        let old = outside (device (I.left input.old) (I.faults input.old)) output (store (F.files shelf.old) (F.faults shelf.old)) in
-        let new = outside (device (I.left input.new) (I.faults input.new)) output (store (F.files shelf.new) (F.faults shelf.new)) in
+        let old = outside (device (I.left input.old) (I.faults input.old)) output (store (F.files shelf.old) (F.faults shelf.old) (F.wants shelf.old)) in
+        let new = outside (device (I.left input.new) (I.faults input.new)) output (store (F.files shelf.new) (F.faults shelf.new) (F.wants shelf.new)) in
         MatchResult result (λ after. IsFed net found.items old new after) (λ told. IsFedPart net found.items old new told.outcome) }
     ensures whole { IfOk result (λ after. IsWellFormed after) }
     ensures text { IfErr result IsTelling }

@@ -43,7 +43,7 @@ pub(crate) fn fetch_files<F: Shelf>(
     requires whole { IsWellFormed net }
     requires unfiled { AreUnfiled net }
     requires known { AreOf (files_known (F.files shelf.old) found.items) found.items }
-    ensures fetched { let old = store (F.files shelf.old) (F.faults shelf.old) in let new = store (F.files shelf.new) (F.faults shelf.new) in
+    ensures fetched { let old = store (F.files shelf.old) (F.faults shelf.old) (F.wants shelf.old) in let new = store (F.files shelf.new) (F.faults shelf.new) (F.wants shelf.new) in
         MatchResult result (λ after. (files : Files) × AreFetched net found.items old new files × (after.net ≡ filed files net) × (after.size ≡ files_size files net)) (λ told. AreFetchedPart net found.items old new told.outcome) }
     ensures whole { IfOk result (λ after. IsWellFormed after.net) }
     ensures text { IfErr result IsTelling }
@@ -72,7 +72,7 @@ fn file_of<F: Shelf>(
     found: &mut Vec<Found>,
     shelf: &mut F,
 ) -> Result<Option<Rec>, Told>
-    ensures given { let old = store (F.files shelf.old) (F.faults shelf.old) in let new = store (F.files shelf.new) (F.faults shelf.new) in
+    ensures given { let old = store (F.files shelf.old) (F.faults shelf.old) (F.wants shelf.old) in let new = store (F.files shelf.new) (F.faults shelf.new) (F.wants shelf.new) in
         MatchResult result (λ bytes. IsGiven (line_of kind.now).feed old new found.old.items found.new.items bytes) (λ told. IsUngiven (line_of kind.now).feed old new told.outcome) }
     ensures text { IfErr result IsTelling }
 {
@@ -120,7 +120,7 @@ pub(crate) fn fetch<F: Shelf>(
     shelf: &mut F,
 ) -> Result<Option<Rec>, Told>
     requires { find (has_name name.now) found.old.items ≡ None }
-    ensures given { let old = store (F.files shelf.old) (F.faults shelf.old) in let new = store (F.files shelf.new) (F.faults shelf.new) in
+    ensures given { let old = store (F.files shelf.old) (F.faults shelf.old) (F.wants shelf.old) in let new = store (F.files shelf.new) (F.faults shelf.new) (F.wants shelf.new) in
         MatchResult result (λ bytes. IsGiven (OfFile name.now) old new found.old.items found.new.items bytes) (λ told. IsUngiven (OfFile name.now) old new told.outcome) }
     ensures text { IfErr result IsTelling }
 {

@@ -21,7 +21,7 @@ pub struct Stored {
 
 /// The journal of the file. An error is that it isn't there, or has no journal, a fault of the shelf or want of memory, with its text.
 pub fn fetch_journal<F: Shelf>(alloc: Global, name: Rec, shelf: &mut F) -> Result<Stored, Told>
-    ensures journal { let old = store (F.files shelf.old) (F.faults shelf.old) in let new = store (F.files shelf.new) (F.faults shelf.new) in
+    ensures journal { let old = store (F.files shelf.old) (F.faults shelf.old) (F.wants shelf.old) in let new = store (F.files shelf.new) (F.faults shelf.new) (F.wants shelf.new) in
         MatchResult result (λ stored. HasJournal name old new stored.found.items stored.journal) (λ told. HasNoJournal name old new told.outcome) }
     ensures text { IfErr result IsTelling }
 {

@@ -52,4 +52,5 @@ gives_if_ok value (Err fault) whole same gives = tt
 
 pub gives_if_err : {T : Type 0} (value : Option T) (result : Result T WordsFault) (whole : Option T) → whole ≡ value → Gives value result → IfErr result (λ fault. fault ≡ Usage → whole ≡ None)
 gives_if_err value (Ok given) whole same gives = tt
-gives_if_err value (Err fault) whole same gives = λ usage. same ∙ gives usage
+gives_if_err value (Err Usage) whole same gives = λ usage. same ∙ gives
+gives_if_err value (Err NoMemory) whole same gives = λ usage. cc

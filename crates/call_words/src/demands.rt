@@ -31,8 +31,8 @@ fn run(alloc: Global, spec: &str, matches: &ArgMatches<'_>) -> Result<Command, W
     ensures command { Gives (run_of spec.now (given_by (first_value (found_of matches.now)))) result }
     ensures few { IfOk result IsWithinRanges }
 {
-    let workers = workers_in(matches.get_str("workers"))?;
-    let steps = steps_in(matches.get_str("steps"))?;
+    let workers = workers_in(matches.get_str("workers")).ok_or(WordsFault::Usage)?;
+    let steps = steps_in(matches.get_str("steps")).ok_or(WordsFault::Usage)?;
     let trace = name_if(alloc, matches.get_str("trace"))?;
     let spec = Rec::from_slice(alloc, spec.as_bytes())?;
     Ok(Command::Run {
@@ -72,9 +72,9 @@ fn sample(lines: &str, matches: &ArgMatches<'_>) -> Result<Command, WordsFault>
     if matches.get_str("trace").is_some() {
         return Err(WordsFault::Usage);
     }
-    let lines = lines_in(lines)?;
-    let workers = workers_in(matches.get_str("workers"))?;
-    let steps = steps_in(matches.get_str("steps"))?;
+    let lines = lines_in(lines).ok_or(WordsFault::Usage)?;
+    let workers = workers_in(matches.get_str("workers")).ok_or(WordsFault::Usage)?;
+    let steps = steps_in(matches.get_str("steps")).ok_or(WordsFault::Usage)?;
     Ok(Command::Sample {
         lines,
         workers,

@@ -1,4 +1,4 @@
-ghost use Rattle.std.specs.Prelude.{◌≡◌, false, IfErr, IfOk, [], map};
+ghost use Rattle.std.specs.Prelude.{◌≡◌, ◌≢◌, false, IfErr, IfOk, [], map};
 ghost use Rattle.std.specs.String.{string_bytes};
 ghost use Rattle.clap.specs.Words.{app_of, fault_of, found_of, matches_of, rows_of, rule_of};
 ghost use Rattle.call_words.specs.Command.{app, IsFaulty, option};
@@ -25,6 +25,7 @@ pub fn matches_of<'a>(alloc: Global, words: &'a [String]) -> Result<ArgMatches<'
 // Want of memory stays what it is; any other kind is a fault of the words.
 fn fault_of_kind(kind: ErrorKind) -> WordsFault
     ensures memory { kind ≡ ErrorKind.OutOfMemory → result ≡ WordsFault.NoMemory }
+    ensures usage { kind ≢ ErrorKind.OutOfMemory → result ≡ WordsFault.Usage }
 {
     match kind {
         ErrorKind::OutOfMemory => WordsFault::NoMemory,

@@ -1,4 +1,4 @@
-ghost use Rattle.std.specs.Prelude.{◌<◌, ◌≤◌, IfOk, option_map};
+ghost use Rattle.std.specs.Prelude.{◌≡◌, ◌<◌, ◌≤◌, IfSome, option_map};
 ghost use Rattle.call_words.specs.Command.{name_if, name_in, number_in, number_or, steps_in, workers_in};
 ghost use Rattle.call_words.specs.Gives.{Gives};
 
@@ -11,51 +11,51 @@ use std::alloc::Global;
 const MOST_NAME: usize = 255;
 
 // The number of workers of a word, 4 where there is none.
-pub fn workers_in(word: Option<&str>) -> Result<u32, WordsFault>
-    ensures workers { Gives (workers_in (option_map (λ word. word.now) word.entry)) result }
-    ensures few { IfOk result (λ workers. (0 < workers) × (workers ≤ 64)) }
+pub fn workers_in(word: Option<&str>) -> Option<u32>
+    ensures workers { result ≡ workers_in (option_map (λ word. word.now) word.entry) }
+    ensures few { IfSome result (λ workers. (0 < workers) × (workers ≤ 64)) }
 {
     let workers = number_or(4, 1, 64, word)?;
-    Ok(workers as u32)
+    Some(workers as u32)
 }
 
 // The number of steps of a word, 4,000,000 where there is none.
-pub fn steps_in(word: Option<&str>) -> Result<u64, WordsFault>
-    ensures steps { Gives (steps_in (option_map (λ word. word.now) word.entry)) result }
-    ensures few { IfOk result (λ steps. steps ≤ 50000000) }
+pub fn steps_in(word: Option<&str>) -> Option<u64>
+    ensures steps { result ≡ steps_in (option_map (λ word. word.now) word.entry) }
+    ensures few { IfSome result (λ steps. steps ≤ 50000000) }
 {
     number_or(4_000_000, 1, 50_000_000, word)
 }
 
 // The number of lines of the sample.
-pub fn lines_in(word: &str) -> Result<u32, WordsFault>
-    ensures { Gives (number_in 1 200000 word.now) result }
+pub fn lines_in(word: &str) -> Option<u32>
+    ensures { result ≡ number_in 1 200000 word.now }
 {
     let lines = number_in(1, 200_000, word)?;
-    Ok(lines as u32)
+    Some(lines as u32)
 }
 
 // The number of a word, or the default where there is none.
-fn number_or(default: u64, least: u64, most: u64, word: Option<&str>) -> Result<u64, WordsFault>
-    ensures number { Gives (number_or default least most (option_map (λ word. word.now) word.entry)) result }
-    ensures least { least ≤ default → IfOk result (λ number. least ≤ number) }
-    ensures most { default ≤ most → IfOk result (λ number. number ≤ most) }
+fn number_or(default: u64, least: u64, most: u64, word: Option<&str>) -> Option<u64>
+    ensures number { result ≡ number_or default least most (option_map (λ word. word.now) word.entry) }
+    ensures least { least ≤ default → IfSome result (λ number. least ≤ number) }
+    ensures most { default ≤ most → IfSome result (λ number. number ≤ most) }
 {
     match word {
-        None => Ok(default),
+        None => Some(default),
         Some(word) => number_in(least, most, word),
     }
 }
 
 // The number of a word, from `least` to `most`.
-fn number_in(least: u64, most: u64, word: &str) -> Result<u64, WordsFault>
-    ensures number { Gives (number_in least most word.now) result }
-    ensures least { IfOk result (λ number. least ≤ number) }
-    ensures most { IfOk result (λ number. number ≤ most) }
+fn number_in(least: u64, most: u64, word: &str) -> Option<u64>
+    ensures number { result ≡ number_in least most word.now }
+    ensures least { IfSome result (λ number. least ≤ number) }
+    ensures most { IfSome result (λ number. number ≤ most) }
 {
     match number(word.as_bytes()) {
-        Some(number) if least <= number && number <= most => Ok(number),
-        _ => Err(WordsFault::Usage),
+        Some(number) if least <= number && number <= most => Some(number),
+        _ => None,
     }
 }
 

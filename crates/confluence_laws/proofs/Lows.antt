@@ -35,7 +35,7 @@ use Rattle.confluence_laws.proofs.Ways.{HasNoEarly, IsOnTheWay, IsFollowing, fol
 use Rattle.confluence_laws.proofs.Befores.{grown, more_written, before_it, found_put, put_there, alone_own, sight_listed}
 use Rattle.confluence_laws.proofs.Upstream.{PassesOn}
 use Rattle.confluence_laws.proofs.LastSeen.{sight_there}
-use Rattle.confluence_laws.proofs.Paths.{Up}
+use Rattle.confluence_laws.proofs.Paths.{CameIn}
 
 -- a place behind the end holds nothing
 pub no_place : {A : Type 0} (xs : List A) (k : ℕ) → slice_get xs k ≡ None → length xs ≤ k
@@ -66,12 +66,12 @@ module _ (net : Net) (first : State) (pass : IsTaggedPass net first) (u : Who) (
   sight_at_put on = let want = put_asked (next p h) o rec own_put.0 in sight_there p on h own_put.1 o want.0 want.1
 
   -- which is on the list
-  pub up_listed : PassesOn p → Up net first (IsListed first) h u
+  pub up_listed : PassesOn p → CameIn net first (IsListed first) h u
   up_listed on =
       let seen = sight_listed p (whole net (tag_orders net first) (lists_of first) u) h (last_input h) by_itself.1 (sight_at_put on) in
       by_link (link_in net nothing_yet u (last_input h)) refl seen.0 seen.1
     where
-      by_link : (lk : Option Link) → link_in net nothing_yet u (last_input h) ≡ lk → (x : List ℕ) → slice_get (list_on (lists_of first) lk) (tooks_on (last_input h) h) ≡ Some x → Up net first (IsListed first) h u
+      by_link : (lk : Option Link) → link_in net nothing_yet u (last_input h) ≡ lk → (x : List ℕ) → slice_get (list_on (lists_of first) lk) (tooks_on (last_input h) h) ≡ Some x → CameIn net first (IsListed first) h u
       by_link None e x seen = cc
       by_link (Some m) e x seen = record {
         link = m;
@@ -188,7 +188,7 @@ module _ (net : Net) (formed : IsWellFormed net) (plain : IsPlain net) (calm : H
           (wants.0, subst (λ z. Within (past first l.from) (Put l.output wants.0 ∷ z)) (sym r.2) r.1, record { strand = q.0; there = q.1; follows = r.0; is = ap written r.2 })
 
       -- so did the strand before it
-      pub low_up : ((p : Strand) → strand_at net nothing_yet l.from ≡ Some p → PassesOn p) → Up net first IsLow (before_put l.output k (past first l.from)) l.from
+      pub low_up : ((p : Strand) → strand_at net nothing_yet l.from ≡ Some p → PassesOn p) → CameIn net first IsLow (before_put l.output k (past first l.from)) l.from
       low_up passing =
           let q = producer l x.into in
           let r = put_next q.0 q.1 in
@@ -251,7 +251,7 @@ module _ (net : Net) (formed : IsWellFormed net) (plain : IsPlain net) (calm : H
               let f = x.listed_there in
               absurd (omega (arith, a, b, c, d, f))
 
-      pub high_up : ((p : Strand) → strand_at net nothing_yet l.from ≡ Some p → PassesOn p) → Up net first IsHigh (before_put l.output k (past first l.from)) l.from
+      pub high_up : ((p : Strand) → strand_at net nothing_yet l.from ≡ Some p → PassesOn p) → CameIn net first IsHigh (before_put l.output k (past first l.from)) l.from
       high_up passing =
           let q = producer l x.into in
           let h = before_put l.output k (past first l.from) in

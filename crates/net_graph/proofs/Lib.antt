@@ -1,6 +1,7 @@
 pub mod Adding
 pub mod Assembled
 pub mod Cases
+pub mod EachGraph
 pub mod FaultRanks
 pub mod Feeds
 pub mod Filings

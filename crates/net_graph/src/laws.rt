@@ -1,4 +1,4 @@
-ghost use Rattle.std.specs.Prelude.{◌≡◌, ℕ, List, []};
+ghost use Rattle.std.specs.Prelude.{◌≡◌, ◌⊎◌, ℕ, List, []};
 ghost use Rattle.pipe_model.specs.declared.net.Net.{Net};
 ghost use Rattle.spec_scanner.specs.declared.fault.Fault.{Fault};
 ghost use Rattle.spec_scanner.specs.declared.piece.Piece.{Piece};
@@ -25,4 +25,9 @@ pub fn no_net_refusal()
 /// The pieces that a text reads as have one refusal at most.
 pub fn one_net_refusal()
     ensures { (text : List ℕ) (pipelines : List (List Piece)) (a b : Fault) → Reads text pipelines → IsRefused pipelines a → IsRefused pipelines b → a ≡ b }
+{}
+
+/// All pieces make a net, or are refused.
+pub fn each_graph()
+    ensures { (pipelines : List (List Piece)) → ((net : Net) × IsGraph pipelines net) ⊎ ((fault : Fault) × IsRefused pipelines fault) }
 {}

@@ -1,4 +1,5 @@
-ghost use Rattle.std.specs.Prelude.{◌≡◌, true, IfOk, OnOk};
+ghost use Rattle.std.specs.Prelude.{◌≡◌, true, IfOk, OnErr, OnOk};
+ghost use Rattle.stage_syntax.specs.Kinds.{IsKnown};
 ghost use Rattle.net_graph.specs.Nets.{AreOutcomes, IsOutcome};
 ghost use Rattle.net_graph.specs.Outcomes.{AddsOutcomes};
 ghost use Rattle.net_graph.specs.Searches.{stand};
@@ -11,7 +12,8 @@ use std::alloc::Global;
 
 // The outcome of a stage.
 fn outcome(alloc: Global, piece: &Piece, first: bool) -> Result<Result<Kind, KindFault>, NoMemory>
-    ensures { IfOk result (λ outcome. IsOutcome (stand piece.now first true) outcome) }
+    ensures read { IfOk result (λ outcome. IsOutcome (stand piece.now first true) outcome) }
+    ensures memory { OnErr result (IsKnown piece.now.name first) }
 {
     match kind_of(alloc, piece.name.bytes(), &piece.arg, first) {
         Ok(kind) => Ok(Ok(kind)),

@@ -1,17 +1,21 @@
 -- What a core has done at the end of its run.
-use Rattle.std.proofs.Common.{◌≡◌, ℕ, true, false, List, refl, sym, ◌∙◌, ap, subst, arith, None, is_some}
+use Rattle.std.proofs.Common.{◌≡◌, ◌⊎◌, inl, inr, ℕ, ◌<◌, ◌≤◌, ltb, Bool, true, false, List, [], ◌∷◌, ◌++◌, refl, sym, ◌∙◌, ap, subst, arith, Some, None, is_some}
+use Rattle.std.proofs.lemmas.Bool.{ltb-false, ltb-true}
 use Rattle.pipe_model.specs.declared.net.Net.{Net}
 use Rattle.pipe_model.specs.declared.step.Entry.{Entry}
 use Rattle.pipe_model.specs.Licence.{licence, none_left}
-use Rattle.pipe_model.specs.Play.{play, IsComplete}
+use Rattle.pipe_model.specs.Play.{play, step, IsComplete}
 use Rattle.pipe_model.specs.Reply.{reply}
+use Rattle.pipe_model.specs.Run.{IsRun as IsPlay}
+use Rattle.pipe_model.specs.State.{nothing_yet}
+use Rattle.confluence_laws.proofs.Lengths.{play_last}
 use Rattle.core_machine.specs.declared.job.RunEnd.TheVariants as End
-use Rattle.core_machine.specs.Machine.{Machine, started, left_by, state_of, HasStopped, IsLawful}
-use Rattle.core_machine.specs.Answered.{Ends}
+use Rattle.core_machine.specs.Machine.{Machine, started, left_by, licence_of, state_of, HasStopped, IsLawful}
+use Rattle.core_machine.specs.Answered.{AreLeast as CoreLeast, Ends, HasRun, LeastReady}
 use Rattle.workers.specs.Driven.{HasAdvanced}
 use Rattle.call_meaning.specs.declared.status.Outcome.{Outcome}
 use Rattle.call_meaning.specs.declared.status.Outcome.TheVariants.{Spent}
-use Rattle.call_meaning.specs.Meaning.{outcome_of}
+use Rattle.call_meaning.specs.Meaning.{AreLeast, IsLeast, outcome_of}
 use Rattle.net_runs.specs.Ran.{EndsAs, IsRun}
 use Rattle.net_runs.specs.Ran.EndsAs.{completes, spends}
 
@@ -27,24 +31,62 @@ stopped_all m stopped = subst (λ out. (s k : ℕ) → licence m.net (play m.net
 pub stopped_complete : (m : Machine) → HasStopped m → IsComplete m.net m.journal
 stopped_complete m stopped = complete_if m.net m.journal (stopped_all m stopped)
 
-module _ (net : Net) (steps : ℕ) (old new : Machine) (first : old ≡ started net steps) (run : HasAdvanced old new) (lawful : IsLawful new) where
+-- Where no strand is out, each least step of the core is the least that may be made.
+
+least_entry : (m : Machine) → m.out ≡ [] → (e : Entry) → LeastReady m (Some (e.strand, e.stream)) → IsLeast m.net (state_of m) e
+least_entry m home e ready other may = by (ltb other.strand e.strand) refl (ltb e.strand other.strand) refl (ltb other.stream e.stream) refl
+  where
+    here : (s k : ℕ) → licence m.net (state_of m) (left_by m.journal m.out) s k ≡ None → licence m.net (state_of m) none_left s k ≡ None
+    here s k none = subst (λ out. licence m.net (state_of m) (left_by m.journal out) s k ≡ None) home none
+
+    never : {P : Type 0} → licence_of m other.strand other.stream ≡ None → P
+    never none = (let z : false ≡ true = sym (ap is_some (here other.strand other.stream none)) ∙ may in cc)
+
+    by : (a : Bool) → ltb other.strand e.strand ≡ a → (b : Bool) → ltb e.strand other.strand ≡ b → (c : Bool) → ltb other.stream e.stream ≡ c →
+        (e.strand < other.strand) ⊎ ((e.strand ≡ other.strand) × (e.stream ≤ other.stream))
+    by true lower b is c stream = never (ready.2 other.strand other.stream (ltb-true other.strand e.strand lower))
+    by false lower true higher c stream = inl (ltb-true e.strand other.strand higher)
+    by false lower false higher c stream = by_stream c stream
+      where
+        same : e.strand ≡ other.strand
+        same = (let a = ltb-false other.strand e.strand lower in let b = ltb-false e.strand other.strand higher in omega (arith, a, b))
+
+        by_stream : (c : Bool) → ltb other.stream e.stream ≡ c → (e.strand < other.strand) ⊎ ((e.strand ≡ other.strand) × (e.stream ≤ other.stream))
+        by_stream true stream = never (subst (λ s. licence_of m s other.stream ≡ None) same (ready.1 other.stream (ltb-true other.stream e.stream stream)))
+        by_stream false stream = inr (same, ltb-false other.stream e.stream stream)
+
+least_run : (m : Machine) → m.out ≡ [] → (es : List Entry) → CoreLeast m es → IsPlay (step m.net) (IsLeast m.net) (state_of m) es
+least_run m home [] least = tt
+least_run m home (e ∷ es) least = (
+  least_entry m home e least.0,
+  subst (λ st. IsPlay (step m.net) (IsLeast m.net) st es) (play_last m.net nothing_yet m.journal e) (least_run (record m { journal = m.journal ++ e ∷ [] }) home es least.1),
+)
+
+-- one worker's run took the least steps
+run_least : (net : Net) (steps : ℕ) (old new : Machine) → old ≡ started net steps → HasRun old new → AreLeast new.net new.journal
+run_least net steps old new first run =
+    let after : new ≡ record (started net steps) { journal = run.more } = run.after ∙ ap (λ (m : Machine). record m { journal = m.journal ++ run.more }) first in
+    subst (λ (m : Machine). AreLeast m.net m.journal) (sym after) (least_run (started net steps) refl run.more (subst (λ (m : Machine). CoreLeast m run.more) first run.least))
+
+module _ (net : Net) (steps workers : ℕ) (old new : Machine) (first : old ≡ started net steps) (run : HasAdvanced old new) (lawful : IsLawful new) (alone : workers ≡ 1 → HasRun old new) where
   budget_is : new.budget ≡ steps
   budget_is = run.budget ∙ ap (λ (m : Machine). m.budget) first
 
-  run_ended : (outcome : Outcome) → EndsAs steps new outcome → IsRun net steps new outcome
+  run_ended : (outcome : Outcome) → EndsAs steps new outcome → IsRun net steps workers new outcome
   run_ended outcome ends = record {
     net_is = run.net ∙ ap (λ (m : Machine). m.net) first;
     legal = lawful.legal;
     home = run.home;
     within = let w = lawful.within in omega (arith, w, budget_is);
+    least = λ one. run_least net steps old new first (alone one);
     ends = ends;
   }
 
   -- it came to its end
-  pub run_completed : Ends End.Complete new → (outcome : Outcome) → outcome ≡ outcome_of new.net (reply new.net (state_of new)) → IsRun net steps new outcome
+  pub run_completed : Ends End.Complete new → (outcome : Outcome) → outcome ≡ outcome_of new.net (reply new.net (state_of new)) → IsRun net steps workers new outcome
   run_completed stopped outcome of = run_ended outcome (completes stopped of)
 
   -- its journal was full before
-  pub run_spent : Ends End.Spent new → IsRun net steps new (Spent steps)
+  pub run_spent : Ends End.Spent new → IsRun net steps workers new (Spent steps)
   run_spent ends = run_ended (Spent steps) (spends refl (ends.0 ∙ budget_is)
       (record { strand = ends.1.0.0; stream = ends.1.0.1 }, subst (λ out. is_some (licence new.net (play new.net new.journal) (left_by new.journal out) ends.1.0.0 ends.1.0.1) ≡ true) run.home ends.1.1.0))

@@ -37,8 +37,8 @@ use Rattle.call_meaning.specs.Status.{text_of}
 use Rattle.net_runs.specs.Puts.{ArePuts, AreStored, AreStoredPart, IsPut, StopsStoring, file_at, put_text, with_put}
 use Rattle.net_runs.specs.Ran.{EndsAs, run_effect}
 use Rattle.net_runs.specs.Ran.EndsAs.{completes, spends}
-use Rattle.call_streams.proofs.Orders.{among_files, order_append}
-use Rattle.call_streams.proofs.Replacements.{replaced_all, replaced_more, replaced_part}
+use Rattle.call_streams.proofs.Orders.{order_append}
+use Rattle.call_streams.proofs.Replacements.{replaced_more, replaced_part}
 use Rattle.net_runs.proofs.RunEffects.{unspent_effect}
 use Rattle.net_runs.proofs.Runs.{drop_at, drop_none}
 
@@ -221,7 +221,7 @@ module _ (core : Machine) (steps : ℕ) where
   pub early_puts : (outcome : Outcome) (puts : List Put) → EndsAs steps core outcome → ((lines : List ℕ) × (outcome ≡ Stalled lines)) ⊎ ((spent : ℕ) × (outcome ≡ Spent spent)) → puts ≡ [] →
       ArePuts core (run_effect core outcome).files puts
   early_puts outcome puts ends (inl stalled) none =
-      no_puts outcome puts (ap (λ o. (run_effect core o).files) stalled.1 ∙ stalled_files stalled.0 (subst (EndsAs steps core) stalled.1 ends)) none
+      no_puts outcome puts (ap (λ o. (run_effect core o).files) stalled.1 ∙ ap in_order (stalled_files stalled.0 (subst (EndsAs steps core) stalled.1 ends))) none
   early_puts outcome puts ends (inr spent) none = no_puts outcome puts (ap (λ o. (run_effect core o).files) spent.1) none
 
   pub ended_puts : (outcome : Outcome) (puts : List Put) → EndsAs steps core outcome → ((lines : List ℕ) → outcome ≡ Stalled lines → ⊥) → ((spent : ℕ) → outcome ≡ Spent spent → ⊥) → All (IsPut core) puts →
@@ -231,7 +231,7 @@ module _ (core : Machine) (steps : ℕ) where
     files_are =
         texts
         ∙ ap in_order (sym (ended_all core.net (state_of core) (waits_from (state_of core) 0 core.net.strands) (λ lines is. ended lines (of ∙ is))))
-        ∙ ap (λ (effect : Effect). in_order effect.files) (sym (unspent_effect core outcome unspent));
+        ∙ ap (λ (effect : Effect). effect.files) (sym (unspent_effect core outcome unspent));
   }
   ended_puts outcome puts (spends is full more) ended unspent each texts = absurd (unspent steps is)
 
@@ -251,29 +251,21 @@ stored_more core puts done later put parts each kept keeps old now new replaced 
     subst (λ texts. AreReplaced texts old new) (sym (map-append (put_text core) done (put ∷ [])))
     (replaced_more (map (put_text core) done) (put_text core put) old now new replaced (subst (λ bytes. Replaces now new put.name bytes Stored) (kept_text core put one kept keeps) stores))
 
-module _ (core : Machine) (files : List FileText) (puts : List Put) (is : map (put_text core) puts ≡ in_order files) where
+module _ (core : Machine) (files : List FileText) (puts : List Put) (is : map (put_text core) puts ≡ files) where
   -- all were replaced
-  pub stored_all : (old new : Store) → AreReplaced (map (put_text core) puts) old.files new.files → new.faults ≡ old.faults → AreStored files old new
-  stored_all old new replaced steady = record {
-    replaced = replaced_all files old.files new.files (subst (λ z. AreReplaced z old.files new.files) is replaced);
+  pub stored_all : (old new : Store) → AreReplaced (map (put_text core) puts) old.files new.files → new.faults ≡ old.faults → new.wants ≡ old.wants → AreStored files old new
+  stored_all old new replaced steady wants = record {
+    replaced = subst (λ z. AreReplaced z old.files new.files) is replaced;
     steady = steady;
+    wants = wants;
   }
 
   -- one wasn't
-  module _ (done later : List Put) (put : Put) (parts : done ++ put ∷ later ≡ puts) where
-    parted : map (put_text core) done ++ put_text core put ∷ map (put_text core) later ≡ in_order files
-    parted = sym (map-append (put_text core) done (put ∷ later)) ∙ ap (map (put_text core)) parts ∙ is
-
-    among : Contains files (put_text core put)
-    among = All-contains (Contains files) (in_order files) (put_text core put) (among_files files)
-        (subst (λ z. Contains z (put_text core put)) parted
-        (Contains-append_right (map (put_text core) done) (put_text core put ∷ map (put_text core) later) (put_text core put) (0, omega arith, refl)))
-
-    pub stored_part : (old now new : Store) → AreReplaced (map (put_text core) done) old.files now.files → (bytes : List ℕ) (answer : Replaced) → Replaces now.files new.files put.name bytes answer →
-        (outcome : Outcome) → StopsStoring put.name old new outcome → AreStoredPart files old new outcome
-    stored_part old now new replaced bytes answer leaves outcome stops = record {
-      name = put.name;
-      among = ((put_text core put).1, among);
-      below = replaced_part files (map (put_text core) done) (map (put_text core) later) (put_text core put) parted bytes answer old.files now.files new.files replaced leaves;
-      stops = stops;
-    }
+  pub stored_part : (done later : List Put) (put : Put) → done ++ put ∷ later ≡ puts → (old now new : Store) → AreReplaced (map (put_text core) done) old.files now.files →
+      (bytes : List ℕ) (answer : Replaced) → Replaces now.files new.files put.name bytes answer → (outcome : Outcome) → StopsStoring put.name old new outcome → AreStoredPart files old new outcome
+  stored_part done later put parts old now new replaced bytes answer leaves outcome stops = record {
+    name = put.name;
+    part = replaced_part files (map (put_text core) done) (map (put_text core) later) (put_text core put)
+        (sym (map-append (put_text core) done (put ∷ later)) ∙ ap (map (put_text core)) parts ∙ is) bytes answer old.files now.files new.files replaced leaves;
+    stops = stops;
+  }

@@ -58,7 +58,7 @@ module _ (journal : List Entry) where
   with_trace (Some made) (Some name) effect none is =
       ap (λ (file : Option FileText). record effect { trace = Some (made.name, option_map_or (λ (f : FileText). f.1) file []) }) (sym is)
 
-module _ {S : Type 0} (net : Net) (steps : ℕ) (trace : Option (List ℕ)) (ready : Ready S) (is : IsReady net steps trace ready) where
+module _ {S : Type 0} (net : Net) (steps workers : ℕ) (trace : Option (List ℕ)) (ready : Ready S) (is : IsReady net steps workers trace ready) where
   -- it is that of the run, with the file of the journal
   pub traced_effect : traced trace ready.core.journal (run_effect ready.core ready.told.outcome) ≡ ready_effect ready
   traced_effect = ap (λ name. traced name ready.core.journal (run_effect ready.core ready.told.outcome)) (sym (name_same ready.core.journal ready.trace trace is.trace_is))

@@ -1,11 +1,9 @@
 -- From a run that was fed and carried out to what the call decides.
-use Rattle.std.proofs.Common.{ℕ, List, [], refl, sym, ◌∙◌, ap, subst, Option}
+use Rattle.std.proofs.Common.{◌≡◌, ℕ, List, [], refl, sym, ◌∙◌, ap, subst, Option}
 use Rattle.outside.specs.Device.{Device}
 use Rattle.outside.specs.Faults.{Rose}
 use Rattle.outside.specs.Files.{Files}
 use Rattle.pipe_model.specs.declared.net.Net.{Net}
-use Rattle.pipe_model.specs.WellFormed.{IsWellFormed}
-use Rattle.net_graph.proofs.Feeds.{fed_formed}
 use Rattle.call_streams.specs.declared.fetch.Found.{Found}
 use Rattle.net_runs.specs.declared.ready_run.Ready.{Ready}
 use Rattle.call_meaning.specs.declared.status.Outcome.{Outcome}
@@ -14,8 +12,8 @@ use Rattle.call_meaning.specs.Answer.{Decides, IsTorn}
 use Rattle.call_meaning.specs.Answer.HasCause.{came, write_failed}
 use Rattle.call_meaning.specs.Answer.HasDone.{whole, half}
 use Rattle.call_meaning.specs.Answer.IsTorn.{torn_failed, torn_memory}
-use Rattle.call_meaning.specs.Devices.{IsPartReplaced, Outside, Store, outside}
-use Rattle.call_meaning.specs.Effects.{AreReplaced, Effect, output_of, replaced_by}
+use Rattle.call_meaning.specs.Devices.{Outside, Store, outside}
+use Rattle.call_meaning.specs.Effects.{ArePartReplaced, AreReplaced, Effect, output_of, replaced_by}
 use Rattle.call_meaning.specs.Meaning.{HasRun, RunMeans, RunsNet, net_on}
 use Rattle.call_meaning.specs.Meaning.ComesTo.{ran}
 use Rattle.call_streams.specs.Feeding.{IsFed}
@@ -27,17 +25,17 @@ use Rattle.net_runs.proofs.Finishes.{run_means}
 use Rattle.call_streams.proofs.Replacements.{none_replaced}
 use Rattle.net_runs.proofs.RunEffects.{traced_effect}
 
-module _ {S : Type 0} (words : List (List ℕ)) (net : Net) (steps : ℕ) (trace : Option (List ℕ)) (runs : RunsNet words net steps trace) (formed : IsWellFormed net)
+module _ {S : Type 0} (words : List (List ℕ)) (net : Net) (steps : ℕ) (trace : Option (List ℕ)) (runs : RunsNet words net steps trace) (workers : ℕ) (same : runs.run.workers ≡ workers)
     (found : List Found) (input input' output : Device) (shelf fed_shelf : Store) (after : Net) (took : IsFed net found (outside input output shelf) (outside input' output fed_shelf) after)
-    (ready : Ready S) (is : IsReady after steps trace ready) where
+    (ready : Ready S) (is : IsReady after steps workers trace ready) where
   abbrev effect : Effect
   effect = ready_effect ready
 
-  means : RunMeans (net_on took.given net) steps trace ready.told.outcome effect
+  means : RunMeans (net_on took.given net) steps runs.run.workers trace ready.told.outcome effect
   means =
-      subst (λ e. RunMeans (net_on took.given net) steps trace ready.told.outcome e) (traced_effect after steps trace ready is)
-      (run_means (net_on took.given net) steps trace (fed_formed took.given.input took.given.files net formed) ready.core ready.told.outcome
-      (subst (λ on. IsRun on steps ready.core ready.told.outcome) took.after_is is.run))
+      subst (λ n. RunMeans (net_on took.given net) steps n trace ready.told.outcome effect) (sym same)
+      (subst (λ e. RunMeans (net_on took.given net) steps workers trace ready.told.outcome e) (traced_effect after steps workers trace ready is)
+      (run_means (net_on took.given net) steps workers trace ready.core ready.told.outcome (subst (λ on. IsRun on steps workers ready.core ready.told.outcome) took.after_is is.run)))
 
   abbrev run : HasRun words took.given ready.told.outcome effect
   run = record { net = net; steps = steps; trace = trace; runs = runs; fits = took.fits; means = means }
@@ -52,11 +50,11 @@ module _ {S : Type 0} (words : List (List ℕ)) (net : Net) (steps : ℕ) (trace
     -- why a replacement ended
     torn : (name : List ℕ) (told : Outcome) → StopsStoring name fed_shelf shelf' told → IsTorn old new name told
     torn name (ShelfFault other) stops = torn_failed (ap ShelfFault stops.0) (subst (λ n. Rose n shelf'.faults) took.steady.shelf stops.1)
-    torn name NoMemory stops = torn_memory refl (stops ∙ took.steady.shelf)
+    torn name NoMemory stops = torn_memory refl (stops.0 ∙ took.steady.shelf) (subst (λ n. Rose n shelf'.wants) took.wants stops.1)
     torn name _ stops = absurd stops
 
     pub decides_run : (told : Outcome) → PutsOut effect output output' fed_shelf shelf' ready.told.outcome told → Decides words old new told
-    decides_run told (put_all wrote stored same) = subst (λ o. Decides words old new o) (sym same) (record {
+    decides_run told (put_all wrote stored told_is) = subst (λ o. Decides words old new o) (sym told_is) (record {
       given = took.given;
       effect = effect;
       gave = took.gave;
@@ -65,16 +63,16 @@ module _ {S : Type 0} (words : List (List ℕ)) (net : Net) (steps : ℕ) (trace
           (record { output = wrote.gained; files = subst (λ (files : Option Files). AreReplaced (replaced_by effect) files shelf'.files) took.kept stored.replaced })
           (came (ran run) took.used (record { input = took.steady.input; output = wrote.steady; shelf = stored.steady ∙ took.steady.shelf }));
     })
-    decides_run told (put_part part same) = record {
+    decides_run told (put_part part kept) = record {
       given = took.given;
       effect = output_of part.wrote;
       gave = took.gave;
       found = took.found;
       done = whole
-          (record { output = part.gained; files = subst (λ (files : Option Files). AreReplaced [] shelf.files files) (sym (ap (λ (s : Store). s.files) same ∙ took.kept)) (none_replaced shelf.files) })
+          (record { output = part.gained; files = subst (λ (files : Option Files). AreReplaced [] shelf.files files) (sym (ap (λ (s : Store). s.files) kept ∙ took.kept)) (none_replaced shelf.files) })
           (write_failed
           (record { outcome = ready.told.outcome; whole = effect; comes = ran run; used = took.used; wrote = part.wrote; cut = part.cut; effect_is = refl })
-          part.fault took.steady.input part.failed (ap (λ (s : Store). s.faults) same ∙ took.steady.shelf));
+          part.fault took.steady.input part.failed (ap (λ (s : Store). s.faults) kept ∙ took.steady.shelf));
     }
     decides_run told (put_torn name wrote part stops) = record {
       given = took.given;
@@ -86,7 +84,7 @@ module _ {S : Type 0} (words : List (List ℕ)) (net : Net) (steps : ℕ) (trace
         run = run;
         used = took.used;
         name = name;
-        done = record { output = wrote.gained; files = subst (λ (files : Option Files). IsPartReplaced name effect files shelf'.files) took.kept part };
+        done = record { output = wrote.gained; files = subst (λ (files : Option Files). ArePartReplaced name (replaced_by effect) files shelf'.files) took.kept part };
         torn = torn name told stops;
         input = took.steady.input;
         output = wrote.steady;

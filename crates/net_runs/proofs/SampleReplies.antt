@@ -4,7 +4,6 @@ use Rattle.std.proofs.KnownBytes.{Consumes-nil}
 use Rattle.outside.specs.Device.{Device}
 use Rattle.pipe_model.specs.declared.net.Net.{Net}
 use Rattle.pipe_model.specs.Reply.{console_from, reply}
-use Rattle.pipe_model.specs.WellFormed.{IsWellFormed}
 use Rattle.net_graph.specs.Fed.{with_input}
 use Rattle.core_machine.specs.Machine.{Machine, state_of}
 use Rattle.call_meaning.specs.declared.status.Outcome.{Outcome}
@@ -33,17 +32,17 @@ none_summed count console steps Done other = absurd (other refl)
 none_summed count console steps _ other = refl
 
 -- what the run of a net that was fed the sample's lines means
-pub sample_means : (count : ℕ) (on : Net) (steps : ℕ) → IsWellFormed on → (core : Machine) (outcome : Outcome) → IsRun on steps core outcome →
-    (effect : Effect) → effect ≡ summed_up count (console_from (state_of core) 0 core.net.strands) (length core.journal) outcome → SampleMeans count on steps outcome effect
-sample_means count on steps formed core outcome run effect is = by run.ends
+pub sample_means : (count : ℕ) (on : Net) (steps workers : ℕ) (core : Machine) (outcome : Outcome) → IsRun on steps workers core outcome →
+    (effect : Effect) → effect ≡ summed_up count (console_from (state_of core) 0 core.net.strands) (length core.journal) outcome → SampleMeans count on steps workers outcome effect
+sample_means count on steps workers core outcome run effect is = by run.ends
   where
-    by : EndsAs steps core outcome → SampleMeans count on steps outcome effect
+    by : EndsAs steps core outcome → SampleMeans count on steps workers outcome effect
     by (completes stopped of) =
-        sums_up (reply core.net (state_of core)) (finished on steps formed core run.net_is run.legal stopped run.within)
+        sums_up (reply core.net (state_of core)) (finished on steps workers core run.net_is run.legal run.least stopped run.within)
         (of ∙ ap (λ z. outcome_of z (reply core.net (state_of core))) run.net_is)
         (is ∙ ap (λ console. summed_up count console (length core.journal) outcome) (sym (reply_console core.net (state_of core))))
     by (spends same full more) =
-        sample_spends (exhausted on steps formed core run.net_is run.legal full more) same
+        sample_spends (exhausted on steps workers core run.net_is run.legal run.least full more) same
         (is ∙ ap (summed_up count (console_from (state_of core) 0 core.net.strands) (length core.journal)) same)
 
 module _ (words : List (List ℕ)) (input output output' : Device) (shelf : Store) (net : Net) (count steps : ℕ) (samples : SamplesNet words net count steps) where
@@ -56,7 +55,7 @@ module _ (words : List (List ℕ)) (input output output' : Device) (shelf : Stor
   abbrev given : Before
   given = record { input = []; files = files_in shelf.files }
 
-  module _ (text : List ℕ) (outcome : Outcome) (means : SampleMeans count (with_input (sample_text count) net) steps outcome (output_of text)) where
+  module _ (text : List ℕ) (outcome : Outcome) (means : SampleMeans count (with_input (sample_text count) net) steps samples.workers outcome (output_of text)) where
     abbrev comes : ComesTo words given outcome (output_of text)
     comes = sampled (record { net = net; count = count; steps = steps; samples = samples; means = means })
 

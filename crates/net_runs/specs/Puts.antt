@@ -17,7 +17,7 @@ use Rattle.call_meaning.specs.declared.status.Outcome.{Outcome}
 use Rattle.call_meaning.specs.declared.status.Outcome.TheVariants.{ShelfFault, NoMemory}
 use Rattle.net_runs.specs.declared.replace.Put.{Put}
 use Rattle.call_meaning.specs.Devices.{Store}
-use Rattle.call_meaning.specs.Effects.{AreReplaced, AreReplacedBelow, IsNameOf, in_order}
+use Rattle.call_meaning.specs.Effects.{ArePartReplaced, AreReplaced}
 use Rattle.call_meaning.specs.Status.{text_of}
 
 -- the files of a run that are to be replaced, in the order of their names, each with the strand whose text it is and the text of its fault
@@ -29,10 +29,10 @@ pub record IsPut (core : Machine) (put : Put) : Type 0 where
   pub kept : (p : Strand) → strand_at core.net nothing_yet put.strand ≡ Some p → is_filed (form p).keeping ≡ true
   pub fault : put.fault ≡ text_of (ShelfFault put.name)
 
--- they are those of these files
+-- they are these files
 pub record ArePuts (core : Machine) (files : List FileText) (puts : List Put) : Type 0 where
   pub each : All (IsPut core) puts
-  pub files_are : map (put_text core) puts ≡ in_order files
+  pub files_are : map (put_text core) puts ≡ files
 
 -- the file that a strand keeps, if it keeps one and saw the end of its input
 abbrev pub file_at : Machine → Who → List FileText
@@ -47,15 +47,15 @@ with_put put (other ∷ rest) = if is_less put.name other.name then put ∷ (oth
 pub record AreStored (files : List FileText) (old new : Store) : Type 0 where
   pub replaced : AreReplaced files old.files new.files
   pub steady : new.faults ≡ old.faults
+  pub wants : new.wants ≡ old.wants
 
 -- a fault, or want of memory, ended the replacements at a file
 abbrev pub StopsStoring : List ℕ → Store → Store → Outcome → Type 0
 StopsStoring name old new (ShelfFault other) = (other ≡ name) × Rose old.faults new.faults
-StopsStoring name old new NoMemory = new.faults ≡ old.faults
+StopsStoring name old new NoMemory = (new.faults ≡ old.faults) × Rose old.wants new.wants
 StopsStoring name old new _ = ⊥
 
 pub record AreStoredPart (files : List FileText) (old new : Store) (outcome : Outcome) : Type 0 where
   pub name : List ℕ
-  pub among : IsNameOf files name
-  pub below : AreReplacedBelow name files old.files new.files
+  pub part : ArePartReplaced name files old.files new.files
   pub stops : StopsStoring name old new outcome

@@ -8,7 +8,7 @@ use Rattle.core_machine.specs.Machine.{Machine, HasStopped, state_of}
 use Rattle.call_meaning.specs.declared.status.Outcome.{Outcome}
 use Rattle.call_meaning.specs.declared.status.Outcome.TheVariants.{Spent}
 use Rattle.call_meaning.specs.Effects.{Effect, effect_of, no_effect}
-use Rattle.call_meaning.specs.Meaning.{outcome_of}
+use Rattle.call_meaning.specs.Meaning.{AreLeast, outcome_of}
 
 -- how the run of a core ended, in so many steps at most
 pub data EndsAs (steps : ℕ) (core : Machine) (outcome : Outcome) : Type 0 where
@@ -18,11 +18,13 @@ pub data EndsAs (steps : ℕ) (core : Machine) (outcome : Outcome) : Type 0 wher
   spends : outcome ≡ Spent steps → length core.journal ≡ steps → (e : Entry) × IsLicensed core.net (state_of core) e → EndsAs steps core outcome
 
 -- a core ran a net so
-pub record IsRun (net : Net) (steps : ℕ) (core : Machine) (outcome : Outcome) : Type 0 where
+pub record IsRun (net : Net) (steps workers : ℕ) (core : Machine) (outcome : Outcome) : Type 0 where
   pub net_is : core.net ≡ net
   pub legal : IsLegal core.net core.journal
   pub home : core.out ≡ []
   pub within : length core.journal ≤ steps
+  -- one worker took the least step each time
+  pub least : workers ≡ 1 → AreLeast core.net core.journal
   pub ends : EndsAs steps core outcome
 
 -- what is done of a run with this outcome, but for its journal's file

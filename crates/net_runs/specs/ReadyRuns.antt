@@ -8,8 +8,8 @@ use Rattle.outside.specs.Device.{Device}
 use Rattle.call_meaning.specs.declared.status.Outcome.{Outcome}
 use Rattle.net_runs.specs.declared.ready_run.Ready.{Ready}
 use Rattle.net_runs.specs.declared.trace.Trace.{Trace}
-use Rattle.call_meaning.specs.Devices.{IsPartReplaced, Store}
-use Rattle.call_meaning.specs.Effects.{Effect, no_effect, replaced_by, traced}
+use Rattle.call_meaning.specs.Devices.{Store}
+use Rattle.call_meaning.specs.Effects.{ArePartReplaced, Effect, no_effect, replaced_by, traced}
 use Rattle.call_streams.specs.Texts.{IsTelling}
 use Rattle.call_streams.specs.Written.{IsPartWritten, IsWritten}
 use Rattle.net_runs.specs.Ran.{IsRun, run_effect}
@@ -17,8 +17,8 @@ use Rattle.net_runs.specs.Puts.{ArePuts, AreStored, StopsStoring}
 use Rattle.net_runs.specs.Traces.{IsTrace, trace_file}
 
 -- all that is done of a run is ready to be
-pub record IsReady {S : Type 0} (net : Net) (steps : ℕ) (trace : Option (List ℕ)) (ready : Ready S) : Type 0 where
-  pub run : IsRun net steps ready.core ready.told.outcome
+pub record IsReady {S : Type 0} (net : Net) (steps workers : ℕ) (trace : Option (List ℕ)) (ready : Ready S) : Type 0 where
+  pub run : IsRun net steps workers ready.core ready.told.outcome
   pub few : length ready.core.net.strands ≤ 65536
   pub telling : IsTelling ready.told
   pub puts : ArePuts ready.core (run_effect ready.core ready.told.outcome).files ready.puts.items
@@ -33,4 +33,4 @@ ready_effect ready = traced (option_map_or (λ (trace : Trace). Some trace.name)
 pub data PutsOut (effect : Effect) (output output' : Device) (shelf shelf' : Store) (outcome decided : Outcome) : Type 0 where
   put_all : IsWritten effect.output output output' → AreStored (replaced_by effect) shelf shelf' → decided ≡ outcome → PutsOut effect output output' shelf shelf' outcome decided
   put_part : IsPartWritten effect.output output output' decided → shelf' ≡ shelf → PutsOut effect output output' shelf shelf' outcome decided
-  put_torn : (name : List ℕ) → IsWritten effect.output output output' → IsPartReplaced name effect shelf.files shelf'.files → StopsStoring name shelf shelf' decided → PutsOut effect output output' shelf shelf' outcome decided
+  put_torn : (name : List ℕ) → IsWritten effect.output output output' → ArePartReplaced name (replaced_by effect) shelf.files shelf'.files → StopsStoring name shelf shelf' decided → PutsOut effect output output' shelf shelf' outcome decided

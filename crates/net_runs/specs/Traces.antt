@@ -24,6 +24,7 @@ IsTrace trace = trace.fault ≡ text_of (ShelfFault trace.name)
 pub record IsTraceStored (trace : Option FileText) (old new : Store) : Type 0 where
   pub replaced : AreReplaced (replaced_by (record no_effect { trace = trace })) old.files new.files
   pub steady : new.faults ≡ old.faults
+  pub wants : new.wants ≡ old.wants
 
 -- a fault, or want of memory, ended its replacement
 pub record IsTraceTorn (trace : Option FileText) (old new : Store) (outcome : Outcome) : Type 0 where

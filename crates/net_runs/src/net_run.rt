@@ -44,7 +44,7 @@ pub(crate) fn run_net<S: Stage + Send, Rt: Threads + Wait + Sync, G: Gate + Sync
     requires fresh { AreFresh S.stands net.strands stages.items }
     requires few { steps ≤ 50000000 }
     requires workers { (0 < workers) × (workers ≤ 64) }
-    ensures run { IfOk result (λ ran. IsRun net steps ran.core ran.outcome) }
+    ensures run { IfOk result (λ ran. IsRun net steps workers ran.core ran.outcome) }
     ensures few { IfOk result (λ ran. length ran.core.net.strands ≤ 65536) }
 {
     let core = Core::start(alloc, net, stages, steps)?;

@@ -47,7 +47,7 @@ pub fn make_ready<S: Stage + Send, Rt: Threads + Wait + Sync, G: Gate + Sync>(
     requires fresh { AreFresh S.stands net.strands stages.items }
     requires few { steps ≤ 50000000 }
     requires workers { (0 < workers) × (workers ≤ 64) }
-    ensures { IfOk result (λ ready. IsReady net steps trace ready) }
+    ensures { IfOk result (λ ready. IsReady net steps workers trace ready) }
 {
     let ran = run_net(rt, alloc, net, stages, steps, workers, gate)?;
     let puts = files_of(alloc, &ran.core, &ran.outcome)?;
@@ -68,9 +68,9 @@ pub fn put_out<S: Stage, O: Sink, F: Shelf>(
     output: &mut O,
     shelf: &mut F,
 ) -> Told
-    requires { (net : NetIs) × (steps : ℕ) × (trace : Option (List ℕ)) × IsReady net steps trace ready }
+    requires { (net : NetIs) × (steps : ℕ) × (workers : ℕ) × (trace : Option (List ℕ)) × IsReady net steps workers trace ready }
     ensures puts { let old = device (O.written output.old) (O.faults output.old) in let new = device (O.written output.new) (O.faults output.new) in
-        PutsOut (ready_effect ready) old new (store (F.files shelf.old) (F.faults shelf.old)) (store (F.files shelf.new) (F.faults shelf.new)) ready.told.outcome result.outcome }
+        PutsOut (ready_effect ready) old new (store (F.files shelf.old) (F.faults shelf.old) (F.wants shelf.old)) (store (F.files shelf.new) (F.faults shelf.new) (F.wants shelf.new)) ready.told.outcome result.outcome }
     ensures text { IsTelling result }
 {
     let Ready {

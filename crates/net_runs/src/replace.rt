@@ -4,7 +4,7 @@ ghost use Rattle.std.specs.List.{All};
 ghost use Rattle.pipe_model.specs.Keys as Keys;
 ghost use Rattle.pipe_model.specs.Reply.{FileText};
 ghost use Rattle.call_meaning.specs.Devices.{store};
-ghost use Rattle.call_meaning.specs.Effects.{in_order, in_order_after};
+ghost use Rattle.call_meaning.specs.Effects.{in_order_after};
 ghost use Rattle.call_meaning.specs.Status.{text_of};
 ghost use Rattle.net_runs.specs.Puts.{ArePuts, AreStored, AreStoredPart, IsPut, file_at, put_text, with_put};
 ghost use Rattle.net_runs.specs.Ran.{EndsAs, run_effect};
@@ -105,8 +105,8 @@ pub(crate) fn replace_files<S: Stage, F: Shelf>(
 ) -> Result<(), Told>
     requires home { core.now.out ≡ [] }
     requires each { All (IsPut core.now) puts.items }
-    ensures stored { (files : List FileText) → map (put_text core.now) puts.items ≡ in_order files →
-        let old = store (F.files shelf.old) (F.faults shelf.old) in let new = store (F.files shelf.new) (F.faults shelf.new) in
+    ensures stored { (files : List FileText) → map (put_text core.now) puts.items ≡ files →
+        let old = store (F.files shelf.old) (F.faults shelf.old) (F.wants shelf.old) in let new = store (F.files shelf.new) (F.faults shelf.new) (F.wants shelf.new) in
         MatchResult result (λ _. AreStored files old new) (λ told. AreStoredPart files old new told.outcome) }
     ensures text { MatchResult result (λ _. Unit {0}) IsTelling }
 {

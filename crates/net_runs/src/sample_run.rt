@@ -35,7 +35,7 @@ pub fn summed_up<S: Stage + Send, Rt: Threads + Wait + Sync, G: Gate + Sync>(
     requires fresh { AreFresh S.stands net.strands stages.items }
     requires few { steps ≤ 50000000 }
     requires workers { (0 < workers) × (workers ≤ 64) }
-    ensures means { IfOk result (λ answer. SampleMeans count net steps answer.told.outcome (output_of answer.text.items)) }
+    ensures means { IfOk result (λ answer. SampleMeans count net steps workers answer.told.outcome (output_of answer.text.items)) }
     ensures text { IfOk result (λ answer. IsTelling answer.told) }
 {
     let ran = run_net(rt, alloc, net, stages, steps, workers, gate)?;

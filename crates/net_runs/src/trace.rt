@@ -49,7 +49,7 @@ pub(crate) fn replace_trace<F: Shelf>(
     trace: Option<Trace>,
 ) -> Result<(), Told>
     requires { IfSome trace IsTrace }
-    ensures stored { let old = store (F.files shelf.old) (F.faults shelf.old) in let new = store (F.files shelf.new) (F.faults shelf.new) in
+    ensures stored { let old = store (F.files shelf.old) (F.faults shelf.old) (F.wants shelf.old) in let new = store (F.files shelf.new) (F.faults shelf.new) (F.wants shelf.new) in
         MatchResult result (λ _. IsTraceStored (trace_file trace) old new) (λ told. IsTraceTorn (trace_file trace) old new told.outcome) }
     ensures text { MatchResult result (λ _. Unit {0}) IsTelling }
 {

@@ -14,6 +14,11 @@ IsPath name = All (λ byte. byte ≢ 0) name × IsUtf8 name
 abbrev pub file_limit : ℕ
 file_limit = 1073741824
 
+-- a shelf: how many calls have failed, and how many replacements have wanted memory
+pub record FolderCounts : Type 0 where
+  pub faults : ℕ
+  pub wants : ℕ
+
 -- the count of faults after a fetch: one more after one that failed, up to its type's end
 abbrev pub faults_after_fetch : ℕ → Fetched → ℕ
 faults_after_fetch faults (fetched.Found bytes) = faults
@@ -26,3 +31,9 @@ abbrev pub faults_after_replace : ℕ → Replaced → ℕ
 faults_after_replace faults replaced.Stored = faults
 faults_after_replace faults replaced.Failed = next_number faults
 faults_after_replace faults replaced.NoMemory = faults
+
+-- the count of those that wanted memory after a replacement: one more after one that did, up to its type's end
+abbrev pub wants_after_replace : ℕ → Replaced → ℕ
+wants_after_replace wants replaced.Stored = wants
+wants_after_replace wants replaced.Failed = wants
+wants_after_replace wants replaced.NoMemory = next_number wants

@@ -84,12 +84,13 @@ after_write s bytes = record {
   faults = if write_fails s then next_number s.faults else s.faults;
 }
 
--- a shelf: the files, the calls that are to fail, and how many were made and failed
+-- a shelf: the files, the calls that are to fail, how many were made and failed, and how many replacements wanted memory
 pub record ShelfState : Type 0 where
   pub files : List File
   pub fails : List ℕ
   pub calls : ℕ
   pub faults : ℕ
+  pub wants : ℕ
 
 -- the file has this name
 abbrev pub is_named : List ℕ → File → Bool
@@ -137,9 +138,18 @@ files_after files file replaced.NoMemory = files
 
 -- the shelf after a call that left these files
 abbrev pub after_call : ShelfState → List File → ShelfState
-after_call s files = record {
+after_call s files = record s {
   files = files;
-  fails = s.fails;
   calls = next_number s.calls;
   faults = if call_fails s then next_number s.faults else s.faults;
 }
+
+-- the count of those that wanted memory after a replacement that was answered so
+abbrev pub wants_after : ℕ → Replaced → ℕ
+wants_after wants replaced.Stored = wants
+wants_after wants replaced.Failed = wants
+wants_after wants replaced.NoMemory = next_number wants
+
+-- the shelf after a replacement that was answered so
+abbrev pub after_replace : ShelfState → File → Replaced → ShelfState
+after_replace s file answer = record (after_call s (files_after s.files file answer)) { wants = wants_after s.wants answer }

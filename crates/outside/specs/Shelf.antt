@@ -43,3 +43,9 @@ abbrev pub CountsReplace : ℕ → ℕ → Replaced → Type 0
 CountsReplace before now replaced.Stored = now ≡ before
 CountsReplace before now replaced.Failed = Rose before now
 CountsReplace before now replaced.NoMemory = now ≡ before
+
+-- a replacement that wanted memory raised the count of those, and any other left it
+abbrev pub CountsWant : ℕ → ℕ → Replaced → Type 0
+CountsWant before now replaced.Stored = now ≡ before
+CountsWant before now replaced.Failed = now ≡ before
+CountsWant before now replaced.NoMemory = Rose before now

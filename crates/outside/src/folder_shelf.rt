@@ -2,8 +2,8 @@ ghost use Rattle.std.specs.Prelude.{◌≡◌, None, Err, MatchResult};
 ghost use Rattle.outside.specs.declared.fault.Fault.TheVariants as faults;
 ghost use Rattle.outside.specs.declared.shelf.Fetched.TheVariants as fetched;
 ghost use Rattle.outside.specs.declared.shelf.Replaced.TheVariants as replaced;
-ghost use Rattle.outside.specs.Shelf.{Fetches, CountsFetch, Replaces, CountsReplace};
-ghost use Rattle.outside.specs.Folder.{IsPath, faults_after_fetch, faults_after_replace};
+ghost use Rattle.outside.specs.Shelf.{Fetches, CountsFetch, Replaces, CountsReplace, CountsWant};
+ghost use Rattle.outside.specs.Folder.{IsPath, faults_after_fetch, faults_after_replace, wants_after_replace};
 
 use crate::fault::Fault;
 use crate::folder_fetch::fetch_file;
@@ -20,36 +20,44 @@ use std::rt::Files;
 pub struct FolderShelf<'a, Rt> {
     rt: &'a Rt,
     faults: u64,
+    wants: u64,
 }
 
 impl<'a, Rt> Model for FolderShelf<'a, Rt> {
-    ghost use Rattle.std.specs.Prelude.{ℕ};
+    ghost use Rattle.outside.specs.Folder.{FolderCounts};
 
-    ghost Value = { ℕ };
+    ghost Value = { FolderCounts };
 
-    ghost view = { λ shelf. shelf.faults };
+    ghost view = { λ shelf. record { faults = shelf.faults; wants = shelf.wants } };
 }
 
 impl<'a, Rt> FolderShelf<'a, Rt> {
-    /// The files that the runtime reaches, with no fault.
+    /// The files that the runtime reaches, with no fault, and no replacement that wanted memory.
     pub fn new(rt: &'a Rt) -> FolderShelf<'a, Rt>
-        ensures { result ≡ 0 }
+        ensures { result ≡ record { faults = 0; wants = 0 } }
     {
-        FolderShelf { rt, faults: 0 }
+        FolderShelf {
+            rt,
+            faults: 0,
+            wants: 0,
+        }
     }
 }
 
 impl<'a, Rt: Files> Shelf for FolderShelf<'a, Rt> {
     ghost files = { λ _. None };
 
-    ghost faults = { λ shelf. shelf };
+    ghost faults = { λ shelf. shelf.faults };
+
+    ghost wants = { λ shelf. shelf.wants };
 
     /// A file of more than 1,073,741,824 bytes, a folder, and a link that leads to nothing are faults. `Absent`
     /// is answered where nothing at all has the name.
     fn fetch(&mut self, alloc: Global, name: &[u8]) -> Fetched
         ensures files { Fetches None None name.now result }
-        ensures count { CountsFetch self.old self.new result }
-        ensures after { self.new ≡ faults_after_fetch self.old result }
+        ensures count { CountsFetch self.old.faults self.new.faults result }
+        ensures wants { self.new.wants ≡ self.old.wants }
+        ensures after { self.new.faults ≡ faults_after_fetch self.old.faults result }
         ensures path { ¬ (IsPath name.now) → result ≡ fetched.Failed }
     {
         match fetch_named(self.rt, alloc, name) {
@@ -67,13 +75,17 @@ impl<'a, Rt: Files> Shelf for FolderShelf<'a, Rt> {
     /// pipe with a name, is written in place, and may have taken a part of the bytes.
     fn replace(&mut self, alloc: Global, name: &[u8], bytes: &[u8]) -> Replaced
         ensures files { Replaces None None name.now bytes.now result }
-        ensures count { CountsReplace self.old self.new result }
-        ensures after { self.new ≡ faults_after_replace self.old result }
+        ensures count { CountsReplace self.old.faults self.new.faults result }
+        ensures wants { CountsWant self.old.wants self.new.wants result }
+        ensures after { self.new ≡ record { faults = faults_after_replace self.old.faults result; wants = wants_after_replace self.old.wants result } }
         ensures path { ¬ (IsPath name.now) → result ≡ replaced.Failed }
     {
         match replace_named(self.rt, alloc, name, bytes) {
             Ok(()) => Replaced::Stored,
-            Err(Fault::NoMemory) => Replaced::NoMemory,
+            Err(Fault::NoMemory) => {
+                self.wants = self.wants.saturating_add(1);
+                Replaced::NoMemory
+            }
             Err(Fault::Device) => {
                 self.faults = self.faults.saturating_add(1);
                 Replaced::Failed

@@ -2,8 +2,8 @@ ghost use Rattle.std.specs.Prelude.{◌≡◌, [], Some, OnOk, OnErr, find, posi
 ghost use Rattle.std.specs.Bool.{OnTrue};
 ghost use Rattle.std.specs.Option.{option_copied};
 ghost use Rattle.outside.specs.Faults.{Rose};
-ghost use Rattle.outside.specs.Shelf.{Fetches, CountsFetch, Replaces, CountsReplace};
-ghost use Rattle.outside.specs.InMemory.{is_named, files_of, put_file, call_fails, fetch_answer, AnswersFetch, replace_answer, AnswersReplace, files_after, after_call};
+ghost use Rattle.outside.specs.Shelf.{Fetches, CountsFetch, Replaces, CountsReplace, CountsWant};
+ghost use Rattle.outside.specs.InMemory.{is_named, files_of, put_file, call_fails, fetch_answer, AnswersFetch, replace_answer, AnswersReplace, after_call, after_replace};
 
 use crate::calls::{is_to_fail, next_call};
 use crate::shelf::{Fetched, Replaced, Shelf};
@@ -19,6 +19,7 @@ pub struct MemShelf {
     fails: Vec<u32>,
     calls: u64,
     faults: u64,
+    wants: u64,
 }
 
 #[derive(Debug, Drop)]
@@ -37,19 +38,21 @@ impl Model for MemShelf {
       fails = s.fails.items;
       calls = s.calls;
       faults = s.faults;
+      wants = s.wants;
     } };
 }
 
 impl MemShelf {
     /// A shelf with no file, and no call made.
     pub fn new(alloc: Global, fails: Vec<u32>) -> MemShelf
-        ensures { result ≡ record { files = []; fails = fails.items; calls = 0; faults = 0 } }
+        ensures { result ≡ record { files = []; fails = fails.items; calls = 0; faults = 0; wants = 0 } }
     {
         MemShelf {
             files: Vec::new(alloc),
             fails,
             calls: 0,
             faults: 0,
+            wants: 0,
         }
     }
 
@@ -97,10 +100,13 @@ impl Shelf for MemShelf {
 
     ghost faults = { λ s. s.faults };
 
+    ghost wants = { λ s. s.wants };
+
     fn fetch(&mut self, alloc: Global, name: &[u8]) -> Fetched
         ensures files { Fetches (Some (files_of self.old.files)) (Some (files_of self.new.files))
             name.now result }
         ensures count { CountsFetch self.old.faults self.new.faults result }
+        ensures wants { self.new.wants ≡ self.old.wants }
         ensures answer { AnswersFetch (fetch_answer self.old name.now) result }
         ensures after { self.new ≡ after_call self.old self.old.files }
     {
@@ -121,14 +127,15 @@ impl Shelf for MemShelf {
         ensures files { Replaces (Some (files_of self.old.files)) (Some (files_of self.new.files))
             name.now bytes.now result }
         ensures count { CountsReplace self.old.faults self.new.faults result }
+        ensures wants { CountsWant self.old.wants self.new.wants result }
         ensures answer { AnswersReplace (replace_answer self.old) result }
-        ensures after { self.new ≡ after_call self.old
-            (files_after self.old.files (record { name = name.now; bytes = bytes.now }) result) }
+        ensures after { self.new ≡ after_replace self.old (record { name = name.now; bytes = bytes.now }) result }
     {
         if self.count_call() {
             return Replaced::Failed;
         }
         if put(&mut self.files, alloc, name, bytes).is_err() {
+            self.wants = self.wants.saturating_add(1);
             return Replaced::NoMemory;
         }
         Replaced::Stored

@@ -1,7 +1,7 @@
 ghost use Rattle.std.specs.Prelude.{◌≡◌, ℕ, List};
 ghost use Rattle.std.specs.declared.option.Option.{Option};
 ghost use Rattle.outside.specs.Files.{Files};
-ghost use Rattle.outside.specs.Shelf.{Fetches, CountsFetch, Replaces, CountsReplace};
+ghost use Rattle.outside.specs.Shelf.{Fetches, CountsFetch, Replaces, CountsReplace, CountsWant};
 
 use pipe_model::Rec;
 use std::alloc::Global;
@@ -38,15 +38,20 @@ pub trait Shelf {
     // How many calls have failed.
     ghost faults: { Self → ℕ };
 
+    // How many replacements have wanted memory.
+    ghost wants: { Self → ℕ };
+
     /// A copy of the file of this name.
     fn fetch(&mut self, alloc: Global, name: &[u8]) -> Fetched
         ensures files { Fetches (files self.old) (files self.new) name.now result }
-        ensures count { CountsFetch (faults self.old) (faults self.new) result };
+        ensures count { CountsFetch (faults self.old) (faults self.new) result }
+        ensures wants { wants self.new ≡ wants self.old };
 
     /// Puts the bytes in the place of what the file of this name held, or makes the file.
     fn replace(&mut self, alloc: Global, name: &[u8], bytes: &[u8]) -> Replaced
         ensures files { Replaces (files self.old) (files self.new) name.now bytes.now result }
-        ensures count { CountsReplace (faults self.old) (faults self.new) result };
+        ensures count { CountsReplace (faults self.old) (faults self.new) result }
+        ensures wants { CountsWant (wants self.old) (wants self.new) result };
 
     /// How many calls have failed. The count never falls, and it stands still at `u64::MAX`.
     fn faults(&self) -> u64

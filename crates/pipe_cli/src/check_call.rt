@@ -29,8 +29,8 @@ pub(crate) fn check_call<I: Source, O: Sink, F: Shelf>(
     requires whole { IsWellFormed net }
     requires unfiled { AreUnfiled net }
     ensures decides { (words : List (List ℕ)) → ChecksNet words net name → Decides words
-        (outside (device (I.left input.old) (I.faults input.old)) (device (O.written output.old) (O.faults output.old)) (store (F.files shelf.old) (F.faults shelf.old)))
-        (outside (device (I.left input.new) (I.faults input.new)) (device (O.written output.new) (O.faults output.new)) (store (F.files shelf.new) (F.faults shelf.new)))
+        (outside (device (I.left input.old) (I.faults input.old)) (device (O.written output.old) (O.faults output.old)) (store (F.files shelf.old) (F.faults shelf.old) (F.wants shelf.old)))
+        (outside (device (I.left input.new) (I.faults input.new)) (device (O.written output.new) (O.faults output.new)) (store (F.files shelf.new) (F.faults shelf.new) (F.wants shelf.new)))
         result.outcome }
     ensures text { IsTelling result }
 {

@@ -7,6 +7,9 @@ mod run_call;
 mod sample_call;
 mod stages;
 
-pub use call_meaning::{Outcome, Status, one_meaning, straight_line_is_plain, straight_line_means};
+pub use call_meaning::{
+    Outcome, Status, all_is_meant, no_fault_without_its_status, one_meaning, one_plain_reply,
+    straight_line_is_plain, straight_line_means,
+};
 pub use call_words::{Command, WordsFault, read_words};
 pub use main_call::pipe_main;

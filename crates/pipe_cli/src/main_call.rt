@@ -3,7 +3,6 @@ ghost use Rattle.std.specs.String.{string_bytes};
 ghost use Rattle.outside.specs.Device.{device};
 ghost use Rattle.call_meaning.specs.Devices.{outside, store};
 ghost use Rattle.call_meaning.specs.Answer.{Answers, Decides, Reports};
-ghost use Rattle.call_meaning.specs.Headline.{Headline};
 ghost use Rattle.call_streams.specs.Texts.{IsTelling};
 
 use crate::check_call::check_call;
@@ -36,13 +35,8 @@ pub fn pipe_main<Rt: Threads + Wait + Sync, I: Source, O: Sink, E: Sink, F: Shel
     gate: &G,
 ) -> Status
     ensures answers { Answers (map (λ word. string_bytes word) words.now)
-        (outside (device (I.left input.old) (I.faults input.old)) (device (O.written output.old) (O.faults output.old)) (store (F.files shelf.old) (F.faults shelf.old)))
-        (outside (device (I.left input.new) (I.faults input.new)) (device (O.written output.new) (O.faults output.new)) (store (F.files shelf.new) (F.faults shelf.new)))
-        (device (E.written diag.old) (E.faults diag.old)) (device (E.written diag.new) (E.faults diag.new))
-        result }
-    ensures headline { Headline (map (λ word. string_bytes word) words.now)
-        (outside (device (I.left input.old) (I.faults input.old)) (device (O.written output.old) (O.faults output.old)) (store (F.files shelf.old) (F.faults shelf.old)))
-        (outside (device (I.left input.new) (I.faults input.new)) (device (O.written output.new) (O.faults output.new)) (store (F.files shelf.new) (F.faults shelf.new)))
+        (outside (device (I.left input.old) (I.faults input.old)) (device (O.written output.old) (O.faults output.old)) (store (F.files shelf.old) (F.faults shelf.old) (F.wants shelf.old)))
+        (outside (device (I.left input.new) (I.faults input.new)) (device (O.written output.new) (O.faults output.new)) (store (F.files shelf.new) (F.faults shelf.new) (F.wants shelf.new)))
         (device (E.written diag.old) (E.faults diag.old)) (device (E.written diag.new) (E.faults diag.new))
         result }
 {
@@ -61,8 +55,8 @@ fn run<Rt: Threads + Wait + Sync, I: Source, O: Sink, F: Shelf, G: Gate + Sync>(
     gate: &G,
 ) -> Told
     ensures decides { Decides (map (λ word. string_bytes word) words.now)
-        (outside (device (I.left input.old) (I.faults input.old)) (device (O.written output.old) (O.faults output.old)) (store (F.files shelf.old) (F.faults shelf.old)))
-        (outside (device (I.left input.new) (I.faults input.new)) (device (O.written output.new) (O.faults output.new)) (store (F.files shelf.new) (F.faults shelf.new)))
+        (outside (device (I.left input.old) (I.faults input.old)) (device (O.written output.old) (O.faults output.old)) (store (F.files shelf.old) (F.faults shelf.old) (F.wants shelf.old)))
+        (outside (device (I.left input.new) (I.faults input.new)) (device (O.written output.new) (O.faults output.new)) (store (F.files shelf.new) (F.faults shelf.new) (F.wants shelf.new)))
         result.outcome }
     ensures text { IsTelling result }
 {

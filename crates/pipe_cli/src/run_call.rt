@@ -1,5 +1,5 @@
 //! A run of a specification.
-ghost use Rattle.std.specs.Prelude.{◌<◌, ◌≤◌, ℕ, List, Option, IfOk};
+ghost use Rattle.std.specs.Prelude.{◌≡◌, ◌<◌, ◌≤◌, ℕ, List, Option, IfOk};
 ghost use Rattle.outside.specs.Device.{device};
 ghost use Rattle.pipe_model.specs.WellFormed.{IsWellFormed};
 ghost use Rattle.net_graph.specs.Fed.{AreUnfiled};
@@ -37,9 +37,9 @@ pub(crate) fn run_call<Rt: Threads + Wait + Sync, I: Source, O: Sink, F: Shelf, 
     requires unfiled { AreUnfiled net }
     requires few { steps ≤ 50000000 }
     requires workers { (0 < workers) × (workers ≤ 64) }
-    ensures decides { (words : List (List ℕ)) → RunsNet words net steps trace → Decides words
-        (outside (device (I.left input.old) (I.faults input.old)) (device (O.written output.old) (O.faults output.old)) (store (F.files shelf.old) (F.faults shelf.old)))
-        (outside (device (I.left input.new) (I.faults input.new)) (device (O.written output.new) (O.faults output.new)) (store (F.files shelf.new) (F.faults shelf.new)))
+    ensures decides { (words : List (List ℕ)) (runs : RunsNet words net steps trace) → runs.run.workers ≡ workers → Decides words
+        (outside (device (I.left input.old) (I.faults input.old)) (device (O.written output.old) (O.faults output.old)) (store (F.files shelf.old) (F.faults shelf.old) (F.wants shelf.old)))
+        (outside (device (I.left input.new) (I.faults input.new)) (device (O.written output.new) (O.faults output.new)) (store (F.files shelf.new) (F.faults shelf.new) (F.wants shelf.new)))
         result.outcome }
     ensures text { IsTelling result }
 {
@@ -66,7 +66,7 @@ fn run_fed<Rt: Threads + Wait + Sync, G: Gate + Sync>(
     requires whole { IsWellFormed net }
     requires few { steps ≤ 50000000 }
     requires workers { (0 < workers) × (workers ≤ 64) }
-    ensures { IfOk result (λ ready. IsReady net steps trace ready) }
+    ensures { IfOk result (λ ready. IsReady net steps workers trace ready) }
 {
     let stages = fresh_stages(alloc, &net)?;
     make_ready(rt, alloc, net, stages, steps, workers, trace, gate)

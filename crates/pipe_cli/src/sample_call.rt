@@ -1,5 +1,5 @@
 //! The sample is run and summed up.
-ghost use Rattle.std.specs.Prelude.{◌<◌, ◌≤◌, ℕ, List, IfOk};
+ghost use Rattle.std.specs.Prelude.{◌≡◌, ◌<◌, ◌≤◌, ℕ, List, IfOk};
 ghost use Rattle.outside.specs.Device.{Device, device};
 ghost use Rattle.pipe_model.specs.WellFormed.{IsWellFormed};
 ghost use Rattle.net_graph.specs.Fed.{with_input};
@@ -33,7 +33,7 @@ pub(crate) fn sample_call<Rt: Threads + Wait + Sync, O: Sink, G: Gate + Sync>(
     requires whole { IsWellFormed net }
     requires few { steps ≤ 50000000 }
     requires workers { (0 < workers) × (workers ≤ 64) }
-    ensures decides { (words : List (List ℕ)) (input : Device) (shelf : Store) → SamplesNet words net count steps → Decides words
+    ensures decides { (words : List (List ℕ)) (input : Device) (shelf : Store) (samples : SamplesNet words net count steps) → samples.workers ≡ workers → Decides words
         (outside input (device (O.written output.old) (O.faults output.old)) shelf)
         (outside input (device (O.written output.new) (O.faults output.new)) shelf)
         result.outcome }
@@ -58,7 +58,7 @@ fn run_sample<Rt: Threads + Wait + Sync, G: Gate + Sync>(
     requires whole { IsWellFormed net }
     requires few { steps ≤ 50000000 }
     requires workers { (0 < workers) × (workers ≤ 64) }
-    ensures means { IfOk result (λ answer. SampleMeans count (with_input (sample_text count) net) steps answer.told.outcome (output_of answer.text.items)) }
+    ensures means { IfOk result (λ answer. SampleMeans count (with_input (sample_text count) net) steps workers answer.told.outcome (output_of answer.text.items)) }
     ensures text { IfOk result (λ answer. IsTelling answer.told) }
 {
     let bytes = sample_input(alloc, count)?;

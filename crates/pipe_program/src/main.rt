@@ -1,13 +1,11 @@
 //! The program `pipe`: its words, its standard streams and the files of its folder, handed to the one call that does the work.
 #![tactic(auto)]
 
-ghost use Rattle.std.specs.Prelude.{map};
+ghost use Rattle.std.specs.Prelude.{map, None};
 ghost use Rattle.std.specs.String.{string_bytes};
-ghost use Rattle.outside.specs.Device.{Device, device};
-ghost use Rattle.call_meaning.specs.Devices.{Outside};
+ghost use Rattle.outside.specs.Device.{device};
+ghost use Rattle.call_meaning.specs.Devices.{outside, store};
 ghost use Rattle.call_meaning.specs.Answer.{Answers};
-ghost use Rattle.call_meaning.specs.Headline.{Headline};
-ghost use Rattle.pipe_program.specs.Call.{Leaves, objects};
 
 use outside::{FolderShelf, OpenGate, StdSink, StdSource};
 use pipe_cli::{Status, pipe_main};
@@ -28,20 +26,24 @@ fn words(rt: &(impl AllocGlobal + Env)) -> Result<Vec<String>, AllocError> {
     }
 }
 
-// Does what the words say with these streams, the files of the folder where the program runs and an open gate, and gives back what is
-// left of the streams.
-fn call<Rt: Threads + Wait + Files + Sync, I: Read, O: Write, D: Write>(
-    rt: &Rt,
+// Does what the words say with these streams, the files of the folder where the program runs and an open gate, and gives back the objects
+// that were made of them, which tell what is left and written, and how many calls failed.
+fn call<'a, Rt: Threads + Wait + Files + Sync, I: Read, O: Write, D: Write>(
+    rt: &'a Rt,
     alloc: Global,
     words: &[String],
     input: I,
     output: O,
     diag: D,
-) -> (Status, I, O, D)
-    ensures { (after : Outside) × (told : Device)
-        × Answers (map (λ word. string_bytes word) words.now) (objects (I.remaining input) (O.contents output)) after (device (D.contents diag) 0) told result.0
-        × Headline (map (λ word. string_bytes word) words.now) (objects (I.remaining input) (O.contents output)) after (device (D.contents diag) 0) told result.0
-        × Leaves after told (I.remaining result.1) (O.contents result.2) (D.contents result.3) }
+) -> (
+    Status,
+    StdSource<I>,
+    StdSink<O>,
+    StdSink<D>,
+    FolderShelf<'a, Rt>,
+)
+    ensures { Answers (map (λ word. string_bytes word) words.now) (outside (device (I.remaining input) 0) (device (O.contents output) 0) (store None 0 0))
+        (outside result.1 result.2 (store None result.4.faults result.4.wants)) (device (D.contents diag) 0) result.3 result.0 }
 {
     let mut source = StdSource::new(input);
     let mut sink = StdSink::new(output);
@@ -57,12 +59,7 @@ fn call<Rt: Threads + Wait + Files + Sync, I: Read, O: Write, D: Write>(
         &mut shelf,
         &OpenGate,
     );
-    (
-        status,
-        source.into_inner(),
-        sink.into_inner(),
-        texts.into_inner(),
-    )
+    (status, source, sink, texts, shelf)
 }
 
 fn main(rt: HostRuntime) -> ExitCode {
@@ -71,6 +68,6 @@ fn main(rt: HostRuntime) -> ExitCode {
         let _ = eprintln!(rt; "out of memory");
         return ExitCode::from(Status::NoMemory.number());
     };
-    let (status, _, _, _) = call(&rt, alloc, &words, rt.stdin(), rt.stdout(), rt.stderr());
+    let (status, _, _, _, _) = call(&rt, alloc, &words, rt.stdin(), rt.stdout(), rt.stderr());
     ExitCode::from(status.number())
 }

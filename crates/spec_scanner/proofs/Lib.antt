@@ -6,6 +6,7 @@ pub mod Bodies
 pub mod Cases
 pub mod Clashing
 pub mod Cutting
+pub mod EachText
 pub mod Finding
 pub mod ItemRuns
 pub mod LabelEntries

@@ -1,5 +1,5 @@
 -- What a text reads as, and its faults.
-use Rattle.std.specs.Prelude.{◌≡◌, ℕ, ◌-◌, ◌<◌, ◌≤◌, List, [], ◌∷◌, ◌++◌, length, drop, ◌⊎◌, ⊤}
+use Rattle.std.specs.Prelude.{◌≡◌, ℕ, ◌-◌, ◌<◌, ◌≤◌, List, [], ◌∷◌, ◌++◌, length, drop, ◌⊎◌}
 use Rattle.spec_scanner.specs.declared.fault.Fault.{Fault}
 use Rattle.spec_scanner.specs.declared.fault.SpecFault.{SpecFault}
 use Rattle.spec_scanner.specs.declared.fault.SpecFault.TheVariants.{Refused, NoMemory}
@@ -77,7 +77,14 @@ pub record IsRefused (text : List ℕ) (least : Fault) : Type 0 where
   pub faults_are : AreFaults text faults
   pub least_is : IsLeast least faults
 
--- the text is refused for this reason; want of memory may come in any case
+-- the text isn't too long, and its options have no fault
+pub record HasGoodOptions (text : List ℕ) : Type 0 where
+  pub short : length text ≤ longest
+  pub outset : Outset
+  pub begins : BeginsAs text outset
+  pub good : outset.faults ≡ []
+
+-- the text is refused for this reason; want of memory comes only where it isn't too long and has options without a fault
 abbrev pub Refuses : List ℕ → SpecFault → Type 0
 Refuses text (Refused number place) = IsRefused text (record { number = number; argument = 0; place = place })
-Refuses text NoMemory = ⊤
+Refuses text NoMemory = HasGoodOptions text

@@ -1,4 +1,4 @@
-ghost use Rattle.std.specs.Prelude.{◌≡◌, ℕ, List, Some, slice_get};
+ghost use Rattle.std.specs.Prelude.{◌≡◌, ◌⊎◌, ℕ, List, Some, slice_get};
 ghost use Rattle.stage_syntax.specs.Arg.{IsArg};
 ghost use Rattle.spec_scanner.specs.declared.fault.Fault.{Fault};
 ghost use Rattle.spec_scanner.specs.declared.piece.Piece.{Piece};
@@ -22,4 +22,9 @@ pub fn one_refusal_of()
 /// The places of each argument of a text that reads as something rise below its end.
 pub fn places_rise()
     ensures { (text : List ℕ) (pipelines : List (List Piece)) → Reads text pipelines → (k j : ℕ) (pieces : List Piece) (piece : Piece) → slice_get pipelines k ≡ Some pieces → slice_get pieces j ≡ Some piece → IsArg piece.arg }
+{}
+
+/// Each text reads as something, or is refused.
+pub fn each_text()
+    ensures { (text : List ℕ) → ((pipelines : List (List Piece)) × Reads text pipelines) ⊎ ((fault : Fault) × IsRefused text fault) }
 {}

@@ -21,7 +21,7 @@ mod stages;
 mod words;
 
 pub use fault::{Fault, SpecFault, SpecFaultKind, least};
-pub use laws::{no_refusal, one_reading_of, one_refusal_of, places_rise};
+pub use laws::{each_text, no_refusal, one_reading_of, one_refusal_of, places_rise};
 pub use piece::{Piece, PieceKind};
 pub use scanned::{Pieces, Scanned};
 pub use scanner::scan;

@@ -1,9 +1,11 @@
 pub mod Consumed
 pub mod Drafts
+pub mod EachKind
 pub mod OneKinds
 pub mod OrderLists
 pub mod PlainLines
 pub mod ReadValues
+pub mod Refusing
 pub mod RowSteps
 pub mod StageNames
 pub mod Typed

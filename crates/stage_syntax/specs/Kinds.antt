@@ -1,5 +1,5 @@
 -- Which name and argument are which kind of stage.
-use Rattle.std.specs.Prelude.{◌≡◌, ℕ, ◌-◌, Bool, List, length, get_or, ⊤}
+use Rattle.std.specs.Prelude.{◌≡◌, ℕ, ◌-◌, Bool, List, length, get_or}
 use Rattle.std.specs.declared.option.Option.TheVariants.{Some, None}
 use Rattle.pipe_model.specs.declared.kind.Kind.{Kind}
 use Rattle.stage_syntax.specs.Arg.{ArgText}
@@ -39,8 +39,12 @@ pub record IsArgFault (name : List ℕ) (arg : ArgText) (first : Bool) (fault : 
   pub fails : HasFault arguments arg.bytes inside
   pub fault_is : fault ≡ placed arg inside
 
--- the name and the argument aren't a stage, for this reason; want of memory may come in any case
+-- some stage has the name
+abbrev pub IsKnown : List ℕ → Bool → Type 0
+IsKnown name first = (arguments : Arguments) × (arguments_of name first ≡ Some arguments)
+
+-- the name and the argument aren't a stage, for this reason; want of memory comes only where some stage has the name
 abbrev pub IsNoKind : List ℕ → ArgText → Bool → KindFault → Type 0
 IsNoKind name arg first Unknown = arguments_of name first ≡ None
 IsNoKind name arg first (Argument fault) = IsArgFault name arg first fault
-IsNoKind name arg first NoMemory = ⊤
+IsNoKind name arg first NoMemory = IsKnown name first

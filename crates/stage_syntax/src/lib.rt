@@ -20,5 +20,5 @@ pub use arg::Arg;
 pub use argument_parts::{ArgFault, FaultKind};
 pub use fault::KindFault;
 pub use form::Form;
-pub use laws::{no_kind_fault, one_fault, one_kind};
+pub use laws::{each_kind, no_kind_fault, one_fault, one_kind};
 pub use rows::{arguments_as, kind_of};

@@ -23,7 +23,10 @@ pub fn kind_of(alloc: Global, name: &[u8], arg: &Arg, first: bool) -> Result<Kin
     let Some(form) = form_named(name) else {
         return Err(KindFault::Unknown);
     };
-    arguments_as(alloc, form, first, arg.bytes()).map_err(|refusal| placed(arg, refusal))
+    match arguments_as(alloc, form, first, arg.bytes()) {
+        Ok(kind) => Ok(kind),
+        Err(refusal) => Err(placed(arg, refusal)),
+    }
 }
 
 // Why nothing was read of an argument's text, with the fault at its place in the specification.

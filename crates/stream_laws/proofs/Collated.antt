@@ -34,10 +34,19 @@ apart_less true y e f = refl
 apart_less false true e f = cc
 apart_less false false e f = cc
 
-same_neither : (x y : Bool) → (not x && not y) ≡ true → (x ≡ false) × (y ≡ false)
+pub same_neither : (x y : Bool) → (not x && not y) ≡ true → (x ≡ false) × (y ≡ false)
 same_neither true y e = cc
 same_neither false true e = cc
 same_neither false false e = (refl, refl)
+
+-- Filters
+
+-- none passes
+pub none_kept : (f : List ℕ → Bool) (xs : Records) → list_all (λ x. not (f x)) xs ≡ true → filter f xs ≡ []
+none_kept f [] none = refl
+none_kept f (x ∷ xs) none =
+    let b = and_both (not (f x)) (list_all (λ x. not (f x)) xs) none in
+    ap (λ z. cond z (x ∷ filter f xs) (filter f xs)) (not-true (f x) b.0) ∙ none_kept f xs b.1
 
 -- Keys
 
@@ -137,12 +146,6 @@ module _ (of_master of_detail : Range) where
       ap (λ z. z || list_any (λ m. fits m d) ms) (not-true (fits m d) b.0) ∙ none_any d ms b.1
 
   -- a master without details
-  no_details : (m : List ℕ) (ds : Records) → list_all (λ d. not (fits m d)) ds ≡ true → filter (fits m) ds ≡ []
-  no_details m [] none = refl
-  no_details m (d ∷ ds) none =
-      let b = and_both (not (fits m d)) (list_all (λ d. not (fits m d)) ds) none in
-      ap (λ z. cond z (d ∷ filter (fits m) ds) (filter (fits m) ds)) (not-true (fits m d) b.0) ∙ no_details m ds b.1
-
   no_any : (m : List ℕ) (ds : Records) → list_all (λ d. not (fits m d)) ds ≡ true → list_any (fits m) ds ≡ false
   no_any m [] none = refl
   no_any m (d ∷ ds) none =
@@ -262,8 +265,8 @@ module _ (of_master of_detail : Range) where
       starts (m ∷ ms) = refl
 
       firsts : (new : Bool) → with_details ms ds ≡ cond new (headed m (filter (fits m) ds)) (filter (fits m) ds) ++ with_details ms ds
-      firsts true = ap (λ z. headed m z ++ with_details ms ds) (sym (no_details m ds none))
-      firsts false = ap (λ z. z ++ with_details ms ds) (sym (no_details m ds none))
+      firsts true = ap (λ z. headed m z ++ with_details ms ds) (sym (none_kept (fits m) ds none))
+      firsts false = ap (λ z. z ++ with_details ms ds) (sym (none_kept (fits m) ds none))
 
       seconds : (new : Bool) → cond new (m ∷ []) [] ++ unmatched of_master of_detail ms ds ≡ cond (new && not (list_any (fits m) ds)) (m ∷ unmatched of_master of_detail ms ds) (unmatched of_master of_detail ms ds)
       seconds true = ap (λ z. cond (not z) (m ∷ unmatched of_master of_detail ms ds) (unmatched of_master of_detail ms ds)) (sym (no_any m ds none))

@@ -11,6 +11,12 @@ use Rattle.pipe_model.specs.Event.{Event, records_on}
 use Rattle.pipe_model.specs.Shape.{Records, Stream, each_record, copied}
 use Rattle.pipe_model.specs.Next.{next}
 use Rattle.pipe_model.specs.Alone.{Given, alone_event}
+use Rattle.pipe_model.specs.declared.kind.Image.TheVariants as Images
+use Rattle.pipe_model.specs.declared.kind.Cutting.TheVariants as Cuttings
+use Rattle.pipe_model.specs.declared.kind.Keep.TheVariants.{First, Last}
+use Rattle.pipe_model.specs.OrderRows.{unique}
+use Rattle.pipe_model.specs.BlockRows.{fblock, block, deblock}
+use Rattle.stream_laws.specs.InOrder.{puts_of, collated_in_order}
 use Rattle.pipe_model.specs.Listed.{pairs_of, taken_of, ending_of, are_sorted, are_distinct, fan_in_pairs, lookup_pairs, merge_pairs, collate_pairs}
 
 -- the first column of a record is its key
@@ -77,6 +83,11 @@ collated_all : collate_pairs first_column first_column (codes "a" ∷ codes "b" 
     (0, codes "b") ∷ (0, codes "b1") ∷ (0, codes "b2") ∷ (1, codes "a") ∷ (1, codes "d") ∷ (2, codes "c1") ∷ []
 collated_all = refl
 
+-- and before each master come the details of lesser keys
+collated_so : collated_in_order first_column first_column (codes "a" ∷ codes "b" ∷ codes "d" ∷ []) (codes "b1" ∷ codes "b2" ∷ codes "c1" ∷ []) ≡
+    (1, codes "a") ∷ (0, codes "b") ∷ (0, codes "b1") ∷ (0, codes "b2") ∷ (2, codes "c1") ∷ (1, codes "d") ∷ []
+collated_so = refl
+
 in_order : are_sorted first_column (codes "a1" ∷ codes "a0" ∷ codes "b" ∷ []) ≡ true
 in_order = refl
 
@@ -85,6 +96,30 @@ out_of_order = refl
 
 one_key_twice : are_distinct first_column (codes "a1" ∷ codes "b" ∷ codes "a2" ∷ []) ≡ false
 one_key_twice = refl
+
+-- All records together
+
+first_of_each : pairs_of (unique false first_column First) (codes "a1" ∷ codes "a2" ∷ codes "b" ∷ codes "a3" ∷ []) ≡ (0, codes "a1") ∷ (1, codes "a2") ∷ (0, codes "b") ∷ (0, codes "a3") ∷ []
+first_of_each = refl
+
+last_of_each : pairs_of (unique false first_column Last) (codes "a1" ∷ codes "a2" ∷ codes "b" ∷ []) ≡ (1, codes "a1") ∷ (0, codes "a2") ∷ (0, codes "b") ∷ []
+last_of_each = refl
+
+-- the last block is filled
+blocked : pairs_of (fblock 3 (Some 46)) (codes "ab" ∷ codes "cde" ∷ []) ≡ (0, codes "abc") ∷ (0, codes "de.") ∷ []
+blocked = refl
+
+-- a record that is too long for a length of two bytes ends BLOCK; none is here
+with_lengths : pairs_of (block 4 Images.Sf) (codes "A" ∷ codes "BC" ∷ []) ≡ (0, 0 ∷ 3 ∷ 65 ∷ 0 ∷ []) ∷ (0, 4 ∷ 66 ∷ 67 ∷ []) ∷ []
+with_lengths = refl
+
+-- and back
+by_their_lengths : pairs_of (deblock Cuttings.Sf) ((0 ∷ 3 ∷ 65 ∷ 0 ∷ []) ∷ (4 ∷ 66 ∷ 67 ∷ []) ∷ []) ≡ (0, codes "A") ∷ (0, codes "BC") ∷ []
+by_their_lengths = refl
+
+-- the string is sought from the left, across records
+between_strings : pairs_of (deblock (Cuttings.Text (codes "--"))) (codes "a-" ∷ codes "-b---" ∷ codes "c" ∷ []) ≡ (0, codes "a") ∷ (0, codes "b") ∷ (0, codes "-c") ∷ []
+between_strings = refl
 
 -- A whole history
 
@@ -124,3 +159,16 @@ put_second = refl
 
 put_third : records_on 2 collated_history ≡ codes "c1" ∷ []
 put_third = refl
+
+put_in_order : puts_of collated_history ≡ (0, codes "b") ∷ (0, codes "b1") ∷ (0, codes "b2") ∷ (2, codes "c1") ∷ []
+put_in_order = refl
+
+-- a later strand of a DAM, where the first one sees a record, and where it doesn't
+abbrev later_strand : Strand
+later_strand = record (strand Kinds.Dam (true ∷ []) (true ∷ [])) { part = 1 }
+
+passed_on : puts_of (ran 40 later_strand (record (given (recs (codes "ab")) []) { primed = true })) ≡ (0, codes "a") ∷ (0, codes "b") ∷ []
+passed_on = refl
+
+held_back : puts_of (ran 40 later_strand (given (recs (codes "ab")) [])) ≡ []
+held_back = refl

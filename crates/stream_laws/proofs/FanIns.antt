@@ -1,5 +1,5 @@
 -- FANIN puts its inputs one after another.
-use Rattle.std.proofs.Common.{◌≡◌, ℕ, zero, suc, ◌+◌, ◌<◌, ◌≤◌, Bool, true, false, cond, ◌&&◌, ◌||◌, not, ◌==◌, List, [], ◌∷◌, ◌++◌, refl, sym, ◌∙◌, ap, subst, arith, Some, None, pos, append_assoc}
+use Rattle.std.proofs.Common.{◌≡◌, ℕ, zero, suc, ◌+◌, ◌<◌, ◌≤◌, Bool, true, false, cond, ◌&&◌, ◌||◌, not, ◌==◌, List, [], ◌∷◌, ◌++◌, refl, sym, ◌∙◌, ap, subst, arith, Some, None, append_assoc}
 use Rattle.std.specs.Prelude.{find, flat_map, nat_lt}
 use Rattle.std.specs.List.{range_with_len}
 use Rattle.std.proofs.lemmas.Bool.Decides.{nat_tests}
@@ -14,9 +14,9 @@ use Rattle.pipe_model.specs.Counts.{all_on}
 use Rattle.pipe_model.specs.Table.{form}
 use Rattle.pipe_model.specs.Members.{has}
 use Rattle.pipe_model.specs.Alone.{Given, IsAllAlone}
-use Rattle.pipe_model.specs.Listed.{fan_in_pairs, IsUnlimited, Puts}
+use Rattle.pipe_model.specs.Listed.{fan_in_pairs, IsUnlimited}
+use Rattle.stream_laws.specs.InOrder.{PutsInOrder}
 use Rattle.stream_laws.proofs.Streams.{on_both, on_others, output_both}
-use Rattle.stream_laws.proofs.Places.{puts_connected}
 use Rattle.stream_laws.proofs.Turned.{caused, At, turns_begin, turns_over, read_all}
 
 -- the record at hand is the last one
@@ -80,11 +80,10 @@ module _ (s : Strand) (g : Given) (unlimited : IsUnlimited g) (W : List Event) (
   abbrev IsUnread : ℕ → List Pair → Type 0
   IsUnread a seen = (j : ℕ) → a ≤ j → records_from j seen ≡ []
 
-  inputs_from : (m a : ℕ) → a + m ≡ n → (seen pairs : List Pair) → IsUnread a seen → At s g unlimited W done n fanning_in row_is seen (down a) pairs → Puts s W (pairs ++ all_on 0 (flat_map g.inputs (range_with_len a m)))
+  inputs_from : (m a : ℕ) → a + m ≡ n → (seen pairs : List Pair) → IsUnread a seen → At s g unlimited W done n fanning_in row_is seen (down a) pairs → PutsInOrder s W (pairs ++ all_on 0 (flat_map g.inputs (range_with_len a m)))
   inputs_from zero a sum seen pairs unread x =
       let it : a ≡ n = omega arith in
-      puts_connected s g unlimited W done (pairs ++ []) seen (pos 0)
-      (turns_over s g unlimited W done n fanning_in row_is seen (down a) pairs (ap (λ z. find (can_read n (down z)) (range_with_len 0 n)) it ∙ none_from n n 0 (omega arith)) x)
+      (turns_over s g unlimited W done n fanning_in row_is seen (down a) pairs (ap (λ z. find (can_read n (down z)) (range_with_len 0 n)) it ∙ none_from n n 0 (omega arith)) x).puts
   inputs_from (suc m) a sum seen pairs unread x =
       let lt : a < n = omega arith in
       let y = read_all s g unlimited W done n fanning_in row_is a (down a) (λ seen. next_from n n 0 a (omega arith) (omega arith) lt) (g.inputs a) seen pairs (ap (λ z. z ++ g.inputs a) (sym (unread a (omega arith)))) x in
@@ -92,7 +91,7 @@ module _ (s : Strand) (g : Given) (unlimited : IsUnlimited g) (W : List Event) (
       let still : IsUnread (suc a) (seen ++ all_on a (g.inputs a)) =
       λ j le. on_both j seen (all_on a (g.inputs a)) ∙ ap (λ z. z ++ records_from j (all_on a (g.inputs a))) (unread j (omega arith)) ∙ on_others a j (g.inputs a) (apart a j le) in
       let w = inputs_from m (suc a) (omega (arith, sum)) (seen ++ all_on a (g.inputs a)) (pairs ++ all_on 0 (g.inputs a)) still z in
-      subst (λ z. Puts s W z)
+      subst (λ z. PutsInOrder s W z)
       (append_assoc pairs (all_on 0 (g.inputs a)) (all_on 0 (flat_map g.inputs (range_with_len (suc a) m)))
       ∙ ap (λ z. pairs ++ z) (sym (output_both 0 (g.inputs a) (flat_map g.inputs (range_with_len (suc a) m))))
       ∙ ap (λ z. pairs ++ all_on 0 (g.inputs a ++ flat_map g.inputs (range_with_len z m))) plus) w
@@ -103,5 +102,5 @@ module _ (s : Strand) (g : Given) (unlimited : IsUnlimited g) (W : List Event) (
       plus : suc a ≡ a + 1
       plus = omega arith
 
-  pub fan_in_puts : (form s).row.early ≡ None → Puts s W (fan_in_pairs g.inputs n)
+  pub fan_in_puts : (form s).row.early ≡ None → PutsInOrder s W (fan_in_pairs g.inputs n)
   fan_in_puts early = inputs_from n 0 (omega arith) [] [] (λ j le. refl) (turns_begin s g unlimited W done n fanning_in row_is early)

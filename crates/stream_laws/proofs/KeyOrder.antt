@@ -33,3 +33,10 @@ same_is [] [] = refl
 same_is [] (y ∷ b) = refl
 same_is (x ∷ a) [] = refl
 same_is (x ∷ a) (y ∷ b) = same_step x y (is_less a b) (is_less b a) (is_same a b) (same_is a b)
+
+-- what is less than something is less than anything behind that, or that is less than it
+pub no_less : (a b c : Bool) → (a ≡ true → (b || c) ≡ true) → b ≡ false → c ≡ false → a ≡ false
+no_less true true c f e g = cc
+no_less true false true f e g = cc
+no_less true false false f e g = (let z : false ≡ true = f refl in cc)
+no_less false b c f e g = refl

@@ -1,5 +1,5 @@
 -- MERGE over sorted inputs puts their stable sort.
-use Rattle.std.proofs.Common.{◌≡◌, ◌⊎◌, inl, inr, ℕ, zero, suc, ◌+◌, ◌<◌, ◌≤◌, Bool, true, false, cond, ◌&&◌, ◌||◌, not, ◌==◌, List, [], ◌∷◌, ◌++◌, length, refl, sym, ◌∙◌, ap, subst, arith, None, pos, append_assoc}
+use Rattle.std.proofs.Common.{◌≡◌, ◌⊎◌, inl, inr, ℕ, zero, suc, ◌+◌, ◌<◌, ◌≤◌, Bool, true, false, cond, ◌&&◌, ◌||◌, not, ◌==◌, List, [], ◌∷◌, ◌++◌, length, refl, sym, ◌∙◌, ap, subst, arith, None, append_assoc}
 use Rattle.std.specs.Prelude.{filter, flat_map, nat_lt}
 use Rattle.std.specs.List.{list_all, range_with_len}
 use Rattle.std.proofs.lemmas.Bool.Decides.{nat_tests}
@@ -21,14 +21,14 @@ use Rattle.pipe_model.specs.JoiningRows.{goes_first, merging}
 use Rattle.pipe_model.specs.OrderRows.{sorted}
 use Rattle.pipe_model.specs.Table.{form}
 use Rattle.pipe_model.specs.Alone.{Given, IsAllAlone}
-use Rattle.pipe_model.specs.Listed.{ascending, are_sorted, merge_pairs, IsUnlimited, Puts}
+use Rattle.pipe_model.specs.Listed.{ascending, are_sorted, merge_pairs, IsUnlimited}
+use Rattle.stream_laws.specs.InOrder.{PutsInOrder}
 use Rattle.pipe_model.proofs.Truths.{both as and_both, or_first, neither}
 use Rattle.pipe_model.proofs.Numbers.{test_same}
 use Rattle.pipe_model.proofs.Lists.{all_too}
 use Rattle.stream_laws.proofs.Streams.{from, on_both}
-use Rattle.stream_laws.proofs.KeyOrder.{less_between, same_is}
+use Rattle.stream_laws.proofs.KeyOrder.{less_between, no_less, same_is}
 use Rattle.stream_laws.proofs.Sights.{sees_some}
-use Rattle.stream_laws.proofs.Places.{puts_connected}
 use Rattle.stream_laws.proofs.Rounded.{with_list, IsSeen, Shows, Full, rounds_full, next_full, full_over}
 use Rattle.stream_laws.proofs.Leasts.{all_at, Pick, pick, pick_all, pick_rec, pick_only, pick_taken}
 use Rattle.stream_laws.proofs.Sorts.{Split, sorted_least, split_at}
@@ -66,12 +66,6 @@ behind_lower true y u is lower = cc
 behind_lower false true u is lower = refl
 behind_lower false false true is lower = cc
 behind_lower false false false is lower = cc
-
-no_less : (a b c : Bool) → (a ≡ true → (b || c) ≡ true) → b ≡ false → c ≡ false → a ≡ false
-no_less true true c f e g = cc
-no_less true false true f e g = cc
-no_less true false false f e g = (let z : false ≡ true = f refl in cc)
-no_less false b c f e g = refl
 
 module _ (s : Strand) (g : Given) (unlimited : IsUnlimited g) (W : List Event) (done : IsAllAlone s g W)
     (n : ℕ) (range : Range) (row_is : (form s).row.plan ≡ round_plan n (merging range)) where
@@ -222,13 +216,13 @@ module _ (s : Strand) (g : Given) (unlimited : IsUnlimited g) (W : List Event) (
   all_empty left (suc m) b none = ap (λ z. z ++ flat_map left (range_with_len (b + 1) m)) (none b (omega arith) (omega arith)) ∙ all_empty left m (b + 1) (λ j le lt. none j (omega arith) (omega arith))
 
   merge_from : (fuel : ℕ) (pairs : List Pair) (left : ℕ → Records) → Stands pairs left → ((j : ℕ) → j < n → are_sorted range (left j) ≡ true) → length (flat_map left (all_inputs n)) < fuel →
-      Puts s W (pairs ++ all_on 0 (sorted (ascending range ∷ []) (flat_map left (all_inputs n))))
+      PutsInOrder s W (pairs ++ all_on 0 (sorted (ascending range ∷ []) (flat_map left (all_inputs n))))
   merge_from zero pairs left f ordered more = absurd (omega arith)
   merge_from (suc fuel) pairs left f ordered more = by_sight f.known.sight refl (λ pairs left f ordered more. merge_from fuel pairs left f ordered more)
     where
       Rest : Type 0
       Rest = (pairs : List Pair) (left : ℕ → Records) → Stands pairs left → ((j : ℕ) → j < n → are_sorted range (left j) ≡ true) → length (flat_map left (all_inputs n)) < fuel →
-          Puts s W (pairs ++ all_on 0 (sorted (ascending range ∷ []) (flat_map left (all_inputs n))))
+          PutsInOrder s W (pairs ++ all_on 0 (sorted (ascending range ∷ []) (flat_map left (all_inputs n))))
 
       none_left : f.known.sight ≡ [] → flat_map left (all_inputs n) ≡ []
       none_left empty = all_empty left n 0 (λ j le lt. none j (f.shows j (omega arith)))
@@ -237,21 +231,21 @@ module _ (s : Strand) (g : Given) (unlimited : IsUnlimited g) (W : List Event) (
           none j (inl x) = x.all
           none j (inr x) = (let z : [] ≡ x.rec ∷ [] = sym (ap (records_from j) empty) ∙ x.seen in cc)
 
-      by_sight : (sight : List Pair) → f.known.sight ≡ sight → Rest → Puts s W (pairs ++ all_on 0 (sorted (ascending range ∷ []) (flat_map left (all_inputs n))))
+      by_sight : (sight : List Pair) → f.known.sight ≡ sight → Rest → PutsInOrder s W (pairs ++ all_on 0 (sorted (ascending range ∷ []) (flat_map left (all_inputs n))))
       by_sight [] empty rest =
-          subst (λ z. Puts s W (pairs ++ all_on 0 (sorted (ascending range ∷ []) z))) (sym (none_left empty))
-          (subst (λ z. Puts s W z) (sym (append-nil pairs)) (puts_connected s g unlimited W done pairs f.place.taken (pos 0) (full_over s g unlimited W done n (merging range) refl row_is pairs left f empty)))
+          subst (λ z. PutsInOrder s W (pairs ++ all_on 0 (sorted (ascending range ∷ []) z))) (sym (none_left empty))
+          (subst (λ z. PutsInOrder s W z) (sym (append-nil pairs)) (full_over s g unlimited W done n (merging range) refl row_is pairs left f empty).puts)
       by_sight (p ∷ ps) some rest =
           let m : Pick range f.known.sight = subst (Pick range) (sym some) (pick range p ps) in
           let own_is = own pairs left f ordered p ps some m in
           let i_is : ℕ = i pairs left f ordered p ps some m in
           let less = one_less pairs left f ordered p ps some m in
           let y = rest (pairs ++ (merging range).outs f.known) (with_list i_is own_is.rest left) (next pairs left f ordered p ps some m) (still_ordered pairs left f ordered p ps some m) (omega (arith, less)) in
-          subst (λ z. Puts s W z) (
+          subst (λ z. PutsInOrder s W z) (
           append_assoc pairs ((merging range).outs f.known) (all_on 0 (sorted (ascending range ∷ []) (flat_map (with_list i_is own_is.rest left) (all_inputs n))))
           ∙ ap (λ z. pairs ++ (z ++ all_on 0 (sorted (ascending range ∷ []) (flat_map (with_list i_is own_is.rest left) (all_inputs n))))) (puts_it pairs left f ordered p ps some m)
           ∙ ap (λ z. pairs ++ all_on 0 z) (sym (sorted_is pairs left f ordered p ps some m))
           ) y
 
-  pub merge_puts : (form s).row.early ≡ None → ((j : ℕ) → j < n → are_sorted range (g.inputs j) ≡ true) → Puts s W (merge_pairs range g.inputs n)
+  pub merge_puts : (form s).row.early ≡ None → ((j : ℕ) → j < n → are_sorted range (g.inputs j) ≡ true) → PutsInOrder s W (merge_pairs range g.inputs n)
   merge_puts early ordered = merge_from (suc (length (flat_map g.inputs (all_inputs n)))) [] g.inputs (rounds_full s g unlimited W done n (merging range) refl row_is early) ordered (omega arith)

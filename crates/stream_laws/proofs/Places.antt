@@ -4,13 +4,13 @@ use Rattle.std.specs.Prelude.{filter}
 use Rattle.std.proofs.lemmas.List.{append-nil}
 use Rattle.std.proofs.lemmas.Bool.{eqb-true}
 use Rattle.pipe_model.specs.declared.net.Strand.{Strand}
-use Rattle.pipe_model.specs.Event.{Event, Want, records_on, taken_from, last_seen_on, has_ended, code_of, puts_on}
-use Rattle.pipe_model.specs.Event.Event.{Up, Saw, SawEnd, Took, Put, Refused, Ended}
-use Rattle.pipe_model.specs.Event.Want.{Commit, Read, Take, Write, Done}
+use Rattle.pipe_model.specs.Event.{Event, Want, taken_from, last_seen_on, has_ended, code_of, puts_on}
+use Rattle.pipe_model.specs.Event.Event.{Up, Saw, SawEnd, Took, Put, Refused, Primed, Ended}
+use Rattle.pipe_model.specs.Event.Want.{Commit, Read, Take, Write, Prime, Done}
 use Rattle.pipe_model.specs.Row.{Pair, Act, Goal, Known, without}
 use Rattle.pipe_model.specs.Row.Act.{Writes, Takes}
 use Rattle.pipe_model.specs.Row.Goal.{Asks, Ends}
-use Rattle.pipe_model.specs.Shape.{writes, at_hand_of, records_of}
+use Rattle.pipe_model.specs.Shape.{Records, writes, at_hand_of, records_of}
 use Rattle.pipe_model.specs.Table.{form}
 use Rattle.pipe_model.specs.Members.{flag_at}
 use Rattle.pipe_model.specs.Next.{Phase, Past, is_live, begins_plan, hears, nothing_known, first_phase, past_by, want_in, wanted_by, next}
@@ -19,11 +19,12 @@ use Rattle.pipe_model.proofs.Numbers.{test_same}
 use Rattle.pipe_model.specs.Next.Phase.{Starting, Doing}
 use Rattle.pipe_model.specs.Alone.{Given, takes_more, look_alone, alone_event, IsAllAlone}
 use Rattle.pipe_model.specs.Inputs.{records_from}
-use Rattle.pipe_model.specs.Listed.{IsUnlimited, Puts}
+use Rattle.pipe_model.specs.Listed.{IsUnlimited}
 use Rattle.confluence_laws.proofs.Neighbours.{took_count}
 use Rattle.confluence_laws.proofs.Within.{Within, from_start, grows, is_all}
 use Rattle.confluence_laws.proofs.Within.Within.{all}
-use Rattle.stream_laws.proofs.Streams.{on_both, last_on, last_is, connected, on_connected, on_unconnected}
+use Rattle.stream_laws.specs.InOrder.{puts_of, connected, PutsInOrder}
+use Rattle.stream_laws.proofs.Streams.{on_both, last_on, last_is}
 
 abbrev pub mk : Known → Phase → Past
 mk k f = record { known = k; refused = []; phase = f }
@@ -31,13 +32,19 @@ mk k f = record { known = k; refused = []; phase = f }
 abbrev pub took : ℕ → Known → Known
 took i k = record k { sight = without i k.sight }
 
+-- what a history put in order, what it took of input 0, and the code with which it ended
+pub record Did (s : Strand) (h : List Event) (pairs : List Pair) (records : Records) (code : ℤ) : Type 0 where
+  pub puts : PutsInOrder s h pairs
+  pub taken : taken_from 0 h ≡ records
+  pub ended : code_of h ≡ code
+
 module _ (s : Strand) (g : Given) (unlimited : IsUnlimited g) (W : List Event) (done : IsAllAlone s g W) where
   -- a beginning at which it stands so
   pub record Here (k : Known) (f : Phase) (put taken : List Pair) (h : List Event) : Type 0 where
     pub within : Within W h
     pub going : has_ended h ≡ false
     pub past : past_by (form s).row s.ports.has_output h ≡ mk k f
-    pub puts : (o : ℕ) → records_on o h ≡ records_from o put
+    pub puts : puts_of h ≡ put
     pub takes : (i : ℕ) → taken_from i h ≡ records_from i taken
     pub last : (i : ℕ) → last_seen_on i h ≡ last_on i k.seen
 
@@ -60,15 +67,11 @@ module _ (s : Strand) (g : Given) (unlimited : IsUnlimited g) (W : List Event) (
       within = on k (Doing (Writes o rec ∷ acts) goal) put taken h x (Put o rec) (Write o rec) refl (ap (λ b. Some (cond (takes_more b (puts_on o h)) (Put o rec) (Refused o))) (unlimited o));
       going = x.going;
       past = ap (λ (p : Past). after (form s).row s.ports.has_output p p.phase (Put o rec)) x.past;
-      puts = λ q. by_test q (o == q) (x.puts q) ∙ sym (on_both q put ((o, rec) ∷ []));
+      puts = ap (λ z. z ++ (o, rec) ∷ []) x.puts;
       takes = x.takes;
       last = x.last;
     },
   )
-    where
-      by_test : (q : ℕ) (b : Bool) → records_on q h ≡ records_from q put → cond b (records_on q h ++ rec ∷ []) (records_on q h) ≡ records_from q put ++ records_of (cond b ((o, rec) ∷ []) [])
-      by_test q true e = ap (λ z. z ++ rec ∷ []) e
-      by_test q false e = e ∙ sym (append-nil (records_from q put))
 
   -- it takes a record
   pub take_one : (k : Known) (i : ℕ) (acts : List Act) (goal : Goal) (put taken : List Pair) → Reaches k (Doing (Takes i ∷ acts) goal) put taken → Reaches (took i k) (Doing acts goal) put (taken ++ (i, last_on i k.seen) ∷ [])
@@ -138,6 +141,21 @@ module _ (s : Strand) (g : Given) (unlimited : IsUnlimited g) (W : List Event) (
     },
   )
 
+  -- it is told whether DAM's first strand sees a record
+  pub told_primed : (k : Known) (put taken : List Pair) → Reaches k (Doing [] (Asks Prime)) put taken →
+      Reaches (hears k (Primed g.primed)) (begins_plan s.ports.has_output [] ((form s).row.plan (hears k (Primed g.primed)))) put taken
+  told_primed k put taken (h, x) = (
+    Primed g.primed ∷ h,
+    record {
+      within = on k (Doing [] (Asks Prime)) put taken h x (Primed g.primed) Prime refl refl;
+      going = x.going;
+      past = ap (λ (p : Past). after (form s).row s.ports.has_output p p.phase (Primed g.primed)) x.past;
+      puts = x.puts;
+      takes = x.takes;
+      last = x.last;
+    },
+  )
+
   -- it reaches both commit levels and begins its work
   pub begins : (form s).row.early ≡ None → Reaches nothing_known (begins_plan s.ports.has_output [] ((form s).row.plan nothing_known)) [] []
   begins early = (
@@ -146,32 +164,32 @@ module _ (s : Strand) (g : Given) (unlimited : IsUnlimited g) (W : List Event) (
       within = on nothing_known (Starting (pos 0)) [] [] (Up (negsuc 0) (pos 0) ∷ []) second (Up (pos 0) (pos 0)) (Commit (pos 0)) refl refl;
       going = refl;
       past = ap (λ (p : Past). after (form s).row s.ports.has_output p p.phase (Up (pos 0) (pos 0))) second.past;
-      puts = λ o. refl;
+      puts = refl;
       takes = λ i. refl;
       last = λ i. refl;
     },
   )
     where
       first : Here nothing_known (Starting (negsuc 0)) [] [] []
-      first = record { within = from_start W W all; going = refl; past = ap (λ e. mk nothing_known (first_phase e)) early; puts = λ o. refl; takes = λ i. refl; last = λ i. refl }
+      first = record { within = from_start W W all; going = refl; past = ap (λ e. mk nothing_known (first_phase e)) early; puts = refl; takes = λ i. refl; last = λ i. refl }
 
       second : Here nothing_known (Starting (pos 0)) [] [] (Up (negsuc 0) (pos 0) ∷ [])
       second = record {
         within = on nothing_known (Starting (negsuc 0)) [] [] [] first (Up (negsuc 0) (pos 0)) (Commit (negsuc 0)) refl refl;
         going = refl;
         past = ap (λ (p : Past). after (form s).row s.ports.has_output p p.phase (Up (negsuc 0) (pos 0))) first.past;
-        puts = λ o. refl;
+        puts = refl;
         takes = λ i. refl;
         last = λ i. refl;
       }
 
   -- or it ends before the first
   pub ends_early : (code : ℤ) → (form s).row.early ≡ Some code → Reaches nothing_known (Doing [] (Ends code)) [] []
-  ends_early code early = ([], record { within = from_start W W all; going = refl; past = ap (λ e. mk nothing_known (first_phase e)) early; puts = λ o. refl; takes = λ i. refl; last = λ i. refl })
+  ends_early code early = ([], record { within = from_start W W all; going = refl; past = ap (λ e. mk nothing_known (first_phase e)) early; puts = refl; takes = λ i. refl; last = λ i. refl })
 
   -- what it did where it is to end
   pub record IsDone (put taken : List Pair) (code : ℤ) : Type 0 where
-    pub puts : (o : ℕ) → records_on o W ≡ records_from o put
+    pub puts : puts_of W ≡ put
     pub takes : (i : ℕ) → taken_from i W ≡ records_from i taken
     pub ended : code_of W ≡ code
 
@@ -179,17 +197,10 @@ module _ (s : Strand) (g : Given) (unlimited : IsUnlimited g) (W : List Event) (
   finish k code put taken (h, x) =
       let it = is_all s g W done (Ended code ∷ h) (on k (Doing [] (Ends code)) put taken h x (Ended code) (Done code) refl refl) refl in
       record {
-        puts = λ o. sym (ap (records_on o) it) ∙ x.puts o;
+        puts = sym (ap puts_of it) ∙ x.puts;
         takes = λ i. sym (ap (taken_from i) it) ∙ x.takes i;
         ended = sym (ap code_of it);
       }
-
-  -- of what it was to write it put what goes to outputs that are connected
-  pub puts_connected : (pairs taken : List Pair) (code : ℤ) → IsDone (connected s.ports.has_output pairs) taken code → Puts s W pairs
-  puts_connected pairs taken code x = record {
-    connected = λ o flag. x.puts o ∙ on_connected s.ports.has_output o pairs flag;
-    others = λ o flag. x.puts o ∙ on_unconnected s.ports.has_output o pairs flag;
-  }
 
   -- it puts all that is left to write
   pub write_rest : (k : Known) (ps : List Pair) (goal : Goal) (put taken : List Pair) → Reaches k (Doing (filter (is_live s.ports.has_output []) (writes ps)) goal) put taken → Reaches k (Doing [] goal) (put ++ connected s.ports.has_output ps) taken

@@ -24,7 +24,8 @@ use Rattle.pipe_model.specs.Listed.{IsUnlimited}
 use Rattle.pipe_model.proofs.Numbers.{test_same}
 use Rattle.pipe_model.proofs.Lists.{get_seam, length_more}
 use Rattle.confluence_laws.proofs.Within.{past_end}
-use Rattle.stream_laws.proofs.Streams.{on_both, last_on, connected}
+use Rattle.stream_laws.specs.InOrder.{connected}
+use Rattle.stream_laws.proofs.Streams.{on_both, last_on}
 use Rattle.stream_laws.proofs.Sights.{sees_none, sees_some, without_own, without_others, now_own, now_others, finds_it, finds_none, rest_of}
 use Rattle.stream_laws.proofs.Places.{took, Reaches, take_one, write_all, read_one, read_end, begins, IsDone, finish}
 

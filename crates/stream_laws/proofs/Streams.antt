@@ -1,7 +1,7 @@
 -- The records of one stream.
 use Rattle.std.proofs.Common.{◌≡◌, ℕ, Bool, true, false, cond, ◌==◌, List, [], ◌∷◌, ◌++◌, refl, sym, ◌∙◌, ap}
 use Rattle.std.specs.Prelude.{filter}
-use Rattle.std.proofs.lemmas.List.{map-append}
+use Rattle.std.proofs.lemmas.List.{append-nil, map-append}
 use Rattle.std.proofs.lemmas.Bool.{eqb-true}
 use Rattle.pipe_model.specs.Row.{Pair}
 use Rattle.pipe_model.specs.Shape.{Records, at_hand_of, records_of}
@@ -9,6 +9,11 @@ use Rattle.pipe_model.specs.Members.{flag_at}
 use Rattle.pipe_model.specs.Inputs.{records_from}
 use Rattle.pipe_model.specs.Counts.{all_on}
 use Rattle.pipe_model.proofs.Numbers.{test_same}
+use Rattle.pipe_model.specs.declared.net.Strand.{Strand}
+use Rattle.pipe_model.specs.Event.{Event, records_on}
+use Rattle.pipe_model.specs.Event.Event.{Put}
+use Rattle.pipe_model.specs.Listed.{Puts}
+use Rattle.stream_laws.specs.InOrder.{puts_of, connected, PutsInOrder}
 
 -- Streams
 
@@ -57,10 +62,6 @@ last_is i seen rec = ap at_hand_of (on_both i seen ((i, rec) ∷ []) ∙ ap (λ 
 
 -- Outputs
 
--- the pairs to outputs that are connected
-abbrev pub connected : List Bool → List Pair → List Pair
-connected outputs ps = filter (λ p. flag_at outputs p.0) ps
-
 -- a pair more on both sides
 more_before : (b : Bool) (p : Pair) (ps qs : List Pair) → records_of ps ≡ records_of qs → records_of (cond b (p ∷ ps) ps) ≡ records_of (cond b (p ∷ qs) qs)
 more_before true p ps qs e = ap (λ z. p.1 ∷ z) e
@@ -87,3 +88,20 @@ on_unconnected outputs o (p ∷ ps) flag = by_test (p.0 == o) refl (flag_at outp
     by_test a x false y e = ap (λ z. records_from o (cond z (p ∷ connected outputs ps) (connected outputs ps))) y ∙ e
     by_test false x true y e = ap (λ z. records_from o (cond z (p ∷ connected outputs ps) (connected outputs ps))) y ∙ ap (λ z. records_of (cond z (p ∷ from o (connected outputs ps)) (from o (connected outputs ps)))) x ∙ e
     by_test true x true y e = (let z : true ≡ false = sym y ∙ ap (flag_at outputs) (eqb-true p.0 o x) ∙ flag in cc)
+
+-- what was put on an output is what was put with its number
+on_output : (o : ℕ) (h : List Event) → records_on o h ≡ records_from o (puts_of h)
+on_output o [] = refl
+on_output o (Put q rec ∷ h) = by_test (q == o) (on_output o h) ∙ sym (on_both o (puts_of h) ((q, rec) ∷ []))
+  where
+    by_test : (b : Bool) → records_on o h ≡ records_from o (puts_of h) → cond b (records_on o h ++ rec ∷ []) (records_on o h) ≡ records_from o (puts_of h) ++ records_of (cond b ((q, rec) ∷ []) [])
+    by_test true e = ap (λ z. z ++ rec ∷ []) e
+    by_test false e = e ∙ sym (append-nil (records_from o (puts_of h)))
+on_output o (_ ∷ h) = on_output o h
+
+-- what is put in order is put on each output
+pub on_each_output : (s : Strand) (h : List Event) (pairs : List Pair) → PutsInOrder s h pairs → Puts s h pairs
+on_each_output s h pairs e = record {
+  connected = λ o flag. on_output o h ∙ ap (records_from o) e ∙ on_connected s.ports.has_output o pairs flag;
+  others = λ o flag. on_output o h ∙ ap (records_from o) e ∙ on_unconnected s.ports.has_output o pairs flag;
+}

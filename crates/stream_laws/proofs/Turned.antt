@@ -22,7 +22,8 @@ use Rattle.pipe_model.specs.Listed.{IsUnlimited}
 use Rattle.pipe_model.proofs.Numbers.{test_same}
 use Rattle.pipe_model.proofs.Lists.{get_seam}
 use Rattle.confluence_laws.proofs.Within.{past_end}
-use Rattle.stream_laws.proofs.Streams.{on_both, last_on, last_is, connected}
+use Rattle.stream_laws.specs.InOrder.{connected}
+use Rattle.stream_laws.proofs.Streams.{on_both, last_on, last_is}
 use Rattle.stream_laws.proofs.Places.{took, Reaches, take_one, write_all, write_rest, read_one, read_end, begins, IsDone, finish}
 
 -- the pairs that records of one input cause, behind some others

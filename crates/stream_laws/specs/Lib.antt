@@ -1,1 +1,6 @@
 pub mod GivenLists
+pub mod Finished
+pub mod InOrder
+pub mod SameKeys
+pub mod KeyRuns
+pub mod AllBytes

@@ -17,8 +17,8 @@ use Rattle.pipe_model.specs.Ranges.{part_of}
 use Rattle.unique_sort.specs.declared.keyed.Keyed.{Keyed}
 use Rattle.unique_sort.specs.Fronts.{keyed_by, IsKeyed, recs_in, is_whole, keys_left, keyed_before}
 use Rattle.unique_sort.proofs.FrontOrder.{front_goes, front_left}
-use Rattle.unique_sort.proofs.KeyOrder.{by_bytes, directed, directed_total, by_keys, by_keys_total, goes_by_keys, goes_before_orders}
-use Rattle.unique_sort.proofs.Stable.{NoneBefore, Ascends, ascends, one_order, sorted_ascends, sorted_stays}
+use Rattle.stream_laws.proofs.KeysInTurn.{by_bytes, directed, directed_total, by_keys, by_keys_total, goes_by_keys, goes_before_orders}
+use Rattle.stream_laws.proofs.Stable.{NoneBefore, Ascends, ascends, one_order, sorted_ascends, sorted_stays}
 
 -- what is left to compare of a record by its first key: nothing where its front has the whole key
 abbrev bytes_left : SortKey → Keyed → List ℕ

@@ -6,5 +6,4 @@ pub mod KeyedOrder
 pub mod RunKeys
 pub mod RunPairs
 pub mod SortSteps
-pub mod Stable
 pub mod UniqueSteps

@@ -9,7 +9,7 @@ use Rattle.pipe_model.specs.Ranges.{part_of}
 use Rattle.pipe_model.proofs.Truths.{both}
 use Rattle.unique_sort.specs.declared.run.Run.{Run}
 use Rattle.unique_sort.specs.Runs.{RunSoFar, goes_on, run_with, IsRunOf}
-use Rattle.unique_sort.proofs.KeyOrder.{same_bytes}
+use Rattle.stream_laws.proofs.KeysInTurn.{same_bytes}
 
 same_is : (key bytes : List ℕ) → is_same key bytes ≡ true → key ≡ bytes
 same_is key bytes same = (bytes_eq-Decides key bytes).0 (sym (is_eq-slice_cmp key bytes) ∙ same_bytes key bytes ∙ same)

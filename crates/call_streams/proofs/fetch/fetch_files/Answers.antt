@@ -25,9 +25,9 @@ returns-in_err-bytes-clause-fetched g c =
     let k = c.loop-strand.strand in
     let net = c.loop-strand.net in
     let p = get_or c.as_slice.result.now k c.index-as_slice-strand.result in
-    let old = store (g.F.Shelf.files c.args.shelf.now) (g.F.Shelf.faults c.args.shelf.now) in
-    let middle = store (g.F.Shelf.files c.loop-strand.shelf) (g.F.Shelf.faults c.loop-strand.shelf) in
-    let new = store (g.F.Shelf.files c.file_of.new.shelf) (g.F.Shelf.faults c.file_of.new.shelf) in
+    let old = store (g.F.Shelf.files c.args.shelf.now) (g.F.Shelf.faults c.args.shelf.now) (g.F.Shelf.wants c.args.shelf.now) in
+    let middle = store (g.F.Shelf.files c.loop-strand.shelf) (g.F.Shelf.faults c.loop-strand.shelf) (g.F.Shelf.wants c.loop-strand.shelf) in
+    let new = store (g.F.Shelf.files c.file_of.new.shelf) (g.F.Shelf.faults c.file_of.new.shelf) (g.F.Shelf.wants c.file_of.new.shelf) in
     let found = c.loop-strand.found.items in
     let there = files_known old.files found in
     let was = c.loop-strand.invariant.filed in
@@ -42,7 +42,7 @@ returns-in_err-bytes-clause-fetched g c =
     let at : slice_get net.strands k ≡ Some p =
     subst (λ xs. slice_get xs k ≡ Some p) c.as_slice.ensures (slice_get-get_or c.as_slice.result.now k c.index-as_slice-strand.result within) in
     let e = err_from_is_err_and c.from_residual.result c.from_residual.ensures.1 in
-    rw (e.1, e.2) (stopped_at c.args.net k net c.loop-strand.size found was p at old middle new kept steady known c.args.found.items c.loop-strand.invariant.front
+    rw (e.1, e.2) (stopped_at c.args.net k net c.loop-strand.size found was p at old middle new kept steady c.loop-strand.invariant.fits known c.args.found.items c.loop-strand.invariant.front
     c.in_err-bytes.field-0.0.outcome c.in_err-bytes.ensures.given)
 
 pub returns-then-len-size-clause-fetched : goal.returns-then-len-size-clause-fetched
@@ -50,9 +50,9 @@ returns-then-len-size-clause-fetched g c =
     let k = c.loop-strand.strand in
     let net = c.loop-strand.net in
     let p = get_or c.as_slice.result.now k c.index-as_slice-strand.result in
-    let old = store (g.F.Shelf.files c.args.shelf.now) (g.F.Shelf.faults c.args.shelf.now) in
-    let middle = store (g.F.Shelf.files c.loop-strand.shelf) (g.F.Shelf.faults c.loop-strand.shelf) in
-    let new = store (g.F.Shelf.files c.file_of.new.shelf) (g.F.Shelf.faults c.file_of.new.shelf) in
+    let old = store (g.F.Shelf.files c.args.shelf.now) (g.F.Shelf.faults c.args.shelf.now) (g.F.Shelf.wants c.args.shelf.now) in
+    let middle = store (g.F.Shelf.files c.loop-strand.shelf) (g.F.Shelf.faults c.loop-strand.shelf) (g.F.Shelf.wants c.loop-strand.shelf) in
+    let new = store (g.F.Shelf.files c.file_of.new.shelf) (g.F.Shelf.faults c.file_of.new.shelf) (g.F.Shelf.wants c.file_of.new.shelf) in
     let found = c.loop-strand.found.items in
     let there = files_known old.files found in
     let was = c.loop-strand.invariant.filed in
@@ -72,7 +72,7 @@ returns-then-len-size-clause-fetched g c =
     let more = c.if-len-size.true in
     let fits = c.loop-strand.invariant.fits in
     let large : input_limit < c.loop-strand.size + length c.in-Some.bytes = omega (arith, more, seen, fits) in
-    stopped_full c.args.net k net c.loop-strand.size found was p at old middle new kept steady known c.args.found.items c.loop-strand.invariant.front
+    stopped_full c.args.net k net c.loop-strand.size found was p at old middle new kept steady c.loop-strand.invariant.fits known c.args.found.items c.loop-strand.invariant.front
     c.file_of.new.found.items c.in-Some.bytes c.tell.result.outcome given large (told_too_large c.tell.result c.tell.ensures)
 
 pub feed-requires : goal.feed-requires
@@ -80,9 +80,9 @@ feed-requires g c =
     let k = c.loop-strand.strand in
     let net = c.loop-strand.net in
     let p = get_or c.as_slice.result.now k c.index-as_slice-strand.result in
-    let old = store (g.F.Shelf.files c.args.shelf.now) (g.F.Shelf.faults c.args.shelf.now) in
-    let middle = store (g.F.Shelf.files c.loop-strand.shelf) (g.F.Shelf.faults c.loop-strand.shelf) in
-    let new = store (g.F.Shelf.files c.file_of.new.shelf) (g.F.Shelf.faults c.file_of.new.shelf) in
+    let old = store (g.F.Shelf.files c.args.shelf.now) (g.F.Shelf.faults c.args.shelf.now) (g.F.Shelf.wants c.args.shelf.now) in
+    let middle = store (g.F.Shelf.files c.loop-strand.shelf) (g.F.Shelf.faults c.loop-strand.shelf) (g.F.Shelf.wants c.loop-strand.shelf) in
+    let new = store (g.F.Shelf.files c.file_of.new.shelf) (g.F.Shelf.faults c.file_of.new.shelf) (g.F.Shelf.wants c.file_of.new.shelf) in
     let found = c.loop-strand.found.items in
     let there = files_known old.files found in
     let was = c.loop-strand.invariant.filed in
@@ -99,7 +99,7 @@ feed-requires g c =
     let given : IsGiven (line_of p.kind).feed middle new found c.file_of.new.found.items (Some c.in-Some.bytes) =
     subst (λ bytes. IsGiven (line_of p.kind).feed middle new found c.file_of.new.found.items bytes) c.in-Some.is c.in_ok-bytes.ensures.given in
     let after = files_known old.files c.file_of.new.found.items in
-    let of = still_known c.args.net k net c.loop-strand.size found was p at old middle new kept steady known c.args.found.items c.loop-strand.invariant.front c.file_of.new.found.items (Some c.in-Some.bytes) given in
+    let of = still_known c.args.net k net c.loop-strand.size found was p at old middle new kept steady c.loop-strand.invariant.fits known c.args.found.items c.loop-strand.invariant.front c.file_of.new.found.items (Some c.in-Some.bytes) given in
     record { reads = (p, at, given_reads after p.kind c.in-Some.bytes (given.file after of)) }
 
 pub loop-strand-preserved : goal.loop-strand-preserved
@@ -107,9 +107,9 @@ loop-strand-preserved g c =
     let k = c.loop-strand.strand in
     let net = c.loop-strand.net in
     let p = get_or c.as_slice.result.now k c.index-as_slice-strand.result in
-    let old = store (g.F.Shelf.files c.args.shelf.now) (g.F.Shelf.faults c.args.shelf.now) in
-    let middle = store (g.F.Shelf.files c.loop-strand.shelf) (g.F.Shelf.faults c.loop-strand.shelf) in
-    let new = store (g.F.Shelf.files c.file_of.new.shelf) (g.F.Shelf.faults c.file_of.new.shelf) in
+    let old = store (g.F.Shelf.files c.args.shelf.now) (g.F.Shelf.faults c.args.shelf.now) (g.F.Shelf.wants c.args.shelf.now) in
+    let middle = store (g.F.Shelf.files c.loop-strand.shelf) (g.F.Shelf.faults c.loop-strand.shelf) (g.F.Shelf.wants c.loop-strand.shelf) in
+    let new = store (g.F.Shelf.files c.file_of.new.shelf) (g.F.Shelf.faults c.file_of.new.shelf) (g.F.Shelf.wants c.file_of.new.shelf) in
     let found = c.loop-strand.found.items in
     let there = files_known old.files found in
     let was = c.loop-strand.invariant.filed in
@@ -124,7 +124,7 @@ loop-strand-preserved g c =
     let at : slice_get net.strands k ≡ Some p =
     subst (λ xs. slice_get xs k ≡ Some p) c.as_slice.ensures (slice_get-get_or c.as_slice.result.now k c.index-as_slice-strand.result within) in
     let given : IsGiven (line_of p.kind).feed middle new found c.file_of.new.found.items c.in_ok-bytes.field-0 = c.in_ok-bytes.ensures.given in
-    let of = still_known c.args.net k net c.loop-strand.size found was p at old middle new kept steady known c.args.found.items c.loop-strand.invariant.front c.file_of.new.found.items c.in_ok-bytes.field-0 given in
+    let of = still_known c.args.net k net c.loop-strand.size found was p at old middle new kept steady c.loop-strand.invariant.fits known c.args.found.items c.loop-strand.invariant.front c.file_of.new.found.items c.in_ok-bytes.field-0 given in
     let fits = c.loop-strand.invariant.fits in
     elim c.match-branch-2.branch [
       | in-Some+else-len-size w ↦
@@ -140,6 +140,7 @@ loop-strand-preserved g c =
             fits = omega (arith, less, fits);
             kept = given.kept ∙ kept;
             steady = given.steady ∙ steady;
+            wants = given.wants ∙ c.loop-strand.invariant.wants;
             whole = w.feed.ensures.whole c.loop-strand.invariant.whole;
           }))
       | in_default w ↦
@@ -153,6 +154,7 @@ loop-strand-preserved g c =
             fits = fits;
             kept = given.kept ∙ kept;
             steady = given.steady ∙ steady;
+            wants = given.wants ∙ c.loop-strand.invariant.wants;
             whole = c.loop-strand.invariant.whole;
           })
     ]
@@ -164,7 +166,7 @@ returns-clause-fetched g c =
     let none = c.loop-strand-test.false in
     let all : c.loop-strand.strand ≡ length c.args.net.strands = omega (arith, end, within, none) in
     fetched_all c.args.net c.loop-strand.net c.loop-strand.size c.args.found.items c.loop-strand.found.items
-    (store (g.F.Shelf.files c.args.shelf.now) (g.F.Shelf.faults c.args.shelf.now))
-    (store (g.F.Shelf.files c.loop-strand.shelf) (g.F.Shelf.faults c.loop-strand.shelf))
+    (store (g.F.Shelf.files c.args.shelf.now) (g.F.Shelf.faults c.args.shelf.now) (g.F.Shelf.wants c.args.shelf.now))
+    (store (g.F.Shelf.files c.loop-strand.shelf) (g.F.Shelf.faults c.loop-strand.shelf) (g.F.Shelf.wants c.loop-strand.shelf))
     (subst (λ k. AreFiled c.args.net k c.loop-strand.net c.loop-strand.size c.loop-strand.found.items) all c.loop-strand.invariant.filed)
-    c.loop-strand.invariant.known c.loop-strand.invariant.front c.loop-strand.invariant.fits c.loop-strand.invariant.kept c.loop-strand.invariant.steady
+    c.loop-strand.invariant.known c.loop-strand.invariant.front c.loop-strand.invariant.fits c.loop-strand.invariant.kept c.loop-strand.invariant.steady c.loop-strand.invariant.wants

@@ -16,5 +16,6 @@ invariant-loop-strand g l = record {
   fits : l.size ≤ input_limit;
   kept : g.F.Shelf.files l.shelf ≡ g.F.Shelf.files l.fn.shelf;
   steady : g.F.Shelf.faults l.shelf ≡ g.F.Shelf.faults l.fn.shelf;
+  wants : g.F.Shelf.wants l.shelf ≡ g.F.Shelf.wants l.fn.shelf;
   whole : IsWellFormed l.net;
 }

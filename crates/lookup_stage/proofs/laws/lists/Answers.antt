@@ -3,4 +3,4 @@ use Rattle.stream_laws.specs.GivenLists.{given_by}
 use Rattle.lookup_stage.proofs.laws.lists.Goals as goal
 
 pub returns : goal.returns
-returns c = λ details masters kind. c.look_up.ensures details masters kind (given_by c.args.inputs.now) (λ o. refl)
+returns c = λ details masters kind. c.look_up.ensures.each_list details masters kind (given_by c.args.inputs.now) (λ o. refl)

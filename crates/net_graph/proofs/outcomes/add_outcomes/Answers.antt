@@ -12,7 +12,7 @@ pub loop-k-preserved : goal.loop-k-preserved
 loop-k-preserved c =
     let on = stands_on c.args.pieces.now c.loop-k.k c.index-pieces-k.result c.index-pieces-k.is c.loop-k-test.true in
     elim c.if-is_stage.branch [
-      | then-is_stage+in_ok-outcome+in_ok-push w ↦ one_outcome _ _ _ _ _ _ _ on c.loop-k.invariant w.in_ok-outcome.field-0 (sym c.is_stage.ensures ∙ w.if-is_stage.true) w.in_ok-outcome.ensures
+      | then-is_stage+in_ok-outcome+in_ok-push w ↦ one_outcome _ _ _ _ _ _ _ on c.loop-k.invariant w.in_ok-outcome.field-0 (sym c.is_stage.ensures ∙ w.if-is_stage.true) w.in_ok-outcome.ensures.read
           (ap (λ v. v.items) w.outcomes-is ∙ w.in_ok-push.ensures.items)
       | else-is_stage w ↦ no_outcome _ _ _ _ _ _ _ on c.loop-k.invariant (sym c.is_stage.ensures ∙ w.if-is_stage.false) (ap (λ v. v.items) w.outcomes-is)
     ]

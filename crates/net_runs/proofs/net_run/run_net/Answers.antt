@@ -12,9 +12,9 @@ returns-clause-run g c =
     let did = c.in_ok-core-2.ensures in
     elim c.match-end.branch [
       | in-Complete+in_ok-outcome-in-Complete w ↦
-          run_completed c.args.net c.args.steps c.in_ok-core.core core c.in_ok-core.ensures did.advances did.lawful (subst (λ end. Ends end core) w.in-Complete.is did.ends)
+          run_completed c.args.net c.args.steps c.args.workers c.in_ok-core.core core c.in_ok-core.ensures did.advances did.lawful did.alone (subst (λ end. Ends end core) w.in-Complete.is did.ends)
           c.match-end.outcome (w.outcome-is ∙ w.in_ok-outcome-in-Complete.ensures)
       | in-Spent w ↦
-          subst (λ (o : Outcome). IsRun c.args.net c.args.steps core o) (sym w.outcome-is)
-          (run_spent c.args.net c.args.steps c.in_ok-core.core core c.in_ok-core.ensures did.advances did.lawful (subst (λ end. Ends end core) w.in-Spent.is did.ends))
+          subst (λ (o : Outcome). IsRun c.args.net c.args.steps c.args.workers core o) (sym w.outcome-is)
+          (run_spent c.args.net c.args.steps c.args.workers c.in_ok-core.core core c.in_ok-core.ensures did.advances did.lawful did.alone (subst (λ end. Ends end core) w.in-Spent.is did.ends))
     ]

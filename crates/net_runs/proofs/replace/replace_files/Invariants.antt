@@ -10,4 +10,5 @@ invariant-loop-put g l = record {
   replaced : (done : List Put) × (done ++ into_iter_items l.put-iterator ≡ into_iter_items l.initial.put-iterator)
       × AreReplaced (map (put_text l.core) done) (g.F.Shelf.files l.fn.shelf) (g.F.Shelf.files l.shelf);
   steady : g.F.Shelf.faults l.shelf ≡ g.F.Shelf.faults l.fn.shelf;
+  wants : g.F.Shelf.wants l.shelf ≡ g.F.Shelf.wants l.fn.shelf;
 }

@@ -18,5 +18,5 @@ returns-clause-means g c =
       | in-Done+in_ok-text-in-Done w ↦ rw w.text-is (ap output_of w.in_ok-text-in-Done.ensures ∙ ap (summed_up count console (length core.journal)) (sym w.in-Done.is))
       | in_default w ↦ rw w.text-is (ap output_of w.new-text.ensures.items ∙ none_summed count console (length core.journal) outcome w.in_default.not-Done)
     ] in
-    subst (λ told. SampleMeans count c.args.net c.args.steps told effect) (sym c.in_ok-told.ensures.same)
-    (sample_means count c.args.net c.args.steps c.requires.whole core outcome c.in_ok-ran.ensures.run effect effect_is)
+    subst (λ told. SampleMeans count c.args.net c.args.steps c.args.workers told effect) (sym c.in_ok-told.ensures.same)
+    (sample_means count c.args.net c.args.steps c.args.workers core outcome c.in_ok-ran.ensures.run effect effect_is)

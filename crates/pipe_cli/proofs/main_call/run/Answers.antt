@@ -12,8 +12,8 @@ returns-in-Err-clause-decides g c =
 
 pub returns-in-Run-clause-decides : goal.returns-in-Run-clause-decides
 returns-in-Run-clause-decides g c =
-    c.run_call.ensures.decides _ (call_runs _ c.in-Ok.call.command c.in-Ok.call.net c.in-Ok.ensures.called c.in-Run.spec c.in-Run.workers c.in-Run.steps c.in-Run.trace c.in-Run.is)
+    c.run_call.ensures.decides _ (call_runs _ c.in-Ok.call.command c.in-Ok.call.net c.in-Ok.ensures.called c.in-Run.spec c.in-Run.workers c.in-Run.steps c.in-Run.trace c.in-Run.is) refl
 
 pub returns-clause-decides : goal.returns-clause-decides
 returns-clause-decides g c =
-    c.sample_call.ensures.decides _ _ _ (call_samples _ c.in-Ok.call.command c.in-Ok.call.net c.in-Ok.ensures.called c.in-Sample.lines c.in-Sample.workers c.in-Sample.steps c.in-Sample.is)
+    c.sample_call.ensures.decides _ _ _ (call_samples _ c.in-Ok.call.command c.in-Ok.call.net c.in-Ok.ensures.called c.in-Sample.lines c.in-Sample.workers c.in-Sample.steps c.in-Sample.is) refl

@@ -10,4 +10,4 @@ use Rattle.pipe_cli.proofs.sample_call.run_sample.Goals as goal
 pub returns-clause-means : goal.returns-clause-means
 returns-clause-means g c =
     let fed : c.feed_input.new.net ≡ with_input (sample_text c.args.count) c.args.net = c.in_ok-feed_input.ensures.fed ∙ ap (λ bytes. with_input bytes c.args.net) c.in_ok-bytes.ensures in
-    subst (λ on. IfOk c.summed_up.result (λ (answer : Answer). SampleMeans c.args.count on c.args.steps answer.told.outcome (output_of answer.text.items))) fed c.summed_up.ensures.means
+    subst (λ on. IfOk c.summed_up.result (λ (answer : Answer). SampleMeans c.args.count on c.args.steps c.args.workers answer.told.outcome (output_of answer.text.items))) fed c.summed_up.ensures.means

@@ -1,7 +1,8 @@
 use Rattle.std.proofs.Common.{◌≡◌, ◌∙◌, ap}
 use Rattle.std.specs.Ordering.{is_eq}
 use Rattle.pipe_model.specs.Ranges.{part_of}
-use Rattle.unique_sort.proofs.KeyOrder.{by_bytes, key_straight, key_turned, key_less, key_ties, key_ties_turned}
+use Rattle.stream_laws.proofs.KeysInTurn.{by_bytes}
+use Rattle.unique_sort.proofs.KeyOrder.{key_straight, key_turned, key_less, key_ties, key_ties_turned}
 use Rattle.unique_sort.proofs.compare.compared_by.Goals as goal
 
 pub returns-then-key-clause-ties : goal.returns-then-key-clause-ties

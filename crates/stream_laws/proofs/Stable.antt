@@ -7,7 +7,7 @@ use Rattle.std.specs.List.Sorted.{IsSortedBy, ties}
 use Rattle.pipe_model.specs.declared.keys.SortKey.{SortKey}
 use Rattle.pipe_model.specs.OrderRows.{goes_before, inserted, sorted}
 use Rattle.pipe_model.specs.Shape.{Records}
-use Rattle.unique_sort.proofs.KeyOrder.{goes_before_orders}
+use Rattle.stream_laws.proofs.KeysInTurn.{goes_before_orders}
 
 module _ {X : Type 0} (lt : X → X → Bool) (o : IsStrictWeakOrder lt) where
   -- none of these goes before x
