@@ -7,6 +7,7 @@ use crate::plays::Slot;
 use crate::view::View;
 use atomic_table::Seat;
 use core_machine::Finished;
+use outside::Gate;
 use stage_steps::Stage;
 use std::alloc::Global;
 use std::sync::Wait;
@@ -89,17 +90,17 @@ impl<S: Stage> Board<S> {
     ghost use Rattle.board.specs.Names.{view, board_of, board_id};
 
     /// Takes back a job as `finish` does. Then it makes the least event that may be, at most so many times as `at_once` says, as long as by
-    /// it a record is taken or put, or, with `sights`, seen, but for sights that may take more than some five microseconds;
-    /// no job of these is out afterwards, and no gate is entered for them. `NoMemory` says that
+    /// it a record is taken or put, or, where the gate is always open, seen, but for sights that may take more than some five
+    /// microseconds; no job of these is out afterwards, and the gate isn't entered for them. `NoMemory` says that
     /// the job, the core or a stage that went on wanted memory: the core is broken, and the strand of the job, or of the
     /// last entry, stays out. It uses one try, waits where the slot is out, and never answers `Busy`.
-    pub fn finish_and_go_on<R: Wait>(
+    pub fn finish_and_go_on<R: Wait, G: Gate>(
         &self,
         rt: &R,
         alloc: Global,
         pass: &mut Pass,
         done: Finished<S>,
-        sights: bool,
+        gate: &G,
         at_once: AtOnce,
     ) -> TryFinish<S>
         requires board { board_of pass.old ≡ board_id self.now }
@@ -107,9 +108,10 @@ impl<S: Stage> Board<S> {
         requires can { CanFinish (view pass.old) done.place }
         requires stands { DoneStands S.stands (view pass.old).net (take done.place (view pass.old).seen) done }
         ensures board { board_of pass.new ≡ board_of pass.old }
-        ensures told { FinishOnTold (view pass.old) done.place sights at_once result (view pass.new) }
+        ensures told { FinishOnTold (view pass.old) done.place (G.is_open gate.now) at_once result (view pass.new) }
         ensures goes { GoesOn (view pass.old) (view pass.new) }
     {
+        let sights = gate.is_open();
         let mut seat = sit(&mut pass.badge);
         let answer = self.finish_on_seat(rt, alloc, &mut seat, done, sights, at_once);
         pass.badge = seat.into_badge();

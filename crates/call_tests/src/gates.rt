@@ -1,3 +1,5 @@
+ghost use Rattle.std.specs.Prelude.{false};
+
 use crate::calls::{call, in_memory};
 use outside::Gate;
 use std::fs;
@@ -41,8 +43,14 @@ struct Kept<'a, R> {
 }
 
 impl<R: Files + AllocGlobal> Gate for Kept<'_, R> {
+    ghost is_open = { λ _. false };
+
     fn enter(&self, strand: u32) {
         self.entries.add(strand, pages(self.rt).unwrap_or(0));
+    }
+
+    fn is_open(&self) -> bool {
+        false
     }
 }
 

@@ -1,3 +1,5 @@
+ghost use Rattle.std.specs.Prelude.{false};
+
 use crate::calls::{call, in_memory};
 use outside::Gate;
 use std::sync::atomic::{AtomicU64, Ordering};
@@ -29,12 +31,18 @@ impl Crossing {
 }
 
 impl Gate for Crossing {
+    ghost is_open = { λ _. false };
+
     fn enter(&self, strand: u32) {
         match strand {
             1 => self.hold(&self.first, &self.second),
             4 => self.hold(&self.second, &self.first),
             _ => {}
         }
+    }
+
+    fn is_open(&self) -> bool {
+        false
     }
 }
 

@@ -1,5 +1,5 @@
 -- The connected inputs of a strand, and where their links come from.
-use Rattle.std.proofs.Common.{◌≡◌, ℕ, zero, suc, ◌+◌, ◌≤◌, ◌<◌, Bool, true, false, ◌&&◌, ◌||◌, ◌==◌, List, [], ◌∷◌, length, refl, sym, ◌∙◌, ap, arith, Option, Some, None, is_some, inl, inr}
+use Rattle.std.proofs.Common.{◌≡◌, ℕ, zero, suc, ◌+◌, ◌≤◌, ◌<◌, Bool, true, false, ◌&&◌, ◌||◌, ◌==◌, [], length, refl, sym, ◌∙◌, ap, arith, Option, Some, None, is_some, inl, inr}
 use Rattle.std.proofs.lemmas.Bool.{eqb-true}
 use Rattle.std.proofs.lemmas.Map.Views.{any-filter_same}
 use Rattle.std.specs.List.{range_with_len}
@@ -8,7 +8,7 @@ use Rattle.pipe_model.specs.declared.net.Link.{Link}
 use Rattle.pipe_model.specs.declared.net.Strand.{Strand}
 use Rattle.pipe_model.specs.Members.{has, flag_at}
 use Rattle.pipe_model.specs.State.{Who, same, strand_in, link_into}
-use Rattle.pipe_model.specs.Settled.{connected_of, connected_inputs, from_of, producer_at}
+use Rattle.pipe_model.specs.Settled.{connected_of, connected_inputs}
 use Rattle.pipe_model.specs.WellFormed.{IsWellFormed}
 use Rattle.pipe_model.proofs.Numbers.{equal_or_not, test_same}
 use Rattle.pipe_model.proofs.Lists.{found_at, flag_place}

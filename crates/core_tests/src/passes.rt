@@ -1,9 +1,10 @@
-ghost use Rattle.std.specs.Prelude.{◌≡◌, ◌+◌, ◌≤◌};
+ghost use Rattle.std.specs.Prelude.{◌≡◌, ◌+◌, ◌≤◌, false};
 ghost use Rattle.board.specs.Names.{view, board_of, board_id};
 
 use crate::consoles::{Console, passing_core};
 use board::{AtOnce, Board, Pass, TryAny, TryFinish, TryTurn};
 use core_machine::{Core, Finished, Job, Turned};
+use outside::Gate;
 use pipe_model::{NoMemory, Seen};
 use stage_steps::Stage;
 use std::alloc::Global;
@@ -36,6 +37,19 @@ const AT_ONCE: AtOnce = AtOnce {
     beside: 4,
 };
 
+// A gate behind which no record is seen in a hold.
+struct Shut;
+
+impl Gate for Shut {
+    ghost is_open = { λ _. false };
+
+    fn enter(&self, _strand: u32) {}
+
+    fn is_open(&self) -> bool {
+        false
+    }
+}
+
 // The event of the least strand that may have one, with its work: what its coroutine was told. The core goes on then, or
 // it doesn't.
 fn work<S: Stage, R: Wait>(
@@ -58,7 +72,7 @@ fn work<S: Stage, R: Wait>(
     let seen = job.seen();
     let done = job.run(alloc, room);
     let answer = if goes_on {
-        board.finish_and_go_on(rt, alloc, pass, done, false, AT_ONCE)
+        board.finish_and_go_on(rt, alloc, pass, done, &Shut, AT_ONCE)
     } else {
         board.try_finish(pass, done)
     };

@@ -1,5 +1,5 @@
--- All pieces make a net, or are refused.
-use Rattle.std.proofs.Common.{◌≡◌, ◌⊎◌, ◌∙◌, List, [], ◌∷◌, None, Ok, Err, refl, ap, sym, subst, inl, inr}
+-- All pieces make a net, or are refused, and so each text has a net or a least fault.
+use Rattle.std.proofs.Common.{◌≡◌, ◌⊎◌, ◌∙◌, ℕ, List, [], ◌∷◌, None, Ok, Err, refl, ap, sym, subst, inl, inr}
 use Rattle.std.specs.declared.result.Result.{Result}
 use Rattle.pipe_model.specs.declared.kind.Kind.{Kind}
 use Rattle.pipe_model.specs.declared.net.Net.{Net}
@@ -9,8 +9,9 @@ use Rattle.stage_syntax.specs.Kinds.{IsArgFault, IsKind}
 use Rattle.stage_syntax.specs.Names.{arguments_of}
 use Rattle.stage_syntax.specs.declared.fault.KindFault.{KindFault}
 use Rattle.stage_syntax.specs.declared.fault.KindFault.TheVariants.{Unknown, Argument}
-use Rattle.spec_scanner.proofs.EachText.{each_least}
+use Rattle.spec_scanner.proofs.EachText.{each_least, each_text}
 use Rattle.spec_scanner.specs.Faults.{IsLeast}
+use Rattle.spec_scanner.specs.Reads.{IsRefused as IsTextRefused, Reads}
 use Rattle.spec_scanner.specs.declared.fault.Fault.{Fault}
 use Rattle.spec_scanner.specs.declared.piece.Piece.{Piece}
 use Rattle.net_graph.proofs.Goods.{graph_of, kinds_known}
@@ -49,3 +50,22 @@ module _ (pipelines : List (List Piece)) where
 
   pub each_graph : ((net : Net) × IsGraph pipelines net) ⊎ ((fault : Fault) × IsRefused pipelines fault)
   each_graph = let outcomes = each_outcomes (stages_of (stands_of pipelines)) in by_faults outcomes.0 outcomes.1 (each_least (faults_of pipelines outcomes.0))
+
+-- each text reads as pieces that make a net, or it is refused, or they are
+module _ (text : List ℕ) where
+  abbrev NetTold : Type 0
+  NetTold =
+      ((pipelines : List (List Piece)) × (net : Net) × Reads text pipelines × IsGraph pipelines net)
+      ⊎ ((fault : Fault) × (IsTextRefused text fault ⊎ ((pipelines : List (List Piece)) × Reads text pipelines × IsRefused pipelines fault)))
+
+  with_pieces : (pipelines : List (List Piece)) → Reads text pipelines → ((net : Net) × IsGraph pipelines net) ⊎ ((fault : Fault) × IsRefused pipelines fault) → NetTold
+  with_pieces pipelines reads (inl (net, graph)) = inl (pipelines, net, reads, graph)
+  with_pieces pipelines reads (inr (fault, refused)) = inr (fault, inr (pipelines, reads, refused))
+
+  by_text : ((pipelines : List (List Piece)) × Reads text pipelines) ⊎ ((fault : Fault) × IsTextRefused text fault) → NetTold
+  by_text (inl (pipelines, reads)) = with_pieces pipelines reads (each_graph pipelines)
+  by_text (inr (fault, refused)) = inr (fault, inl refused)
+
+  pub each_net : ((pipelines : List (List Piece)) × (net : Net) × Reads text pipelines × IsGraph pipelines net)
+      ⊎ ((fault : Fault) × (IsTextRefused text fault ⊎ ((pipelines : List (List Piece)) × Reads text pipelines × IsRefused pipelines fault)))
+  each_net = by_text (each_text text)

@@ -2,7 +2,7 @@ ghost use Rattle.std.specs.Prelude.{◌≡◌, ◌⊎◌, ℕ, List, []};
 ghost use Rattle.pipe_model.specs.declared.net.Net.{Net};
 ghost use Rattle.spec_scanner.specs.declared.fault.Fault.{Fault};
 ghost use Rattle.spec_scanner.specs.declared.piece.Piece.{Piece};
-ghost use Rattle.spec_scanner.specs.Reads.{Reads};
+ghost use Rattle.spec_scanner.specs.Reads.{IsRefused as IsTextRefused, Reads};
 ghost use Rattle.spec_scanner.specs.Straight.{IsStraight};
 ghost use Rattle.net_graph.specs.Faults.{IsGraph, IsRefused};
 ghost use Rattle.net_graph.specs.Line.{line_net};
@@ -30,4 +30,9 @@ pub fn one_net_refusal()
 /// All pieces make a net, or are refused.
 pub fn each_graph()
     ensures { (pipelines : List (List Piece)) → ((net : Net) × IsGraph pipelines net) ⊎ ((fault : Fault) × IsRefused pipelines fault) }
+{}
+
+/// Each text reads as pieces that make a net, or it is refused, or they are.
+pub fn each_net()
+    ensures { (text : List ℕ) → ((pipelines : List (List Piece)) × (net : Net) × Reads text pipelines × IsGraph pipelines net) ⊎ ((fault : Fault) × (IsTextRefused text fault ⊎ ((pipelines : List (List Piece)) × Reads text pipelines × IsRefused pipelines fault))) }
 {}

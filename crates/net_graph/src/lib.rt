@@ -20,4 +20,4 @@ mod uses;
 pub use fault::NetFault;
 pub use graph::build;
 pub use input::feed;
-pub use laws::{each_graph, no_net_refusal, one_net, one_net_refusal, straight_net};
+pub use laws::{each_graph, each_net, no_net_refusal, one_net, one_net_refusal, straight_net};

@@ -1,5 +1,5 @@
 -- What a turn and a finish leave of a worker's pass.
-use Rattle.std.proofs.Common.{◌≡◌, ℕ, Bool, ◌+◌, ◌-◌, List, [], ◌∷◌, ◌++◌, length, sym, refl, ap, ◌∙◌, subst, arith, None}
+use Rattle.std.proofs.Common.{◌≡◌, ◌≢◌, ℕ, Bool, ◌+◌, ◌-◌, ◌<◌, false, inl, inr, List, [], ◌∷◌, ◌++◌, length, sym, refl, ap, ◌∙◌, subst, arith, None}
 use Rattle.pipe_model.specs.declared.net.Strand.{Strand}
 use Rattle.pipe_model.specs.Event.{Event}
 use Rattle.core_machine.specs.declared.job.RunEnd.TheVariants as Run
@@ -12,7 +12,9 @@ use Rattle.board.specs.Calls.{CanFinish, GoesOn, Worked, Unchanged, WentOn, Fell
 use Rattle.board.specs.declared.view.View.{View}
 use Rattle.board.proofs.Sums.{times-append, times-cons, times-one, only-same, places_after-last}
 use Rattle.board.proofs.Prefixes.{prefix_self, prefix_trans}
-use Rattle.workers.specs.Work.{IsSettled, HasWorked, Owes}
+use Rattle.workers.specs.Work.{IsSettled, HasWorked, Owes, LacksRoom, TurnsSo, ComesSo, GrowsSo}
+use Rattle.workers.specs.declared.turns.AfterTurn.{AfterTurn}
+use Rattle.workers.specs.declared.turns.AfterTurn.TheVariants.{Idle}
 
 module _ {S : Type 0} (stands : S → Strand → List Event → Type 0) (v w : View) (m : Machine) (strand stream room : ℕ) (job : JobState S) (place : ℕ) (bytes : List ℕ)
     (t : Worked stands v m strand stream room job place w bytes) where
@@ -73,6 +75,25 @@ none_in (x ∷ l) e = absurd (omega arith)
 -- where no strand may have an event and none is out, the journal is complete
 pub idle_completes : (w : View) → LeastReady (machine_of w) None → 0 ≡ length w.out → Ends Run.Complete (machine_of w)
 idle_completes w none out = (none_in w.out out, none)
+
+-- a turn whose job came home is done
+pub work_turns : (sights : Bool) (place : ℕ) (answer : AfterTurn) (v u w : View) (before after : ℕ) → length v.seen < length u.seen → ComesSo sights place answer u w → TurnsSo sights answer v before w after
+work_turns sights place answer v u w before after longer (inl done) = subst (λ (x : AfterTurn). TurnsSo sights x v before w after) (sym done.0)
+    (inl (record { made = u; longer = longer; core = done.1.0; place = place; most = done.1.1; home = done.1.2 }))
+work_turns sights place answer v u w before after longer (inr none) = subst (λ (x : AfterTurn). TurnsSo sights x v before w after) (sym none.0) (inl none.1)
+
+-- and so is one after which the room has grown
+pub room_turns : (sights : Bool) (answer : AfterTurn) (v w : View) (before after n : ℕ) → LacksRoom w before n → GrowsSo answer n before after → TurnsSo sights answer v before w after
+room_turns sights answer v w before after n lacks (inl done) = subst (λ (x : AfterTurn). TurnsSo sights x v before w after) (sym done.0) (inr (n, lacks, done.1))
+room_turns sights answer v w before after n lacks (inr none) = subst (λ (x : AfterTurn). TurnsSo sights x v before w after) (sym none.0) (inr (n, subst (λ (room : ℕ). LacksRoom w room n) (sym none.1) lacks))
+
+-- a core with nothing to do that has jobs out
+pub idle_waits : (v w : View) (sights : Bool) (before after out : ℕ) → w.is_broken ≡ false → LeastReady (machine_of w) None → out ≡ length w.out → out ≢ 0 → TurnsSo sights Idle v before w after
+idle_waits v w sights before after out whole none is some = (whole, none, some_out w.out (λ e. some (is ∙ e)))
+  where
+    some_out : (l : List ℕ) → length l ≢ 0 → 0 < length l
+    some_out [] filled = absurd (filled refl)
+    some_out (x ∷ l) filled = omega arith
 
 pub unchanged_settled : (v w : View) (m : Machine) → IsSettled v → Unchanged v m w → IsSettled w
 unchanged_settled v w m settled same = still_settled v w settled same.1 (same.2, same.3)

@@ -14,11 +14,7 @@ use Rattle.board.proofs.Sums.{times-append}
 use Rattle.board.proofs.Prefixes.{prefix_self, prefix_trans}
 use Rattle.workers.specs.declared.hands.Hand.{Hand}
 use Rattle.workers.specs.Work.{IsSettled}
-use Rattle.workers.specs.Hands.{LeftTo, IsWorker, shares_of}
-
--- the tries of a worker's pass
-abbrev pub part : ℕ
-part = 144115188075855872
+use Rattle.workers.specs.Hands.{LeftTo, IsWorker, shares_of, tries_of, worker_tries}
 
 -- a part of the passes was dealt
 pub record Dealing (z : TableId) (v : View) (counter : ℕ) (hands : List Hand) (rest : Pass) : Type 0 where
@@ -26,7 +22,9 @@ pub record Dealing (z : TableId) (v : View) (counter : ℕ) (hands : List Hand) 
   pub works : IsWorker z v rest
   pub sum : shares_of hands + (view rest).shares ≡ v.shares
   pub few : (view rest).shares + counter ≡ v.shares + 1
-  pub tries_left : v.tries + part ≤ (view rest).tries + counter * part
+  pub dealt : All (λ (h : Hand). worker_tries ≤ (view h.pass).tries) hands
+  pub tries_sum : tries_of hands + (view rest).tries ≡ v.tries
+  pub tries_left : v.tries + worker_tries ≤ (view rest).tries + counter * worker_tries
   pub room : length hands + 1 ≡ counter
 
 -- a part of the passes has met in one
@@ -97,24 +95,31 @@ module _ (z : TableId) (v : View) where
     works = works_self p board tries settled is;
     sum = let a = ap (λ (x : View). x.shares) is in omega arith;
     few = let a = ap (λ (x : View). x.shares) is in omega arith;
+    dealt = λ i d h. absurd (omega arith);
+    tries_sum = let a = ap (λ (x : View). x.tries) is in omega arith;
     tries_left = let a = ap (λ (x : View). x.tries) is in omega arith;
     room = refl;
   }
 
   pub deals_on : (counter : ℕ) (hands more : List Hand) (rest left right : Pass) (h : Hand) → Dealing z v counter hands rest → counter ≤ 63 → all_tries ≤ v.tries → 64 ≤ v.shares
-      → board_of left ≡ board_of rest → board_of right ≡ board_of rest → view left ≡ kept_part part (view rest) → view right ≡ given_part part (view rest)
+      → board_of left ≡ board_of rest → board_of right ≡ board_of rest → view left ≡ kept_part worker_tries (view rest) → view right ≡ given_part worker_tries (view rest)
       → h.pass ≡ right → more ≡ hands ++ h ∷ [] → Dealing z v (counter + 1) more left
   deals_on counter hands more rest left right h d near many some_more bl br l r is grown =
       let sum = sum_by_push (λ (x : Hand). (view x.pass).shares) hands h in let sum' = ap shares_of grown in
       let one : (view h.pass).shares ≡ 1 = ap (λ (p : Pass). (view p).shares) is ∙ ap (λ (x : View). x.shares) r in
       let few = d.few in let all = d.sum in let tries_left = d.tries_left in
+      let given : (view h.pass).tries ≡ worker_tries = ap (λ (p : Pass). (view p).tries) is ∙ ap (λ (x : View). x.tries) r in
+      let tries_added = sum_by_push (λ (x : Hand). (view x.pass).tries) hands h in let tries_added' = ap tries_of grown in
       let shares_left = ap (λ (x : View). x.shares) l in let tries_now = ap (λ (x : View). x.tries) l in
       record {
         passes = subst (All (λ (x : Hand). IsWorker z v x.pass)) (sym grown)
-            (All-push (λ (x : Hand). IsWorker z v x.pass) hands h d.passes (subst (IsWorker z v) (sym is) (right_works part rest right d.works br r (omega arith))));
-        works = left_works part rest left d.works bl l (omega arith);
+            (All-push (λ (x : Hand). IsWorker z v x.pass) hands h d.passes (subst (IsWorker z v) (sym is) (right_works worker_tries rest right d.works br r (omega arith))));
+        works = left_works worker_tries rest left d.works bl l (omega arith);
         sum = omega arith;
         few = omega arith;
+        dealt = subst (All (λ (x : Hand). worker_tries ≤ (view x.pass).tries)) (sym grown)
+            (All-push (λ (x : Hand). worker_tries ≤ (view x.pass).tries) hands h d.dealt (omega arith));
+        tries_sum = let before = d.tries_sum in omega arith;
         tries_left = omega arith;
         room = let old = d.room in let a = ap length grown in let b = length-append hands (h ∷ []) in omega arith;
       }
@@ -126,6 +131,15 @@ module _ (z : TableId) (v : View) where
     (let sum = sum_by_push (λ (x : Hand). (view x.pass).shares) hands h in let sum' = ap shares_of grown in let one = ap (λ (p : Pass). (view p).shares) is in let all = d.sum in omega arith),
     (let old = d.room in let a = ap length grown in let b = length-append hands (h ∷ []) in omega arith),
   )
+
+  -- and what there was to deal is dealt
+  pub deals_all : (counter : ℕ) (hands more : List Hand) (rest : Pass) (h : Hand) → Dealing z v counter hands rest → counter ≤ 64 → all_tries ≤ v.tries → h.pass ≡ rest → more ≡ hands ++ h ∷ []
+      → All (λ (x : Hand). worker_tries ≤ (view x.pass).tries) more × (tries_of more ≡ v.tries)
+  deals_all counter hands more rest h d many some is grown =
+      let one : (view h.pass).tries ≡ (view rest).tries = ap (λ (p : Pass). (view p).tries) is in let left = d.tries_left in (
+        subst (All (λ (x : Hand). worker_tries ≤ (view x.pass).tries)) (sym grown) (All-push (λ (x : Hand). worker_tries ≤ (view x.pass).tries) hands h d.dealt (omega arith)),
+        (let sum = sum_by_push (λ (x : Hand). (view x.pass).tries) hands h in let sum' = ap tries_of grown in let all = d.tries_sum in omega arith),
+      )
 
   -- after the workers
   pub worked_all : (xs ys : List Hand) → length ys ≡ length xs → ((i : ℕ) (d : Hand) → i < length xs → LeftTo (get_or xs i d).pass (get_or ys i d).pass)

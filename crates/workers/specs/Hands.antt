@@ -30,3 +30,11 @@ pub record IsWorker (z : TableId) (v : View) (p : Pass) : Type 0 where
 -- the shares of all
 abbrev pub shares_of : List Hand → ℕ
 shares_of hands = sum_by (λ (h : Hand). (view h.pass).shares) hands
+
+-- the tries of all
+abbrev pub tries_of : List Hand → ℕ
+tries_of hands = sum_by (λ (h : Hand). (view h.pass).tries) hands
+
+-- the fewest tries that a worker begins with: a 64th of all that there are
+abbrev pub worker_tries : ℕ
+worker_tries = 144115188075855872

@@ -4,7 +4,7 @@ ghost use Rattle.board.specs.Names.{view, board_of, board_id};
 ghost use Rattle.board.specs.Counts.{all_tries};
 ghost use Rattle.board.specs.declared.view.View.{View};
 ghost use Rattle.workers.specs.Work.{IsSettled};
-ghost use Rattle.workers.specs.Hands.{MayWork, LeftTo, IsWorker, shares_of};
+ghost use Rattle.workers.specs.Hands.{MayWork, LeftTo, IsWorker, shares_of, tries_of, worker_tries};
 
 use crate::working::{WorkEnd, work};
 use board::{Board, Pass};
@@ -52,6 +52,8 @@ pub(crate) fn deal<S: Stage>(
     requires settled { IsSettled (view pass) }
     ensures hands { IfOk result (λ hands. All (λ h. IsWorker (board_id board.now) (view pass) h.pass) hands.items) }
     ensures shares { IfOk result (λ hands. shares_of hands.items ≡ (view pass).shares) }
+    ensures tries { IfOk result (λ hands. All (λ h. worker_tries ≤ (view h.pass).tries) hands.items) }
+    ensures all_tries { IfOk result (λ hands. tries_of hands.items ≡ (view pass).tries) }
     ensures some { IfOk result (λ hands. vec_len hands ≡ workers) }
     ensures back { IfErr result (λ back. back ≡ pass) }
 {

@@ -1,10 +1,10 @@
 //! One turn of a worker.
-ghost use Rattle.std.specs.Prelude.{◌≡◌, ◌<◌, ◌≤◌, take, IfOk, ◌⊎◌};
+ghost use Rattle.std.specs.Prelude.{◌≡◌, ◌<◌, ◌≤◌, take, IfOk, vec_capacity};
 ghost use Rattle.stage_steps.specs.Coroutine.{CanResume, Resumes};
 ghost use Rattle.core_machine.specs.Jobs.{DoneStands};
 ghost use Rattle.board.specs.Calls.{CanFinish};
 ghost use Rattle.board.specs.Names.{view, board_of, board_id};
-ghost use Rattle.workers.specs.Work.{IsSettled, Owes, HasWorked, TurnsSo};
+ghost use Rattle.workers.specs.Work.{IsSettled, Owes, HasWorked, TurnsSo, ComesSo, GrowsSo};
 
 use crate::working::WorkEnd;
 use board::{AtOnce, Board, Pass, TryAny, TryFinish};
@@ -41,12 +41,12 @@ pub(crate) fn take_turn<S: Stage, R: Wait, G: Gate>(
     ensures tries { 0 < (view pass.new).tries }
     ensures settled { IsSettled (view pass.new) }
     ensures worked { HasWorked (view pass.old) (view pass.new) }
-    ensures turns { TurnsSo result (view pass.new) }
+    ensures turns { TurnsSo (G.is_open gate.now) result (view pass.old) (vec_capacity room.old) (view pass.new) (vec_capacity room.new) }
 {
     match board.any(rt, pass, room) {
         TryAny::Work(job, _) => {
             let done = run_job(alloc, job, room.as_slice(), gate);
-            bring_home(rt, alloc, board, pass, done, gate.is_open())
+            bring_home(rt, alloc, board, pass, done, gate)
         }
         TryAny::Idle { out: 0 } => AfterTurn::Ended(WorkEnd::Complete),
         TryAny::Idle { .. } => AfterTurn::Idle,
@@ -78,13 +78,13 @@ const AT_ONCE: AtOnce = AtOnce {
 };
 
 // Brings home what the pass had out.
-fn bring_home<S: Stage, R: Wait>(
+fn bring_home<S: Stage, R: Wait, G: Gate>(
     rt: &R,
     alloc: Global,
     board: &Board<S>,
     pass: &mut Pass,
     done: Finished<S>,
-    sights: bool,
+    gate: &G,
 ) -> AfterTurn
     requires board { board_of pass.old ≡ board_id board.now }
     requires tries { 2 ≤ (view pass.old).tries }
@@ -95,9 +95,9 @@ fn bring_home<S: Stage, R: Wait>(
     ensures tries { 0 < (view pass.new).tries }
     ensures settled { IsSettled (view pass.new) }
     ensures worked { HasWorked (view pass.old) (view pass.new) }
-    ensures turns { TurnsSo result (view pass.new) }
+    ensures comes { ComesSo (G.is_open gate.now) done.place result (view pass.old) (view pass.new) }
 {
-    match board.finish_and_go_on(rt, alloc, pass, done, sights, AT_ONCE) {
+    match board.finish_and_go_on(rt, alloc, pass, done, gate, AT_ONCE) {
         TryFinish::Home => AfterTurn::Done,
         TryFinish::NoMemory => AfterTurn::Ended(WorkEnd::NoMemory),
         TryFinish::Busy(_) => unreachable!(),
@@ -106,7 +106,7 @@ fn bring_home<S: Stage, R: Wait>(
 
 // Makes the room large enough for so many bytes. What it holds isn't wanted any more.
 fn grow(room: &mut Vec<u8>, size: usize) -> AfterTurn
-    ensures { (result ≡ AfterTurn.Done) ⊎ (result ≡ AfterTurn.Ended WorkEnd.NoMemory) }
+    ensures { GrowsSo result size (vec_capacity room.old) (vec_capacity room.new) }
 {
     room.clear();
     match room.reserve(size) {

@@ -1,4 +1,4 @@
-ghost use Rattle.std.specs.Prelude.{◌≡◌, ◌<◌};
+ghost use Rattle.std.specs.Prelude.{◌≡◌, ◌<◌, vec_capacity};
 ghost use Rattle.board.specs.Names.{view, board_of, board_id};
 ghost use Rattle.workers.specs.Work.{IsSettled, HasWorked, EndsSo};
 
@@ -47,7 +47,7 @@ pub fn work<S: Stage + Send, R: Wait, G: Gate + Sync>(
     ensures tries { 0 < (view pass.new).tries }
     ensures settled { IsSettled (view pass.new) }
     ensures worked { HasWorked (view pass.old) (view pass.new) }
-    ensures ends { EndsSo result (view pass.new) }
+    ensures ends { EndsSo result (view pass.new) (vec_capacity room.new) }
 {
     let mut waits = Waits::new();
     for _ in rt.forever() {

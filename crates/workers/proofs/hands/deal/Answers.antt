@@ -1,6 +1,6 @@
 use Rattle.std.proofs.Common.{arith}
 use Rattle.board.specs.Names.{view, board_id}
-use Rattle.workers.proofs.Dealing.{deals_on, deals_last}
+use Rattle.workers.proofs.Dealing.{deals_on, deals_last, deals_all}
 use Rattle.workers.proofs.hands.deal.Goals as goal
 
 pub loop-preserved : goal.loop-preserved
@@ -13,3 +13,11 @@ loop-preserved g c =
 
 pub returns-clause-hands : goal.returns-clause-hands
 returns-clause-hands g c = (deals_last (board_id c.args.board.now) (view c.args.pass) c.loop.counter _ _ c.loop.rest c.new-2.result c.loop.invariant.dealt c.new-2.ensures c.push_reserved-2.ensures.items).0
+
+pub returns-clause-tries : goal.returns-clause-tries
+returns-clause-tries g c = let most = c.requires.workers.1 in
+    (deals_all (board_id c.args.board.now) (view c.args.pass) c.loop.counter _ _ c.loop.rest c.new-2.result c.loop.invariant.dealt (omega (arith, most)) c.requires.tries c.new-2.ensures c.push_reserved-2.ensures.items).0
+
+pub returns-clause-all_tries : goal.returns-clause-all_tries
+returns-clause-all_tries g c = let most = c.requires.workers.1 in
+    (deals_all (board_id c.args.board.now) (view c.args.pass) c.loop.counter _ _ c.loop.rest c.new-2.result c.loop.invariant.dealt (omega (arith, most)) c.requires.tries c.new-2.ensures c.push_reserved-2.ensures.items).1

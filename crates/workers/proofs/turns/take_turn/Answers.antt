@@ -1,12 +1,11 @@
-use Rattle.std.proofs.Common.{◌≡◌, sym, subst, take, IfOk, vec_capacity}
+use Rattle.std.proofs.Common.{rules, sym, subst, IfOk, vec_capacity}
 use Rattle.stage_steps.specs.Coroutine.{CanResume, Resumes}
-use Rattle.core_machine.specs.Jobs.{DoneStands}
 use Rattle.core_machine.proofs.Works.{work_runs, work_done}
 use Rattle.board.specs.Calls.{CanFinish, less_one_try}
 use Rattle.board.specs.Names.{view}
 use Rattle.board.specs.Rule.{machine_of}
 use Rattle.workers.specs.Work.{Owes}
-use Rattle.workers.proofs.AfterTurns.{can_finish, owes_one, still_settled, idle_completes}
+use Rattle.workers.proofs.AfterTurns.{can_finish, owes_one, still_settled, work_turns, room_turns, idle_waits}
 use Rattle.workers.proofs.turns.take_turn.Goals as goal
 
 pub run_job-done-requires : goal.run_job-done-requires
@@ -47,3 +46,18 @@ returns-in-Room-clause-settled g c = still_settled (view c.args.pass.now) (view 
 
 pub returns-in-Broken-clause-settled : goal.returns-in-Broken-clause-settled
 returns-in-Broken-clause-settled g c = still_settled (view c.args.pass.now) (view c.any.new.pass) c.requires.settled (c.in-Broken.ensures.made tt) c.in-Broken.ensures.others
+
+pub returns-in-Work-clause-turns : goal.returns-in-Work-clause-turns
+returns-in-Work-clause-turns g c =
+    let t = c.in-Work.ensures.told in
+    work_turns (g.G.Gate.is_open c.args.gate.now) c.run_job-done.result.place c.bring_home.result (view c.args.pass.now) (view c.any.new.pass) (view c.bring_home.new.pass) (vec_capacity c.args.room.now) (vec_capacity c.any.new.room) t.1.2.longer c.bring_home.ensures.comes
+
+pub returns-in-Idle-clause-turns : goal.returns-in-Idle-clause-turns
+returns-in-Idle-clause-turns g c =
+    let t = c.in-Idle.ensures.told.1 in
+    idle_waits (view c.args.pass.now) (view c.any.new.pass) (g.G.Gate.is_open c.args.gate.now) (vec_capacity c.args.room.now) (vec_capacity c.any.new.room) c.in-Idle.out t.2 t.3 t.4 (search rules)
+
+pub returns-in-Room-clause-turns : goal.returns-in-Room-clause-turns
+returns-in-Room-clause-turns g c =
+    let t = c.in-Room.ensures.told.1 in
+    room_turns (g.G.Gate.is_open c.args.gate.now) c.grow.result (view c.args.pass.now) (view c.any.new.pass) (vec_capacity c.args.room.now) (vec_capacity c.grow.new.room) c.in-Room.size t.2 (search (rules, c.grow.ensures))
