@@ -36,8 +36,8 @@ pub fn hexadecimal(alloc: Global, word: &[u8]) -> Result<Option<Rec>, NoMemory>
     }
 }
 
-// The digits of such a word.
-fn hexadecimal_digits(word: &[u8]) -> Option<&[u8]>
+/// The digits of such a word.
+pub(crate) fn hexadecimal_digits(word: &[u8]) -> Option<&[u8]>
     ensures { MatchOption result ((string : List ℕ) → ¬ IsHexadecimal word.now string) (λ digits. (string : List ℕ) × (is : IsHexadecimal word.now string) × (is.digits ≡ digits.now)) }
 {
     let [b'x', digits @ ..] = word else {

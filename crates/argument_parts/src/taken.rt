@@ -39,7 +39,7 @@ pub fn part_at(alloc: Global, part: Part, text: &[u8]) -> Result<Option<Taken>, 
         Part::String => string_at(alloc, text),
         Part::AnyString => any_string_at(alloc, text),
         Part::Strings => strings_at(alloc, text),
-        Part::Byte => byte_at(alloc, text),
+        Part::Byte => byte_at(text),
         Part::Number { least, most } => number_at(text, least, most),
         Part::Times => times_at(text),
         Part::Word(key) => Ok(word_at(text, key)),
@@ -137,26 +137,24 @@ fn strings_at(alloc: Global, text: &[u8]) -> Result<Option<Taken>, Refusal>
 }
 
 // The byte at the front of a text, or None where the text begins with a word that other parts may fit.
-fn byte_at(alloc: Global, text: &[u8]) -> Result<Option<Taken>, Refusal>
+fn byte_at(text: &[u8]) -> Result<Option<Taken>, Refusal>
     requires begins { get_or text.now 0 32 ≢ 32 }
     ensures within { IfOk result (λ found. IfSome found (λ taken. taken.len ≤ length text.now)) }
     ensures read { IfOk result (λ found. MatchOption found (IsNoPart Asked.Byte text.now) (λ taken. IsPart Asked.Byte text.now taken.value (drop taken.len text.now))) }
     ensures refused { IfErr result (Refuses (IsPartMisfit Asked.Byte text.now)) }
 {
-    match byte(alloc, text) {
+    match byte(text) {
         Ok(spelled) => Ok(Some(Taken {
             value: Value::Byte(spelled.byte),
             len: spelled.len,
         })),
         Err(
-            Refusal::Fault(
-                TextFault {
-                    kind: FaultKind::UnknownWord,
-                    ..
-                },
-            ),
+            TextFault {
+                kind: FaultKind::UnknownWord,
+                ..
+            },
         ) => Ok(None),
-        Err(refusal) => Err(refusal),
+        Err(fault) => Err(Refusal::Fault(fault)),
     }
 }
 
