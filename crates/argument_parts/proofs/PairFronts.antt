@@ -79,16 +79,13 @@ passed_twice text word after blanks front more cut spells =
     sym (drop-drop more (length text - length front) text)
     ∙ ap (drop more) (rest_left text (word ++ blanks) front (cut ∙ ap (λ rest. word ++ rest) spells ∙ sym (append_assoc word blanks front)))
 
-module _ (text first : List ℕ) (len : ℕ) (hexadecimal : IsHexadecimalWord text first (drop len text)) (front : List ℕ) (unblanked : IsUnblanked (take (length text - len) (drop len text)) front) where
-  after_blanks : IsUnblanked (drop len text) front
-  after_blanks = subst (λ rest. IsUnblanked rest front) (tail_of text len) unblanked
-
+module _ (text first after : List ℕ) (hexadecimal : IsHexadecimalWord text first after) (front : List ℕ) (unblanked : IsUnblanked after front) where
   -- nothing comes after a hexadecimal string
   pub second_missing : length front ≡ 0 → AreMisfits text (record { left = length front; kind = Missing })
   second_missing none = inr (inr (record {
     first = first;
     front = front;
-    before = record { after = drop len text; hexadecimal = hexadecimal; unblanked = after_blanks };
+    before = record { after = after; hexadecimal = hexadecimal; unblanked = unblanked };
     misfit = inl (emptied front none, ap (λ left. record { left = left; kind = Missing }) none);
   }))
 
@@ -97,7 +94,7 @@ module _ (text first : List ℕ) (len : ℕ) (hexadecimal : IsHexadecimalWord te
   second_unknown some other = inr (inr (record {
     first = first;
     front = front;
-    before = record { after = drop len text; hexadecimal = hexadecimal; unblanked = after_blanks };
+    before = record { after = after; hexadecimal = hexadecimal; unblanked = unblanked };
     misfit = inr (some, inr (other, refl));
   }))
 
@@ -106,7 +103,7 @@ module _ (text first : List ℕ) (len : ℕ) (hexadecimal : IsHexadecimalWord te
   second_misfit some (Fault fault) misfit = inr (inr (record {
     first = first;
     front = front;
-    before = record { after = drop len text; hexadecimal = hexadecimal; unblanked = after_blanks };
+    before = record { after = after; hexadecimal = hexadecimal; unblanked = unblanked };
     misfit = inr (some, inl misfit);
   }))
   second_misfit some NoMemory misfit = tt
@@ -114,6 +111,6 @@ module _ (text first : List ℕ) (len : ℕ) (hexadecimal : IsHexadecimalWord te
   pub second_read : (second : List ℕ) (more : ℕ) → IsAnyString front second (drop more front) → AreStrings text first second (drop (length text - length front + more) text)
   second_read second more string = inr (record {
     front = front;
-    before = record { after = drop len text; hexadecimal = hexadecimal; unblanked = after_blanks };
-    string = rw (passed_twice text hexadecimal.word (drop len text) _ front more hexadecimal.first.spells after_blanks.spells) string;
+    before = record { after = after; hexadecimal = hexadecimal; unblanked = unblanked };
+    string = rw (passed_twice text hexadecimal.word after _ front more hexadecimal.first.spells unblanked.spells) string;
   })
