@@ -1,15 +1,15 @@
 -- On a rendezvous as many records were put as were taken, or one fewer, which its producer still wants to write.
-use Rattle.std.proofs.Common.{◌≡◌, ◌≢◌, ◌⊎◌, inl, inr, ℕ, suc, ◌<◌, Bool, true, false, cond, ◌||◌, ◌==◌, List, [], ◌∷◌, refl, sym, ◌∙◌, ap, subst, arith, Option, Some, None, eq-eqb}
+use Rattle.std.proofs.Common.{◌≡◌, ◌≢◌, ◌⊎◌, inl, inr, ℕ, suc, ◌<◌, Bool, true, false, ◌||◌, ◌==◌, List, [], ◌∷◌, refl, sym, ◌∙◌, ap, subst, arith, Option, Some, None, eq-eqb}
 use Rattle.std.proofs.lemmas.Bool.{eqb-true, lt-ltb, ltb-true}
 use Rattle.std.specs.Prelude.{nat_lt}
 use Rattle.pipe_model.specs.declared.net.Net.{Net}
 use Rattle.pipe_model.specs.declared.net.Link.{Link}
 use Rattle.pipe_model.specs.declared.net.Strand.{Strand}
 use Rattle.pipe_model.specs.declared.step.Entry.{Entry}
-use Rattle.pipe_model.specs.Event.{Event, Want, answers, in_sight, is_put, is_took, one_more, puts_on, tooks_on}
+use Rattle.pipe_model.specs.Event.{Event, Want, in_sight, is_put, is_took, one_more, puts_on, tooks_on}
 use Rattle.pipe_model.specs.Event.Event.{Put, Refused, Took}
 use Rattle.pipe_model.specs.Event.Want.{Take, Write}
-use Rattle.pipe_model.specs.Licence.{answer, is_level, licence, may_put, none_left, offered, puts, sight_of, tooks, want_after, want_at}
+use Rattle.pipe_model.specs.Licence.{answer, licence, may_put, none_left, offered, puts, sight_of, tooks, want_after, want_at}
 use Rattle.pipe_model.specs.Play.{IsLegal, IsLegalFrom, play, play_from, step}
 use Rattle.pipe_model.specs.State.{State, Who, link_in, link_out, nothing_yet, past, strand_at, with_event, with_some_event}
 use Rattle.pipe_model.specs.WellFormed.{IsWellFormed}
@@ -135,15 +135,15 @@ module _ (net : Net) (formed : IsWellFormed net) (st : State) (reached : IsReach
           let want = writes_it (want_at net st none_left l.from) l.output owed.rec owed.offers in
           elim (told want.0 (subst (λ z. want_at net st none_left z ≡ Some (Write l.output want.0)) putter want.1)) [
             | inl put ↦ (
-              let one : is_put l.output f ≡ true = ap (is_put l.output) put.0 ∙ eq-eqb l.output l.output refl in
-              inl (puts_now ∙ ap (λ b. one_more b (puts st l)) one ∙ sym owed.more ∙ sym same_tooks)
-            )
+                let one : is_put l.output f ≡ true = ap (is_put l.output) put.0 ∙ eq-eqb l.output l.output refl in
+                inl (puts_now ∙ ap (λ b. one_more b (puts st l)) one ∙ sym owed.more ∙ sym same_tooks)
+                )
             | inr refused ↦ (
-              let more = owed.more in
-              let less : puts st l < tooks st l = omega (arith, more) in
-              let yes = lt-ltb (puts st l) (tooks st l) less in
-              (let x : true ≡ false = sym yes ∙ refused.1 in cc)
-            )
+                let more = owed.more in
+                let less : puts st l < tooks st l = omega (arith, more) in
+                let yes = lt-ltb (puts st l) (tooks st l) less in
+                (let x : true ≡ false = sym yes ∙ refused.1 in cc)
+                )
           ]
 
       after_put : IsEven net now l
@@ -156,18 +156,18 @@ module _ (net : Net) (formed : IsWellFormed net) (st : State) (reached : IsReach
       | inr other ↦ elim (equal_or_not l.from t) [
         | inl putter ↦ after_put putter
         | inr apart_too ↦ (
-          let from_is = at_other st t f l.from apart_too in
-          let same_puts : puts now l ≡ puts st l = ap (puts_on l.output) from_is in
-          let same_tooks : tooks now l ≡ tooks st l = ap (tooks_on l.input) (at_other st t f l.to other) in
-          elim even [
-            | inl level ↦ inl (same_puts ∙ level ∙ sym same_tooks)
-            | inr owed ↦ inr (record {
-              more = same_tooks ∙ owed.more ∙ ap suc (sym same_puts);
-              rec = owed.rec;
-              offers = ap (offered l.output) (same_want net formed st t f k licensed l.from from_is) ∙ owed.offers;
-            })
-          ]
-        )
+            let from_is = at_other st t f l.from apart_too in
+            let same_puts : puts now l ≡ puts st l = ap (puts_on l.output) from_is in
+            let same_tooks : tooks now l ≡ tooks st l = ap (tooks_on l.input) (at_other st t f l.to other) in
+            elim even [
+              | inl level ↦ inl (same_puts ∙ level ∙ sym same_tooks)
+              | inr owed ↦ inr (record {
+                more = same_tooks ∙ owed.more ∙ ap suc (sym same_puts);
+                rec = owed.rec;
+                offers = ap (offered l.output) (same_want net formed st t f k licensed l.from from_is) ∙ owed.offers;
+              })
+            ]
+            )
       ]
     ]
 

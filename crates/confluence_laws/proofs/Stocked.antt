@@ -1,5 +1,5 @@
 -- From a queue no more is taken than was put into it, and a record in sight there isn't taken yet.
-use Rattle.std.proofs.Common.{◌≡◌, inl, inr, ℕ, suc, ◌≤◌, ◌<◌, Bool, true, false, cond, ◌==◌, List, [], ◌∷◌, length, refl, sym, ◌∙◌, ap, subst, arith, Option, Some, None, slice_get}
+use Rattle.std.proofs.Common.{◌≡◌, inl, inr, ℕ, suc, ◌≤◌, ◌<◌, Bool, true, false, cond, List, [], ◌∷◌, refl, sym, ◌∙◌, ap, subst, arith, Option, Some, None, slice_get}
 use Rattle.std.proofs.lemmas.Bool.{eqb-true}
 use Rattle.std.proofs.lemmas.Option.{slice_get_within}
 use Rattle.pipe_model.specs.declared.net.Net.{Net}
@@ -103,15 +103,15 @@ module _ (net : Net) (formed : IsWellFormed net) (st : State) (reached : IsReach
     stock_after = elim (equal_or_not l.to t) [
       | inl taker ↦ after_take taker (is_took l.input f) refl
       | inr other ↦ (
-        let same_past = at_other st t f l.to other in
-        let same : tooks now l ≡ tooks st l = ap (tooks_on l.input) same_past in
-        let before = stocked.taken in
-        let stay = puts_stay in
-        record {
-          taken = omega (arith, before, same, stay);
-          seen = λ seen. (let less = stocked.seen (subst (λ z. in_sight l.input z ≡ true) same_past seen) in omega (arith, less, same, stay));
-        }
-      )
+          let same_past = at_other st t f l.to other in
+          let same : tooks now l ≡ tooks st l = ap (tooks_on l.input) same_past in
+          let before = stocked.taken in
+          let stay = puts_stay in
+          record {
+            taken = omega (arith, before, same, stay);
+            seen = λ seen. (let less = stocked.seen (subst (λ z. in_sight l.input z ≡ true) same_past seen) in omega (arith, less, same, stay));
+          }
+          )
     ]
 
   stocked_after : AreStocked net st → AreStocked net (with_event st t f)
