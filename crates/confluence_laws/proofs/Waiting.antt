@@ -423,7 +423,7 @@ module _ (net : Net) (formed : IsWellFormed net) (calm : IsCalm net) (st : State
   -- Two ends of one link
 
   -- a record that is written is seen by whoever reads there
-  read_shows : (l : Link) (rec : List ℕ) (s : Who) (i : ℕ) → link_in net st s i ≡ Some l → l.queue ≡ false → want_at net st none_left l.from ≡ Some (Write l.output rec) → want_at net st none_left s ≢ Some (Read i)
+  pub read_shows : (l : Link) (rec : List ℕ) (s : Who) (i : ℕ) → link_in net st s i ≡ Some l → l.queue ≡ false → want_at net st none_left l.from ≡ Some (Write l.output rec) → want_at net st none_left s ≢ Some (Read i)
   read_shows l rec s i e plain want reads =
       let hand = shown_there l rec i s e plain want in
       halted.none s i (Saw i rec) (
@@ -433,7 +433,7 @@ module _ (net : Net) (formed : IsWellFormed net) (calm : IsCalm net) (st : State
       )
 
   -- and by whoever looks at any input
-  any_shows : (l : Link) (rec : List ℕ) (s : Who) (i : ℕ) → link_in net st s i ≡ Some l → l.queue ≡ false → want_at net st none_left l.from ≡ Some (Write l.output rec) → want_at net st none_left s ≢ Some Any
+  pub any_shows : (l : Link) (rec : List ℕ) (s : Who) (i : ℕ) → link_in net st s i ≡ Some l → l.queue ≡ false → want_at net st none_left l.from ≡ Some (Write l.output rec) → want_at net st none_left s ≢ Some Any
   any_shows l rec s i e plain want looks =
       let hand = shown_there l rec i s e plain want in
       halted.none s i (Saw i rec) (ap (answer (sight_of net st none_left s) i) looks ∙ ap (λ m. any_answer i m (i == 0 && all_over net st s)) hand)
