@@ -35,3 +35,10 @@ digits_of word digits string spells is =
     let same : is.digits ≡ digits = cc in
     let ok = decode_of-ok digits string (subst (λ bytes. decode_of bytes ≡ Ok string) same is.worth) in
     (subst (λ bytes. 0 < length bytes) same is.filled, ok.0, same_digits digits ∙ list_all-from_AllPass is_hex_digit digits ok.1)
+
+-- the digits of a word, and what they decode to
+pub digits_decode : (word digits : List ℕ) → (string : List ℕ) × (is : IsHexadecimal word string) × (is.digits ≡ digits) → (string : List ℕ) × (decode_of digits ≡ Ok string)
+digits_decode word digits (string, is, same) = (string, ap decode_of (sym same) ∙ is.worth)
+
+pub decoded_word : (word digits string : List ℕ) → (other : List ℕ) × (is : IsHexadecimal word other) × (is.digits ≡ digits) → decode_of digits ≡ Ok string → IsHexadecimal word string
+decoded_word word digits string (other, is, same) worth = record { digits = is.digits; spells = is.spells; filled = is.filled; worth = ap decode_of same ∙ worth }

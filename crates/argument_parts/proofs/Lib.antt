@@ -15,6 +15,7 @@ pub mod Letters
 pub mod Misfits
 pub mod NumberParts
 pub mod Numerals
+pub mod OneBytes
 pub mod OneFronts
 pub mod OneParts
 pub mod OneRanges

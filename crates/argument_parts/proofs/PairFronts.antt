@@ -1,22 +1,19 @@
 -- How a text begins with two strings.
-use Rattle.std.proofs.Common.{◌≡◌, ℕ, suc, ◌+◌, ◌-◌, ◌<◌, List, ◌∷◌, ◌++◌, length, take, drop, get_or, refl, sym, ap, ◌∙◌, arith, subst, None, Some, inl, inr}
+use Rattle.std.proofs.Common.{◌≡◌, ℕ, suc, ◌+◌, ◌-◌, ◌<◌, List, ◌∷◌, ◌++◌, length, take, drop, get_or, sym, ap, ◌∙◌, arith, subst, None, Some, inl, inr}
 use borrow.Author.Tests.{eqb-true}
 use Rattle.std.specs.List.{Contains}
 use Rattle.std.proofs.Math.Seq.{split_at}
 use Rattle.std.proofs.lemmas.List.{append_assoc, drop-drop}
 use Rattle.bstr.specs.Find.{IsFirstByte, is_byte}
-use Rattle.pipe_model.proofs.Cuts.{tail_of}
 use Rattle.argument_parts.proofs.Delimiters.{not_before, nowhere_after, rest_after}
 use Rattle.argument_parts.proofs.OneStrings.{one_delimited}
 use Rattle.argument_parts.proofs.Outcomes.{delimited_front, not_unclosed}
 use Rattle.argument_parts.proofs.Passed.{rest_left}
-use Rattle.argument_parts.proofs.RangeFronts.{emptied}
 use Rattle.argument_parts.proofs.StringPairs.{first_delimited}
 use Rattle.argument_parts.specs.PairsOfStrings.{AreDelimited, AreMisfits, AreStrings, AreUnclosed, IsAnyString, IsAnyStringMisfit}
 use Rattle.argument_parts.specs.Refusals.{Refuses}
-use Rattle.argument_parts.specs.Strings.{IsDelimited, IsHexadecimalWord, IsOtherWord, IsUnclosed}
+use Rattle.argument_parts.specs.Strings.{IsDelimited, IsHexadecimalWord, IsUnclosed}
 use Rattle.pipe_model.specs.Words.{IsUnblanked}
-use Rattle.argument_parts.specs.declared.fault.FaultKind.TheVariants.{Missing, UnknownWord}
 use Rattle.argument_parts.specs.declared.refusal.Refusal.{Refusal}
 use Rattle.argument_parts.specs.declared.refusal.Refusal.TheVariants.{Fault, NoMemory}
 
@@ -79,34 +76,13 @@ passed_twice text word after blanks front more cut spells =
     sym (drop-drop more (length text - length front) text)
     ∙ ap (drop more) (rest_left text (word ++ blanks) front (cut ∙ ap (λ rest. word ++ rest) spells ∙ sym (append_assoc word blanks front)))
 
-module _ (text first : List ℕ) (len : ℕ) (hexadecimal : IsHexadecimalWord text first (drop len text)) (front : List ℕ) (unblanked : IsUnblanked (take (length text - len) (drop len text)) front) where
-  after_blanks : IsUnblanked (drop len text) front
-  after_blanks = subst (λ rest. IsUnblanked rest front) (tail_of text len) unblanked
-
-  -- nothing comes after a hexadecimal string
-  pub second_missing : length front ≡ 0 → AreMisfits text (record { left = length front; kind = Missing })
-  second_missing none = inr (inr (record {
-    first = first;
-    front = front;
-    before = record { after = drop len text; hexadecimal = hexadecimal; unblanked = after_blanks };
-    misfit = inl (emptied front none, ap (λ left. record { left = left; kind = Missing }) none);
-  }))
-
-  -- a word that is no string
-  pub second_unknown : 0 < length front → IsOtherWord front → AreMisfits text (record { left = length front; kind = UnknownWord })
-  second_unknown some other = inr (inr (record {
-    first = first;
-    front = front;
-    before = record { after = drop len text; hexadecimal = hexadecimal; unblanked = after_blanks };
-    misfit = inr (some, inr (other, refl));
-  }))
-
-  -- or one that begins as a string
+module _ (text first after : List ℕ) (hexadecimal : IsHexadecimalWord text first after) (front : List ℕ) (unblanked : IsUnblanked after front) where
+  -- what comes after a hexadecimal string begins as a string
   pub second_misfit : 0 < length front → (refusal : Refusal) → Refuses (IsAnyStringMisfit front) refusal → Refuses (AreMisfits text) refusal
   second_misfit some (Fault fault) misfit = inr (inr (record {
     first = first;
     front = front;
-    before = record { after = drop len text; hexadecimal = hexadecimal; unblanked = after_blanks };
+    before = record { after = after; hexadecimal = hexadecimal; unblanked = unblanked };
     misfit = inr (some, inl misfit);
   }))
   second_misfit some NoMemory misfit = tt
@@ -114,6 +90,6 @@ module _ (text first : List ℕ) (len : ℕ) (hexadecimal : IsHexadecimalWord te
   pub second_read : (second : List ℕ) (more : ℕ) → IsAnyString front second (drop more front) → AreStrings text first second (drop (length text - length front + more) text)
   second_read second more string = inr (record {
     front = front;
-    before = record { after = drop len text; hexadecimal = hexadecimal; unblanked = after_blanks };
-    string = rw (passed_twice text hexadecimal.word (drop len text) _ front more hexadecimal.first.spells after_blanks.spells) string;
+    before = record { after = after; hexadecimal = hexadecimal; unblanked = unblanked };
+    string = rw (passed_twice text hexadecimal.word after _ front more hexadecimal.first.spells unblanked.spells) string;
   })

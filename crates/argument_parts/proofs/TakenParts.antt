@@ -1,11 +1,17 @@
 -- A text that doesn't begin as a part does.
-use Rattle.std.proofs.Common.{ℕ, List}
+use Rattle.std.proofs.Common.{ℕ, List, refl}
 use Rattle.argument_parts.specs.Keywords.{IsKeyword}
-use Rattle.argument_parts.specs.Parts.{IsNoPart}
+use Rattle.argument_parts.specs.Parts.{IsNoPart, IsPart}
 use Rattle.argument_parts.specs.RangeWords.{IsNoRange, IsUnspelled}
 use Rattle.argument_parts.specs.Spots.{IsNoSpot}
 use Rattle.argument_parts.specs.WholeNumbers.{IsCounter, IsNoWhole}
+use Rattle.argument_parts.specs.Refusals.{Wants}
+use Rattle.argument_parts.specs.Strings.{IsString}
 use Rattle.argument_parts.specs.declared.part.Part.TheVariants as Asked
+use Rattle.argument_parts.specs.declared.part.Value.{Value}
+use Rattle.argument_parts.specs.declared.part.Value.TheVariants as Read
+use Rattle.argument_parts.specs.declared.refusal.Refusal.{Refusal}
+use Rattle.argument_parts.specs.declared.refusal.Refusal.TheVariants.{Fault, NoMemory}
 use Rattle.argument_parts.specs.declared.part.Word.{Word}
 
 pub no_range_part : (text : List ℕ) → IsNoRange text → IsNoPart Asked.Range text
@@ -25,3 +31,8 @@ no_whole_part text none = (λ value rest is. none is.2.word rest is.0 is.2.first
 
 pub no_spot_part : (text : List ℕ) → IsNoSpot text → IsNoPart Asked.Spot text
 no_spot_part text none = (λ value rest is. none.none is.0 rest is.2, none.no_misfit)
+
+-- memory is wanted for a string
+pub string_wanted : (text : List ℕ) (refusal : Refusal) → Wants ((string : List ℕ) × (rest : List ℕ) × IsString text string rest) refusal → Wants ((value : Value) × (rest : List ℕ) × IsPart Asked.String text value rest) refusal
+string_wanted text (Fault fault) wants = tt
+string_wanted text NoMemory wants = (Read.String wants.0, wants.1, (wants.0, refl, wants.2))

@@ -1,6 +1,7 @@
-ghost use Rattle.std.specs.Prelude.{◌≡◌, ◌≢◌, ◌≤◌, length, drop, get_or, IfOk, IfErr, IfSome, MatchOption};
+ghost use Rattle.std.specs.Prelude.{◌≡◌, ◌≢◌, ◌≤◌, ℕ, List, length, drop, get_or, IfOk, IfErr, IfSome, MatchOption};
+ghost use Rattle.argument_parts.specs.declared.part.Value.{Value};
 ghost use Rattle.argument_parts.specs.Parts.{IsAtEnd, IsFirstPart, IsMisfitOf, IsNext, IsNoNext, fault_of, fault_of_last};
-ghost use Rattle.argument_parts.specs.Refusals.{Refuses};
+ghost use Rattle.argument_parts.specs.Refusals.{Refuses, Wants};
 
 use crate::fault::FaultKind;
 use crate::part::{Part, TextFault, Value};
@@ -22,6 +23,7 @@ pub fn next_part(alloc: Global, parts: &[Part], text: &[u8]) -> Result<Option<Ar
     ensures within { IfOk result (λ found. IfSome found (λ argument. argument.len ≤ length text.now)) }
     ensures read { IfOk result (λ found. MatchOption found (IsAtEnd text.now) (λ argument. (next : IsNext parts.now text.now argument.value (drop argument.len text.now)) × (argument.left ≡ length next.front))) }
     ensures refused { IfErr result (Refuses (IsNoNext parts.now text.now)) }
+    ensures memory { IfErr result (Wants ((value : Value) × (rest : List ℕ) × IsNext parts.now text.now value rest)) }
 {
     let front = without_blanks(text);
     if front.is_empty() {
@@ -41,6 +43,7 @@ fn first_part(alloc: Global, parts: &[Part], text: &[u8]) -> Result<Taken, Refus
     ensures within { IfOk result (λ taken. taken.len ≤ length text.now) }
     ensures read { IfOk result (λ taken. IsFirstPart parts.now text.now taken.value (drop taken.len text.now)) }
     ensures refused { IfErr result (Refuses (IsMisfitOf parts.now text.now)) }
+    ensures memory { IfErr result (Wants ((value : Value) × (rest : List ℕ) × IsFirstPart parts.now text.now value rest)) }
 {
     let mut first: Option<TextFault> = None;
     for part in parts {

@@ -6,10 +6,10 @@ ghost use Rattle.argument_parts.specs.Strings.{IsOtherWord, is_delimiter};
 
 use crate::fault::FaultKind;
 use crate::refusal::Refusal;
-use crate::strings::delimited;
+use crate::strings::{decoded, delimited, hexadecimal_digits};
 use crate::text::{Spelled, hexadecimal_word};
 use bstr::ByteSlice;
-use pipe_model::{Rec, without_blanks};
+use pipe_model::{Rec, first_word, without_blanks};
 use std::alloc::Global;
 
 /// Two strings, and how many bytes spell them.
@@ -48,6 +48,7 @@ pub fn two_strings(alloc: Global, text: &[u8]) -> Result<Option<SpelledStrings>,
     ensures within { IfOk result (λ found. IfSome found (λ spelled. spelled.len ≤ length text.now)) }
     ensures read { IfOk result (λ found. MatchOption found (IsOtherWord text.now) (λ spelled. AreStrings text.now spelled.first spelled.second (drop spelled.len text.now))) }
     ensures refused { IfErr result (Refuses (AreMisfits text.now)) }
+    ensures memory { IfErr result (Wants ((first : List ℕ) × (second : List ℕ) × (rest : List ℕ) × AreStrings text.now first second rest)) }
 {
     if text[0].is_ascii_alphanumeric() {
         strings_apart(alloc, text)
@@ -62,6 +63,7 @@ fn delimited_strings(alloc: Global, text: &[u8]) -> Result<SpelledStrings, Refus
     ensures within { IfOk result (λ spelled. spelled.len ≤ length text.now) }
     ensures read { IfOk result (λ spelled. AreStrings text.now spelled.first spelled.second (drop spelled.len text.now)) }
     ensures refused { IfErr result (Refuses (AreMisfits text.now)) }
+    ensures memory { IfErr result (Wants ((first : List ℕ) × (second : List ℕ) × (rest : List ℕ) × AreStrings text.now first second rest)) }
 {
     let Some((first, after)) = delimited(text) else {
         return Err(Refusal::at(text, FaultKind::Unclosed));
@@ -76,24 +78,29 @@ fn delimited_strings(alloc: Global, text: &[u8]) -> Result<SpelledStrings, Refus
     })
 }
 
-// The hexadecimal string at the front of a text, and another string after it, or None where the text begins with another word.
+// The hexadecimal string at the front of a text, and another string after it, or None where the text begins with another word. Both
+// are known before the first asks for memory.
 fn strings_apart(alloc: Global, text: &[u8]) -> Result<Option<SpelledStrings>, Refusal>
     requires begins { is_ascii_alphanumeric (get_or text.now 0 0) ≡ true }
     ensures within { IfOk result (λ found. IfSome found (λ spelled. spelled.len ≤ length text.now)) }
     ensures read { IfOk result (λ found. MatchOption found (IsOtherWord text.now) (λ spelled. AreStrings text.now spelled.first spelled.second (drop spelled.len text.now))) }
     ensures refused { IfErr result (Refuses (AreMisfits text.now)) }
+    ensures memory { IfErr result (Wants ((first : List ℕ) × (second : List ℕ) × (rest : List ℕ) × AreStrings text.now first second rest)) }
 {
-    let Some(first) = hexadecimal_word(alloc, text)? else {
+    let (word, after) = first_word(text);
+    let Some(digits) = hexadecimal_digits(word) else {
+        if text[0] == b'x' {
+            return Err(Refusal::at(text, FaultKind::BadHex));
+        }
         return Ok(None);
     };
-    let after = &text[first.len..];
     let front = without_blanks(after);
     if front.is_empty() {
         return Err(Refusal::at(front, FaultKind::Missing));
     }
     match any_string(alloc, front)? {
         Some(second) => Ok(Some(SpelledStrings {
-            first: first.string,
+            first: decoded(alloc, digits)?,
             second: second.string,
             len: text.len() - front.len() + second.len,
         })),

@@ -1,6 +1,7 @@
-ghost use Rattle.std.specs.Prelude.{◌≡◌, ◌<◌, ◌%◌, ◌↔◌, ℕ, List, IsTrue, length, true, get_or, IfOk, IfNone, OnErr, MatchOption};
+ghost use Rattle.std.specs.Prelude.{◌≡◌, ◌<◌, ◌%◌, ◌↔◌, ℕ, List, IsTrue, length, true, get_or, IfOk, IfNone, OnErr, MatchOption, Ok};
 ghost use Rattle.std.specs.Char.{is_ascii_hexdigit};
 ghost use Rattle.std.specs.List.{list_all};
+ghost use Rattle.hex.specs.Hex.{decode_of};
 ghost use Rattle.argument_parts.specs.Strings.{IsDelimited, IsHexadecimal, IsUnclosed, is_delimiter};
 
 use bstr::ByteSlice;
@@ -30,14 +31,22 @@ pub fn hexadecimal(alloc: Global, word: &[u8]) -> Result<Option<Rec>, NoMemory>
     let Some(digits) = hexadecimal_digits(word) else {
         return Ok(None);
     };
+    Ok(Some(decoded(alloc, digits)?))
+}
+
+/// The string of pairs of hexadecimal digits.
+pub(crate) fn decoded(alloc: Global, digits: &[u8]) -> Result<Rec, NoMemory>
+    requires { (string : List ℕ) × (decode_of digits.now ≡ Ok string) }
+    ensures { IfOk result (λ string. decode_of digits.now ≡ Ok string) }
+{
     match hex::decode(alloc, digits) {
-        Ok(bytes) => Ok(Some(Rec::from_vec(bytes))),
+        Ok(bytes) => Ok(Rec::from_vec(bytes)),
         Err(_) => Err(NoMemory),
     }
 }
 
-// The digits of such a word.
-fn hexadecimal_digits(word: &[u8]) -> Option<&[u8]>
+/// The digits of such a word.
+pub(crate) fn hexadecimal_digits(word: &[u8]) -> Option<&[u8]>
     ensures { MatchOption result ((string : List ℕ) → ¬ IsHexadecimal word.now string) (λ digits. (string : List ℕ) × (is : IsHexadecimal word.now string) × (is.digits ≡ digits.now)) }
 {
     let [b'x', digits @ ..] = word else {

@@ -1,7 +1,8 @@
-ghost use Rattle.std.specs.Prelude.{◌≡◌, ◌≢◌, ◌≤◌, length, drop, get_or, IfOk, IfErr, IfSome, MatchOption};
+ghost use Rattle.std.specs.Prelude.{◌≡◌, ◌≢◌, ◌≤◌, ℕ, List, length, drop, get_or, IfOk, IfErr, IfSome, MatchOption};
 ghost use Rattle.argument_parts.specs.declared.part.Part.TheVariants as Asked;
+ghost use Rattle.argument_parts.specs.declared.part.Value.{Value};
 ghost use Rattle.argument_parts.specs.Parts.{IsNoPart, IsPart, IsPartMisfit};
-ghost use Rattle.argument_parts.specs.Refusals.{Refuses};
+ghost use Rattle.argument_parts.specs.Refusals.{Refuses, Wants};
 
 use crate::bytes::byte;
 use crate::counts::times;
@@ -32,6 +33,7 @@ pub fn part_at(alloc: Global, part: Part, text: &[u8]) -> Result<Option<Taken>, 
     ensures within { IfOk result (λ found. IfSome found (λ taken. taken.len ≤ length text.now)) }
     ensures read { IfOk result (λ found. MatchOption found (IsNoPart part text.now) (λ taken. IsPart part text.now taken.value (drop taken.len text.now))) }
     ensures refused { IfErr result (Refuses (IsPartMisfit part text.now)) }
+    ensures memory { IfErr result (Wants ((value : Value) × (rest : List ℕ) × IsPart part text.now value rest)) }
 {
     match part {
         Part::Range => range_at(text),
@@ -39,7 +41,7 @@ pub fn part_at(alloc: Global, part: Part, text: &[u8]) -> Result<Option<Taken>, 
         Part::String => string_at(alloc, text),
         Part::AnyString => any_string_at(alloc, text),
         Part::Strings => strings_at(alloc, text),
-        Part::Byte => byte_at(alloc, text),
+        Part::Byte => byte_at(text),
         Part::Number { least, most } => number_at(text, least, most),
         Part::Times => times_at(text),
         Part::Word(key) => Ok(word_at(text, key)),
@@ -55,6 +57,7 @@ fn range_at(text: &[u8]) -> Result<Option<Taken>, Refusal>
     ensures within { IfOk result (λ found. IfSome found (λ taken. taken.len ≤ length text.now)) }
     ensures read { IfOk result (λ found. MatchOption found (IsNoPart Asked.Range text.now) (λ taken. IsPart Asked.Range text.now taken.value (drop taken.len text.now))) }
     ensures refused { IfErr result (Refuses (IsPartMisfit Asked.Range text.now)) }
+    ensures memory { IfErr result (Wants ((value : Value) × (rest : List ℕ) × IsPart Asked.Range text.now value rest)) }
 {
     match range(text)? {
         Some(spelled) => Ok(Some(Taken {
@@ -70,6 +73,7 @@ fn columns_at(text: &[u8]) -> Result<Option<Taken>, Refusal>
     ensures within { IfOk result (λ found. IfSome found (λ taken. taken.len ≤ length text.now)) }
     ensures read { IfOk result (λ found. MatchOption found (IsNoPart Asked.Columns text.now) (λ taken. IsPart Asked.Columns text.now taken.value (drop taken.len text.now))) }
     ensures refused { IfErr result (Refuses (IsPartMisfit Asked.Columns text.now)) }
+    ensures memory { IfErr result (Wants ((value : Value) × (rest : List ℕ) × IsPart Asked.Columns text.now value rest)) }
 {
     match columns(text)? {
         Some(spelled) => Ok(Some(Taken {
@@ -86,6 +90,7 @@ fn string_at(alloc: Global, text: &[u8]) -> Result<Option<Taken>, Refusal>
     ensures within { IfOk result (λ found. IfSome found (λ taken. taken.len ≤ length text.now)) }
     ensures read { IfOk result (λ found. MatchOption found (IsNoPart Asked.String text.now) (λ taken. IsPart Asked.String text.now taken.value (drop taken.len text.now))) }
     ensures refused { IfErr result (Refuses (IsPartMisfit Asked.String text.now)) }
+    ensures memory { IfErr result (Wants ((value : Value) × (rest : List ℕ) × IsPart Asked.String text.now value rest)) }
 {
     match string(alloc, text) {
         Ok(spelled) => Ok(Some(Taken {
@@ -110,6 +115,7 @@ fn any_string_at(alloc: Global, text: &[u8]) -> Result<Option<Taken>, Refusal>
     ensures within { IfOk result (λ found. IfSome found (λ taken. taken.len ≤ length text.now)) }
     ensures read { IfOk result (λ found. MatchOption found (IsNoPart Asked.AnyString text.now) (λ taken. IsPart Asked.AnyString text.now taken.value (drop taken.len text.now))) }
     ensures refused { IfErr result (Refuses (IsPartMisfit Asked.AnyString text.now)) }
+    ensures memory { IfErr result (Wants ((value : Value) × (rest : List ℕ) × IsPart Asked.AnyString text.now value rest)) }
 {
     match any_string(alloc, text)? {
         Some(spelled) => Ok(Some(Taken {
@@ -126,6 +132,7 @@ fn strings_at(alloc: Global, text: &[u8]) -> Result<Option<Taken>, Refusal>
     ensures within { IfOk result (λ found. IfSome found (λ taken. taken.len ≤ length text.now)) }
     ensures read { IfOk result (λ found. MatchOption found (IsNoPart Asked.Strings text.now) (λ taken. IsPart Asked.Strings text.now taken.value (drop taken.len text.now))) }
     ensures refused { IfErr result (Refuses (IsPartMisfit Asked.Strings text.now)) }
+    ensures memory { IfErr result (Wants ((value : Value) × (rest : List ℕ) × IsPart Asked.Strings text.now value rest)) }
 {
     match two_strings(alloc, text)? {
         Some(spelled) => Ok(Some(Taken {
@@ -137,26 +144,25 @@ fn strings_at(alloc: Global, text: &[u8]) -> Result<Option<Taken>, Refusal>
 }
 
 // The byte at the front of a text, or None where the text begins with a word that other parts may fit.
-fn byte_at(alloc: Global, text: &[u8]) -> Result<Option<Taken>, Refusal>
+fn byte_at(text: &[u8]) -> Result<Option<Taken>, Refusal>
     requires begins { get_or text.now 0 32 ≢ 32 }
     ensures within { IfOk result (λ found. IfSome found (λ taken. taken.len ≤ length text.now)) }
     ensures read { IfOk result (λ found. MatchOption found (IsNoPart Asked.Byte text.now) (λ taken. IsPart Asked.Byte text.now taken.value (drop taken.len text.now))) }
     ensures refused { IfErr result (Refuses (IsPartMisfit Asked.Byte text.now)) }
+    ensures memory { IfErr result (Wants ((value : Value) × (rest : List ℕ) × IsPart Asked.Byte text.now value rest)) }
 {
-    match byte(alloc, text) {
+    match byte(text) {
         Ok(spelled) => Ok(Some(Taken {
             value: Value::Byte(spelled.byte),
             len: spelled.len,
         })),
         Err(
-            Refusal::Fault(
-                TextFault {
-                    kind: FaultKind::UnknownWord,
-                    ..
-                },
-            ),
+            TextFault {
+                kind: FaultKind::UnknownWord,
+                ..
+            },
         ) => Ok(None),
-        Err(refusal) => Err(refusal),
+        Err(fault) => Err(Refusal::Fault(fault)),
     }
 }
 
@@ -165,6 +171,7 @@ fn number_at(text: &[u8], least: u32, most: u32) -> Result<Option<Taken>, Refusa
     ensures within { IfOk result (λ found. IfSome found (λ taken. taken.len ≤ length text.now)) }
     ensures read { IfOk result (λ found. MatchOption found (IsNoPart (Asked.Number least most) text.now) (λ taken. IsPart (Asked.Number least most) text.now taken.value (drop taken.len text.now))) }
     ensures refused { IfErr result (Refuses (IsPartMisfit (Asked.Number least most) text.now)) }
+    ensures memory { IfErr result (Wants ((value : Value) × (rest : List ℕ) × IsPart (Asked.Number least most) text.now value rest)) }
 {
     match number_in(text, u64::from(least), u64::from(most))? {
         Some(spelled) => Ok(Some(Taken {
@@ -180,6 +187,7 @@ fn times_at(text: &[u8]) -> Result<Option<Taken>, Refusal>
     ensures within { IfOk result (λ found. IfSome found (λ taken. taken.len ≤ length text.now)) }
     ensures read { IfOk result (λ found. MatchOption found (IsNoPart Asked.Times text.now) (λ taken. IsPart Asked.Times text.now taken.value (drop taken.len text.now))) }
     ensures refused { IfErr result (Refuses (IsPartMisfit Asked.Times text.now)) }
+    ensures memory { IfErr result (Wants ((value : Value) × (rest : List ℕ) × IsPart Asked.Times text.now value rest)) }
 {
     match times(text)? {
         Some(spelled) => Ok(Some(Taken {
@@ -209,6 +217,7 @@ fn name_at(alloc: Global, text: &[u8]) -> Result<Taken, Refusal>
     ensures within { IfOk result (λ taken. taken.len ≤ length text.now) }
     ensures read { IfOk result (λ taken. IsPart Asked.Name text.now taken.value (drop taken.len text.now)) }
     ensures refused { IfErr result (Refuses (IsPartMisfit Asked.Name text.now)) }
+    ensures memory { IfErr result (Wants ((value : Value) × (rest : List ℕ) × IsPart Asked.Name text.now value rest)) }
 {
     let spelled = name(alloc, text)?;
     Ok(Taken {
@@ -236,6 +245,7 @@ fn whole_at(text: &[u8]) -> Result<Option<Taken>, Refusal>
     ensures within { IfOk result (λ found. IfSome found (λ taken. taken.len ≤ length text.now)) }
     ensures read { IfOk result (λ found. MatchOption found (IsNoPart Asked.Whole text.now) (λ taken. IsPart Asked.Whole text.now taken.value (drop taken.len text.now))) }
     ensures refused { IfErr result (Refuses (IsPartMisfit Asked.Whole text.now)) }
+    ensures memory { IfErr result (Wants ((value : Value) × (rest : List ℕ) × IsPart Asked.Whole text.now value rest)) }
 {
     match whole(text)? {
         Some(spelled) => Ok(Some(Taken {
@@ -251,6 +261,7 @@ fn spot_at(text: &[u8]) -> Result<Option<Taken>, Refusal>
     ensures within { IfOk result (λ found. IfSome found (λ taken. taken.len ≤ length text.now)) }
     ensures read { IfOk result (λ found. MatchOption found (IsNoPart Asked.Spot text.now) (λ taken. IsPart Asked.Spot text.now taken.value (drop taken.len text.now))) }
     ensures refused { IfErr result (Refuses (IsPartMisfit Asked.Spot text.now)) }
+    ensures memory { IfErr result (Wants ((value : Value) × (rest : List ℕ) × IsPart Asked.Spot text.now value rest)) }
 {
     match spot(text)? {
         Some(spelled) => Ok(Some(Taken {

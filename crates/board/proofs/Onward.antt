@@ -4,7 +4,7 @@ use Rattle.std.proofs.Math.Bool.{or-false, or-true}
 use Rattle.std.proofs.lemmas.List.{nil_from_length}
 use Rattle.pipe_model.specs.declared.step.Entry.{Entry}
 use Rattle.core_machine.specs.Machine.{Machine, IsLawful, came_home, without}
-use Rattle.core_machine.specs.Answered.{HasRunOnRecords, HasBroken, IsEndOnRecords}
+use Rattle.core_machine.specs.Answered.{HasRunOnRecords, HasBrokenOnRecords, IsEndOnRecords}
 use Rattle.board.specs.Counts.{times, places_after}
 use Rattle.board.specs.Rule.{Kept, machine_of, made_since, HasMade}
 use Rattle.board.specs.Plays.{Sat, without_slot}
@@ -22,10 +22,10 @@ module _ (sights : Bool) (most : ℕ) (m k n : Machine) (p : ℕ) (sound : m.is_
   pub came_on : (made : ℕ) → HasRunOnRecords sights k made n → made ≤ most → IsEndOnRecords most made n → CameAs sights most m p (Home made) n
   came_on made run few ends = (sound, subst (λ (x : Machine). HasRunOnRecords sights x made n) home run, few, ends)
 
-  pub came_short : (start len : ℕ) → HasBroken k n → start ≡ length k.journal → len ≡ length n.journal → CameAs sights most m p (Short (len - start)) n
+  pub came_short : (start len : ℕ) → HasBrokenOnRecords sights most k n → start ≡ length k.journal → len ≡ length n.journal → CameAs sights most m p (Short (len - start)) n
   came_short start len broken start_is len_is =
-      let same : length k.journal ≡ length m.journal = ap (λ (x : Machine). length x.journal) home in let more = broken.more in
-      (sound, subst (λ (x : Machine). HasBroken x n) home broken, omega arith)
+      let same : length k.journal ≡ length m.journal = ap (λ (x : Machine). length x.journal) home in let more = broken.broke.more in
+      (sound, subst (λ (x : Machine). HasBrokenOnRecords sights most x n) home broken, omega arith)
 
 -- No step was made
 
@@ -128,23 +128,23 @@ module _ (m n : Sat) (h : IsHolder m) (l : Kept) (p : ℕ) (sights : Bool) (most
       held = h.held;
       shares = h.shares;
       turns = turns;
-      net = (f.1.net, f.1.budget);
-      journal = (f.1.longer.0, sym f.1.longer.1);
+      net = (f.1.broke.net, f.1.broke.budget);
+      journal = (f.1.broke.longer.0, sym f.1.broke.longer.1);
       lawful = lawful;
       jobs = λ q. let a = taken_out q p h.kept.0.out out_one in let b = times-cons q p but_last in let c = times-one q p in
-          let last = places_after-last q old_length new_length f.1.more in let d = ap (times q) f.1.out ∙ times-append q (without p h.kept.0.out) (new_length ∷ []) in omega arith;
-      parts = λ q. let a = more q in let b = times-cons q p but_last in let last = places_after-last q old_length new_length f.1.more in omega arith;
-      broken = f.1.broken ∙ sym (or-true h.kept.0.is_broken);
+          let last = places_after-last q old_length new_length f.1.broke.more in let d = ap (times q) f.1.broke.out ∙ times-append q (without p h.kept.0.out) (new_length ∷ []) in omega arith;
+      parts = λ q. let a = more q in let b = times-cons q p but_last in let last = places_after-last q old_length new_length f.1.broke.more in omega arith;
+      broken = f.1.broke.broken ∙ sym (or-true h.kept.0.is_broken);
     }
 
-    fell : (w : Sat) → GaveMade (p ∷ but_last) (new_length ∷ []) n w → FellShort (without_slot m.0) h.kept.0 p w.0
+    fell : (w : Sat) → GaveMade (p ∷ but_last) (new_length ∷ []) n w → FellShort (without_slot m.0) h.kept.0 p sights most w.0
     fell w gave =
         let g = (given_made m n h l (p ∷ but_last) (new_length ∷ []) e short_made w gave).0 in
         let same : l.0.journal ≡ w.0.seen = ap (λ (x : Machine). x.journal) (sym g.core) in
         record {
           held = g.held;
           sound = f.0;
-          core = subst (HasBroken (came_home h.kept.0 p)) (sym g.core) f.1;
+          core = subst (HasBrokenOnRecords sights most (came_home h.kept.0 p)) (sym g.core) f.1;
           mine = g.mine ∙ ap (λ (j : List Entry). m.0.mine ++ places_after old_length (length j)) same;
           home = g.home_is ∙ ap (λ (j : List Entry). m.0.home ++ p ∷ places_after old_length (length j - 1)) same;
           lost = g.lost_is ∙ ap (λ (j : List Entry). m.0.lost ++ length j ∷ []) same;
@@ -157,5 +157,5 @@ module _ (m n : Sat) (h : IsHolder m) (l : Kept) (p : ℕ) (sights : Bool) (most
       pub short_may : MayGiveMade made (place ∷ places_after (len - made) (len - 1)) (len ∷ []) n
       short_may = subst (λ (z : List ℕ × ℕ). MayGiveMade made z.0 (z.1 ∷ []) n) (λ i. (sym short_list i, sym now i)) (may_made m n h l (p ∷ but_last) (new_length ∷ []) e short_made made f.2)
 
-      pub fell_short : (w : Sat) → GaveMade (place ∷ places_after (len - made) (len - 1)) (len ∷ []) n w → IfKept m (λ x. FellShort (without_slot m.0) x.0 p w.0)
-      fell_short w gave = of_kept m h (λ (y : Kept). FellShort (without_slot m.0) y.0 p w.0) (fell w (subst (λ (z : List ℕ × ℕ). GaveMade z.0 (z.1 ∷ []) n w) (λ i. (short_list i, now i)) gave))
+      pub fell_short : (w : Sat) → GaveMade (place ∷ places_after (len - made) (len - 1)) (len ∷ []) n w → IfKept m (λ x. FellShort (without_slot m.0) x.0 p sights most w.0)
+      fell_short w gave = of_kept m h (λ (y : Kept). FellShort (without_slot m.0) y.0 p sights most w.0) (fell w (subst (λ (z : List ℕ × ℕ). GaveMade z.0 (z.1 ∷ []) n w) (λ i. (short_list i, now i)) gave))

@@ -8,7 +8,7 @@ use Rattle.board.specs.Rule.{Kept, Slot}
 use Rattle.board.specs.Plays.{Sat, Sees, Took, without_slot, kept_part, both}
 use Rattle.board.specs.Pass.{HasParts, the_view, IsPass}
 use Rattle.board.specs.Holding.{IfKept, IsAtRest}
-use Rattle.board.specs.Calls.{GoesOn, IsBusy, less_one_try, Held, TurnTold, TryTurnTold, AnyTold, TryAnyTold, FinishTold, FinishOnTold, WasLost, FellShort, TryFinishTold, HasNoJob, HasNone, Ends}
+use Rattle.board.specs.Calls.{GoesOn, IsBusy, less_one_try, Held, TurnTold, TryTurnTold, AnyTold, TryAnyTold, FinishTold, FinishOnTold, most_after, WasLost, FellShort, TryFinishTold, HasNoJob, HasNone, Ends}
 use Rattle.board.specs.declared.view.View.{View}
 use Rattle.board.specs.declared.answers.AtOnce.{AtOnce}
 use Rattle.board.specs.declared.answers.TryTurn.{TryTurn}
@@ -96,7 +96,7 @@ module _ {S : Type 0} (v w : View) (some : 0 < v.tries) where
   -- a finish that went on leaves more of its own
   pub finish_on_left : (place : ℕ) (sights : Bool) (at_once : AtOnce) (answer : TryFinish S) → FinishOnTold v place sights at_once answer w → Left v w
   finish_on_left place sights at_once End.Home t = held_left v w t.0 some t.1.held
-  finish_on_left place sights at_once End.NoMemory t = ⊎_elim (λ (lost : WasLost (less_one_try v) t.0 place w). held_left v w t.0 some lost.held) (λ (short : FellShort (less_one_try v) t.0 place w). held_left v w t.0 some short.held) t.1
+  finish_on_left place sights at_once End.NoMemory t = ⊎_elim (λ (lost : WasLost (less_one_try v) t.0 place w). held_left v w t.0 some lost.held) (λ (short : FellShort (less_one_try v) t.0 place sights (most_after at_once t.0 place) w). held_left v w t.0 some short.held) t.1
   finish_on_left place sights at_once (End.Busy back) t = absurd t.1
 
 -- what the one who took the core for good knows of it

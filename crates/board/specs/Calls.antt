@@ -8,7 +8,7 @@ use Rattle.pipe_model.specs.State.{Who}
 use Rattle.core_machine.specs.declared.job.Turned.TheVariants as Turn
 use Rattle.core_machine.specs.Machine.{Machine, IsLawful, licence_of, looks_at, came_home, broke_down}
 use Rattle.core_machine.specs.Jobs.{JobState, FinishedState}
-use Rattle.core_machine.specs.Answered.{IsLook, TurnedAs, LeastReady, HasRunOnRecords, HasBroken, IsEndOnRecords}
+use Rattle.core_machine.specs.Answered.{IsLook, TurnedAs, LeastReady, HasRunOnRecords, HasBrokenOnRecords, IsEndOnRecords}
 use Rattle.board.specs.Counts.{times, places, places_after, all_shares}
 use Rattle.board.specs.Rule.{machine_of}
 use Rattle.board.specs.Plays.{after_busy, without_slot, IsNew}
@@ -179,11 +179,11 @@ pub record WentOn (v : View) (m : Machine) (place : ℕ) (sights : Bool) (most :
   pub home : w.home ≡ v.home ++ place ∷ places_after (length m.journal) (length w.seen)
   pub lost : w.lost ≡ v.lost
 
--- the job came home to the core, and of its steps the last one wanted memory: the core is broken, and the place of that step is lost; the others are home
-pub record FellShort (v : View) (m : Machine) (place : ℕ) (w : View) : Type 0 where
+-- the job came home to the core, which then made such steps, at most as many, and the last one wanted memory: the core is broken, and the place of that step is lost; the others are home
+pub record FellShort (v : View) (m : Machine) (place : ℕ) (sights : Bool) (most : ℕ) (w : View) : Type 0 where
   pub held : Held v m w
   pub sound : m.is_broken ≡ false
-  pub core : HasBroken (came_home m place) (machine_of w)
+  pub core : HasBrokenOnRecords sights most (came_home m place) (machine_of w)
   pub mine : w.mine ≡ v.mine ++ places_after (length m.journal) (length w.seen)
   pub home : w.home ≡ v.home ++ place ∷ places_after (length m.journal) (length w.seen - 1)
   pub lost : w.lost ≡ v.lost ++ length w.seen ∷ []
@@ -202,7 +202,7 @@ module _ {S : Type 0} where
   -- what a finish says that held the slot and went on, by so many steps at most
   abbrev pub HeldFinishOn : View → Machine → ℕ → Bool → ℕ → TryFinish S → View → Type 0
   HeldFinishOn v m place sights most End.Home w = WentOn v m place sights most w
-  HeldFinishOn v m place sights most End.NoMemory w = WasLost v m place w ⊎ FellShort v m place w
+  HeldFinishOn v m place sights most End.NoMemory w = WasLost v m place w ⊎ FellShort v m place sights most w
   HeldFinishOn v m place sights most (End.Busy back) w = ⊥
 
   -- what such a finish says, which waits for the slot

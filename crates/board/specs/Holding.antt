@@ -1,7 +1,7 @@
 -- What a seat knows while it has the slot in hand. It serves the inside.
 use Rattle.std.specs.Prelude.{◌≡◌, ℕ, ◌+◌, ◌<◌, ◌≤◌, Bool, true, false, List, [], ◌∷◌, length, Some, None}
 use Rattle.core_machine.specs.Machine.{Machine, came_home, broke_down}
-use Rattle.core_machine.specs.Answered.{HasRunOnRecords, HasBroken, IsEndOnRecords}
+use Rattle.core_machine.specs.Answered.{HasRunOnRecords, HasBrokenOnRecords, IsEndOnRecords}
 use Rattle.board.specs.Counts.{all_tries}
 use Rattle.board.specs.Rule.{Kept, MayGive, HasMade}
 use Rattle.board.specs.Plays.{Sat, Sees, AreNew, new_places, after_raise, after_give}
@@ -72,5 +72,5 @@ abbrev pub CameAs : Bool → ℕ → Machine → ℕ → Came → Machine → Ty
 CameAs sights most m place (Home made) n =
     (m.is_broken ≡ false) × HasRunOnRecords sights (came_home m place) made n × (made ≤ most) × IsEndOnRecords most made n
 CameAs sights most m place (Short made) n =
-    (m.is_broken ≡ false) × HasBroken (came_home m place) n × (length n.journal ≡ length m.journal + made)
+    (m.is_broken ≡ false) × HasBrokenOnRecords sights most (came_home m place) n × (length n.journal ≡ length m.journal + made)
 CameAs sights most m place Lost n = n ≡ broke_down m

@@ -78,7 +78,7 @@ saw_it net st left s k i rec may = by_look (saw_asked (want_at net st left s) i 
     by_look (inr (inr is)) = at k (read k (hand k) (k == 0 && is_over st (link_in net st s k)) (does Gate is))
 
 -- what is in sight after an event isn't what it took
-not_took : (i : ℕ) (f : Event) (h : List Event) → in_sight i (f ∷ h) ≡ true → is_took i f ≡ false
+pub not_took : (i : ℕ) (f : Event) (h : List Event) → in_sight i (f ∷ h) ≡ true → is_took i f ≡ false
 not_took i (Took j) h p = (elim (j == i) as (λ b. (not b && in_sight i h) ≡ true → b ≡ false) [ true ↦ λ q. cc | false ↦ λ q. refl ]) p
 not_took i _ h p = refl
 

@@ -79,7 +79,7 @@ is_asking : (s : Strand) (h : List Event) → IsOwn s h → has_ended h ≡ fals
 is_asking s [] own going = elim (form s).row.early as (λ m. IsAsking (first_phase m)) [ None ↦ tt | Some code ↦ tt ]
 is_asking s (e ∷ h) own going = goes_on (form s).row s.ports.has_output _ _ h (past_of s h).phase e (still_wants s h e own.0) going
 
-wants_on : (s : Strand) (h : List Event) → IsOwn s h → has_ended h ≡ false → (w : Want) × (next s h ≡ Some w)
+pub wants_on : (s : Strand) (h : List Event) → IsOwn s h → has_ended h ≡ false → (w : Want) × (next s h ≡ Some w)
 wants_on s h own going =
     let w = wanting (past_of s h).phase (is_asking s h own going) in
     (w.0, wants_in s h (past_of s h) going refl ∙ w.1)

@@ -63,7 +63,7 @@ with_code l (Saw i rec ∷ h) p = with_code l h p
 with_code l (_ ∷ h) p = with_code l h p
 
 -- what was reached with a code was reached
-reached_up : (l c : ℤ) (h : List Event) → has_up l c h ≡ true → has_reached l h ≡ true
+pub reached_up : (l c : ℤ) (h : List Event) → has_up l c h ≡ true → has_reached l h ≡ true
 reached_up l c [] p = cc
 reached_up l c (Up m d ∷ h) p = (elim (int_eq m l) as (λ b. ((b && int_eq d c) || has_up l c h) ≡ true → (b || has_reached l h) ≡ true) [
   | true ↦ λ q. refl
@@ -153,7 +153,7 @@ nothing_more s e h it ended = (let q : answers (next s h) e ≡ false = ap (λ b
 
 module _ (s : Strand) (late : (form s).row.early ≡ None) where
   -- wherever the strand stands, it went as far as that says
-  up_to : (h : List Event) → IsOwn s h → UpTo (past_of s h).phase h
+  pub up_to : (h : List Event) → IsOwn s h → UpTo (past_of s h).phase h
   up_to [] own = subst (λ m. UpTo (first_phase m) []) (sym late) tt
   up_to (e ∷ h) own =
       let p = past_of s h in

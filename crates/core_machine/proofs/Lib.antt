@@ -2,6 +2,7 @@ pub mod Advanced
 pub mod Aheads
 pub mod Away
 pub mod BitSets
+pub mod Broken
 pub mod Clears
 pub mod Fills
 pub mod Followers

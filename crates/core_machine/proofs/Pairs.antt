@@ -11,7 +11,7 @@ use Rattle.pipe_model.specs.declared.step.Out.TheVariants.{Fresh}
 use Rattle.pipe_model.specs.declared.step.Seen.{Seen}
 use Rattle.pipe_model.specs.declared.step.Seen.TheVariants.{Saw, Took, Put}
 use Rattle.pipe_model.specs.declared.step.Want.{Want}
-use Rattle.pipe_model.specs.declared.step.Want.TheVariants.{Write, Read, Take}
+use Rattle.pipe_model.specs.declared.step.Want.TheVariants.{Write, Read}
 use Rattle.pipe_model.specs.Event.{Event}
 use Rattle.pipe_model.specs.Licence.{want_at, offered}
 use Rattle.pipe_model.specs.Play.{play}

@@ -16,7 +16,7 @@ use Rattle.core_machine.specs.declared.floor.Ahead.TheVariants as Known
 use Rattle.core_machine.specs.declared.run.Which.{Which}
 use Rattle.core_machine.specs.declared.run.Which.TheVariants.{All, OfRecords, Quiet}
 use Rattle.core_machine.specs.Ahead.{event_ahead, IsAhead}
-use Rattle.core_machine.specs.Answered.{LeastReady, LeastEvent, AreLeast, HasRun, AreOnRecords, HasRunOnRecords, IsEndOnRecords, HasBroken, HasMade, is_of_record}
+use Rattle.core_machine.specs.Answered.{LeastReady, LeastEvent, AreLeast, HasRun, AreOnRecords, HasRunOnRecords, IsEndOnRecords, HasMade, is_of_record}
 use Rattle.core_machine.specs.Machine.{Machine, left_by, state_of}
 use Rattle.core_machine.specs.Runs.{AreSteps, HasRunBy, IsEndBy, is_made, may_end}
 use Rattle.core_machine.proofs.Steps.{append_none, append_twice, append_three}
@@ -98,7 +98,7 @@ runs_make made m n k s i limit seen on few least is takes (inr two) =
     runs_go made m first k s two.0 limit (Told.Took two.0) next more two.1 (takes two.0) two.2
 
 -- two runs, one after the other, are one
-steps_join : (made : Seen → Bool) (m : Machine) (es fs : List Entry) → AreSteps made m es → AreSteps made (record m { journal = m.journal ++ es }) fs → AreSteps made m (es ++ fs)
+pub steps_join : (made : Seen → Bool) (m : Machine) (es fs : List Entry) → AreSteps made m es → AreSteps made (record m { journal = m.journal ++ es }) fs → AreSteps made m (es ++ fs)
 steps_join made m [] fs one two = subst (λ j. AreSteps made (record m { journal = j }) fs) (append_none m.journal) two
 steps_join made m (e ∷ es) fs one two =
     (one.0, steps_join made (record m { journal = m.journal ++ e ∷ [] }) es fs one.1 (subst (λ j. AreSteps made (record m { journal = j }) fs) (sym (append_twice m.journal e es)) two))
@@ -115,23 +115,8 @@ pub runs_on : (made : Seen → Bool) (m n k : Machine) (limit : ℕ) → IsUnder
 runs_on made m n k limit on run within =
     (runs_join made m n k on.0 run, ap (λ (z : Machine). z.is_broken) run.after ∙ on.1, within, subst (λ b. limit ≤ b) (sym (ap (λ (z : Machine). z.budget) run.after)) on.3)
 
--- where a step breaks it, it has broken
-pub runs_break : (made : Seen → Bool) (m n k : Machine) → HasRunBy made m n → HasBroken n k → HasBroken m k
-runs_break made m n k run lacks =
-    let longer : k.journal ≡ m.journal ++ (run.more ++ lacks.longer.0) =
-    lacks.longer.1 ∙ ap (λ (z : Machine). z.journal ++ lacks.longer.0) run.after ∙ append_three m.journal run.more lacks.longer.0 in
-    let long : length n.journal ≡ length m.journal + length run.more = ap (λ (z : Machine). length z.journal) run.after ∙ length-append m.journal run.more in
-    record {
-      broken = lacks.broken;
-      net = lacks.net ∙ ap (λ (z : Machine). z.net) run.after;
-      budget = lacks.budget ∙ ap (λ (z : Machine). z.budget) run.after;
-      longer = (run.more ++ lacks.longer.0, longer);
-      more = let a = lacks.more in omega (arith, a, long);
-      out = lacks.out ∙ ap (λ (z : Machine). z.out ++ length k.journal ∷ []) run.after;
-    }
-
 -- a run that makes events of one kind is one that makes events of a wider kind
-steps_wider : (made wider : Seen → Bool) → ((seen : Seen) → made seen ≡ true → wider seen ≡ true) → (m : Machine) (es : List Entry) → AreSteps made m es → AreSteps wider m es
+pub steps_wider : (made wider : Seen → Bool) → ((seen : Seen) → made seen ≡ true → wider seen ≡ true) → (m : Machine) (es : List Entry) → AreSteps made m es → AreSteps wider m es
 steps_wider made wider more m [] steps = tt
 steps_wider made wider more m (e ∷ es) steps = ((steps.0.0, steps.0.1, more steps.0.0 steps.0.2), steps_wider made wider more (record m { journal = m.journal ++ e ∷ [] }) es steps.1)
 
@@ -146,7 +131,7 @@ run_longer made m n run =
 
 -- Runs of one thread
 
-least_steps : (made : Seen → Bool) (m : Machine) (es : List Entry) → AreSteps made m es → AreLeast m es
+pub least_steps : (made : Seen → Bool) (m : Machine) (es : List Entry) → AreSteps made m es → AreLeast m es
 least_steps made m [] steps = tt
 least_steps made m (e ∷ es) steps = (steps.0.1.0, least_steps made (record m { journal = m.journal ++ e ∷ [] }) es steps.1)
 
@@ -162,7 +147,7 @@ spent_where_ready limit m r (inr (inr other)) ready = let a = other.2 in cc a
 
 -- Runs on records
 
-record_steps : (made : Seen → Bool) (sights : Bool) → ((seen : Seen) → made seen ≡ true → is_of_record sights seen ≡ true) → (m : Machine) (es : List Entry) → AreSteps made m es → AreOnRecords sights m es
+pub record_steps : (made : Seen → Bool) (sights : Bool) → ((seen : Seen) → made seen ≡ true → is_of_record sights seen ≡ true) → (m : Machine) (es : List Entry) → AreSteps made m es → AreOnRecords sights m es
 record_steps made sights is m [] steps = tt
 record_steps made sights is m (e ∷ es) steps = (
   (steps.0.0, steps.0.1, is steps.0.0 steps.0.2),

@@ -1,5 +1,5 @@
 -- What the answers of a core tell.
-use Rattle.std.specs.Prelude.{◌≡◌, ◌⊎◌, ℕ, ◌+◌, ◌<◌, ◌≤◌, Bool, true, false, List, [], ◌∷◌, ◌++◌, length, Option, Some, None, is_some, ℤ, if◌then◌else◌}
+use Rattle.std.specs.Prelude.{◌≡◌, ◌⊎◌, ℕ, ◌<◌, ◌≤◌, Bool, true, false, List, [], ◌∷◌, ◌++◌, length, Option, Some, None, is_some, ℤ, if◌then◌else◌}
 use Rattle.pipe_model.specs.declared.net.Strand.{Strand}
 use Rattle.pipe_model.specs.declared.step.Entry.{Entry}
 use Rattle.pipe_model.specs.declared.step.Out.TheVariants.{Fresh}
@@ -93,6 +93,11 @@ pub record HasBroken (m n : Machine) : Type 0 where
   pub more : length m.journal < length n.journal
   pub out : n.out ≡ m.out ++ length n.journal ∷ []
 
+-- it broke on the way of the least steps
+pub record HasBrokenLeast (m n : Machine) : Type 0 where
+  pub broke : HasBroken m n
+  pub least : AreLeast m broke.longer.0
+
 -- a record was taken or put, or, with sights, seen
 abbrev pub is_of_record : Bool → Seen → Bool
 is_of_record sights (Took i) = true
@@ -112,6 +117,12 @@ pub record HasRunOnRecords (sights : Bool) (m : Machine) (made : ℕ) (n : Machi
   pub steps : AreOnRecords sights m more
   pub after : n ≡ record m { journal = m.journal ++ more }
   pub made_is : made ≡ length more
+
+-- it broke on the way so, by at most so many steps
+pub record HasBrokenOnRecords (sights : Bool) (most : ℕ) (m n : Machine) : Type 0 where
+  pub broke : HasBroken m n
+  pub steps : AreOnRecords sights m broke.longer.0
+  pub few : length broke.longer.0 ≤ most
 
 -- why it goes on no further: all steps that it might make are made, or the budget is used up, or no strand may have an event, or by the least no record is taken or put
 abbrev pub IsEndOnRecords : ℕ → ℕ → Machine → Type 0

@@ -5,12 +5,10 @@ ghost use Rattle.pipe_model.specs.declared.step.Out.TheVariants as Outs;
 ghost use Rattle.pipe_model.specs.declared.step.Seen.TheVariants as Told;
 ghost use Rattle.pipe_model.specs.declared.step.Want.TheVariants as Asks;
 ghost use Rattle.core_machine.specs.Actors.{IsClearFor};
-ghost use Rattle.core_machine.specs.Answered.{IsLonger};
 ghost use Rattle.core_machine.specs.Floor.{IsInUse};
 ghost use Rattle.core_machine.specs.Pairs.{IsPair, IsDue, IsWriter};
-ghost use Rattle.core_machine.specs.Runs.{AreSteps, is_made};
+ghost use Rattle.core_machine.specs.Runs.{HasRelayed};
 ghost use Rattle.core_machine.specs.Sound.{IsSound};
-ghost use Rattle.core_machine.specs.declared.run.Which.TheVariants as Makes;
 
 use crate::actor::{Actor, give_up, see};
 use crate::floor::Floor;
@@ -110,12 +108,11 @@ pub(crate) fn relay<S: Stage, G: Gate>(
     requires room_out { length floor.old.net.strands ≤ vec_capacity out.old }
     ensures net { floor.new.net ≡ floor.old.net }
     ensures sound { IsSound S.stands floor.new.net limit journal.new.items out.new.items actors.new.items floor.new.desk floor.new.pool }
-    ensures goes { IfOk result (λ _. (more : List EntryIs) × (journal.new.items ≡ journal.old.items ++ more)
-        × ((budget : ℕ) (broken : Bool) → AreSteps (is_made Makes.OfRecords) (record { net = floor.old.net; budget = budget; journal = journal.old.items; out = out.old.items; is_broken = broken }) more)) }
+    ensures goes { IfOk result (λ _. HasRelayed floor.old.net out.old.items journal.old.items journal.new.items) }
     ensures more { IfOk result (λ over. over ≡ true → length journal.old.items < length journal.new.items) }
     ensures out { OnOk result (out.new.items ≡ out.old.items) }
     ensures due { IfOk result (λ over. over ≡ false → IsDue floor.new.net floor.new.desk floor.new.pool pair) }
-    ensures lacks { OnErr result (IsLonger journal.old.items journal.new.items × (length journal.old.items < length journal.new.items) × (out.new.items ≡ out.old.items ++ length journal.new.items ∷ [])) }
+    ensures lacks { OnErr result (HasRelayed floor.old.net out.old.items journal.old.items journal.new.items × (length journal.old.items < length journal.new.items) × (out.new.items ≡ out.old.items ++ length journal.new.items ∷ [])) }
     ensures capacity { journal.new.room ≡ journal.old.room }
     ensures capacity_out { vec_capacity out.new ≡ vec_capacity out.old }
 {

@@ -52,9 +52,9 @@ impl<S: Stage> Core<S> {
     ghost use Rattle.pipe_model.specs.declared.step.Seen.TheVariants as Told;
     ghost use Rattle.stage_steps.specs.Coroutine.{told};
     ghost use Rattle.core_machine.specs.Ahead.{IsAhead};
-    ghost use Rattle.core_machine.specs.Machine.{licence_of, IsLawful};
-    ghost use Rattle.core_machine.specs.Answered.{LeastEvent, HasRun, HasRunOnRecords, HasBroken, HasMade, Ends, IsEndOnRecords};
-    ghost use Rattle.core_machine.specs.Runs.{is_made, may_end, HasRunBy, IsEndBy};
+    ghost use Rattle.core_machine.specs.Machine.{licence_of, turned, broke_down, IsLawful};
+    ghost use Rattle.core_machine.specs.Answered.{LeastEvent, HasRun, HasRunOnRecords, HasBrokenLeast, HasBrokenOnRecords, HasMade, Ends, IsEndOnRecords};
+    ghost use Rattle.core_machine.specs.Runs.{is_made, may_end, HasRunBy, HasBrokenBy, IsEndBy};
     ghost use Rattle.core_machine.specs.declared.run.Which.TheVariants as Makes;
 
     /// Makes the least event that may be, of the least strand on its least stream, until there is none or the journal
@@ -64,7 +64,7 @@ impl<S: Stage> Core<S> {
         requires home { self.old.out ≡ [] }
         requires whole { self.old.is_broken ≡ false }
         ensures runs { IfOk result (λ end. HasRun self.old self.new × Ends end self.new) }
-        ensures lacks { OnErr result (HasBroken self.old self.new) }
+        ensures lacks { OnErr result (HasBrokenLeast self.old self.new) }
         ensures lawful { IsLawful self.new }
     {
         self.run(alloc, gate, Which::All, self.budget)?;
@@ -87,7 +87,7 @@ impl<S: Stage> Core<S> {
         requires whole { self.old.is_broken ≡ false }
         ensures runs { IfOk result (λ made. HasRunOnRecords sights self.old made self.new × (made ≤ most)) }
         ensures ends { IfOk result (λ made. IsEndOnRecords most made self.new) }
-        ensures lacks { OnErr result (HasBroken self.old self.new) }
+        ensures lacks { OnErr result (HasBrokenOnRecords sights most self.old self.new) }
         ensures lawful { IsLawful self.new }
     {
         let start = self.len();
@@ -117,7 +117,7 @@ impl<S: Stage> Core<S> {
         ensures runs { IfOk result (λ _. HasRunBy (is_made which) self.old self.new) }
         ensures within { IfOk result (λ _. length self.new.journal ≤ limit) }
         ensures ends { IfOk result (λ _. IsEndBy (may_end which) limit self.new) }
-        ensures lacks { OnErr result (HasBroken self.old self.new) }
+        ensures lacks { OnErr result (HasBrokenBy (is_made which) limit self.old self.new) }
         ensures lawful { IsLawful self.new }
     {
         let mut ahead = Ahead::Search;
@@ -173,7 +173,7 @@ impl<S: Stage> Core<S> {
         ensures runs { IfOk result (λ _. HasRunBy (is_made which) self.old self.new) }
         ensures within { IfOk result (λ _. length self.new.journal ≤ limit) }
         ensures ends { IfOk result (λ _. IsEndBy (may_end which) limit self.new) }
-        ensures lacks { OnErr result (HasBroken self.old self.new) }
+        ensures lacks { OnErr result (HasBrokenBy (is_made which) limit self.old self.new) }
         ensures lawful { IsLawful self.new }
     {
         if self.len() >= limit {
@@ -204,7 +204,7 @@ impl<S: Stage> Core<S> {
         requires whole { self.old.is_broken ≡ false }
         ensures goes { OnOk result (self.new ≡ record self.old { journal = self.old.journal ++ (record { strand = strand; stream = stream }) ∷ [] }) }
         ensures ahead { IfOk result (IsAhead self.new) }
-        ensures lacks { OnErr result (HasBroken self.old self.new) }
+        ensures lacks { OnErr result (self.new ≡ broke_down (turned self.old (record { strand = strand; stream = stream }))) }
         ensures lawful { IsLawful self.new }
     {
         self.go_on(alloc, gate, strand, stream, seen)
@@ -232,7 +232,7 @@ impl<S: Stage> Core<S> {
         requires whole { self.old.is_broken ≡ false }
         ensures goes { OnOk result (HasMade self.old (record { strand = strand; stream = i }) self.new) }
         ensures ahead { IfOk result (IsAhead self.new) }
-        ensures lacks { OnErr result (HasBroken self.old self.new) }
+        ensures lacks { OnErr result (self.new ≡ broke_down (turned self.old (record { strand = strand; stream = i }))) }
         ensures lawful { IsLawful self.new }
     {
         if self.floor.may_settle(strand, Seen::Saw(i)) {
@@ -282,7 +282,7 @@ impl<S: Stage> Core<S> {
         requires whole { self.old.is_broken ≡ false }
         ensures goes { OnOk result (self.new ≡ record self.old { journal = self.old.journal ++ (record { strand = strand; stream = i }) ∷ [] }) }
         ensures ahead { IfOk result (IsAhead self.new) }
-        ensures lacks { OnErr result (HasBroken self.old self.new) }
+        ensures lacks { OnErr result (self.new ≡ broke_down (turned self.old (record { strand = strand; stream = i }))) }
         ensures lawful { IsLawful self.new }
     {
         self.go_on(alloc, gate, strand, i, Seen::Saw(i))
@@ -310,7 +310,7 @@ impl<S: Stage> Core<S> {
         ensures more { OnOk result (length self.old.journal < length self.new.journal) }
         ensures within { OnOk result (length self.new.journal ≤ limit) }
         ensures ahead { IfOk result (IsAhead self.new) }
-        ensures lacks { OnErr result (HasBroken self.old self.new) }
+        ensures lacks { OnErr result (HasBrokenBy (is_made which) limit self.old self.new) }
         ensures lawful { IsLawful self.new }
     {
         if at_once {
@@ -355,7 +355,7 @@ impl<S: Stage> Core<S> {
         ensures more { IfOk result (λ over. over ≡ true → length self.old.journal < length self.new.journal) }
         ensures within { OnOk result (length self.new.journal ≤ limit) }
         ensures due { IfOk result (λ over. over ≡ false → LeastEvent self.new (Some (strand, o, Told.Put o))) }
-        ensures lacks { OnErr result (HasBroken self.old self.new) }
+        ensures lacks { OnErr result (HasBrokenBy (is_made Makes.OfRecords) limit self.old self.new) }
         ensures lawful { IsLawful self.new }
     {
         let Some(pair) = pair_of(&self.floor, &self.actors, strand, o) else {
@@ -392,7 +392,7 @@ impl<S: Stage> Core<S> {
         requires whole { self.old.is_broken ≡ false }
         ensures goes { OnOk result (HasMade self.old (record { strand = strand; stream = o }) self.new) }
         ensures ahead { IfOk result (IsAhead self.new) }
-        ensures lacks { OnErr result (HasBroken self.old self.new) }
+        ensures lacks { OnErr result (self.new ≡ broke_down (turned self.old (record { strand = strand; stream = o }))) }
         ensures lawful { IsLawful self.new }
     {
         let Some(link) = self.floor.rendezvous_at(strand, o) else {
@@ -438,7 +438,7 @@ impl<S: Stage> Core<S> {
         requires whole { self.old.is_broken ≡ false }
         ensures goes { OnOk result (self.new ≡ record self.old { journal = self.old.journal ++ (record { strand = strand; stream = o }) ∷ [] }) }
         ensures ahead { IfOk result (IsAhead self.new) }
-        ensures lacks { OnErr result (HasBroken self.old self.new) }
+        ensures lacks { OnErr result (self.new ≡ broke_down (turned self.old (record { strand = strand; stream = o }))) }
         ensures lawful { IsLawful self.new }
     {
         self.go_on(alloc, gate, strand, o, Seen::Put(o))
@@ -459,7 +459,7 @@ impl<S: Stage> Core<S> {
         requires whole { self.old.is_broken ≡ false }
         ensures goes { OnOk result (self.new ≡ record self.old { journal = self.old.journal ++ (record { strand = strand; stream = stream }) ∷ [] }) }
         ensures ahead { IfOk result (IsAhead self.new) }
-        ensures lacks { OnErr result (HasBroken self.old self.new) }
+        ensures lacks { OnErr result (self.new ≡ broke_down (turned self.old (record { strand = strand; stream = stream }))) }
         ensures lawful { IsLawful self.new }
     {
         if let Seen::Saw(_) = seen {

@@ -12,6 +12,7 @@ pub mod ItemRuns
 pub mod LabelEntries
 pub mod Leasts
 pub mod Loads
+pub mod LoneSigns
 pub mod Nowhere
 pub mod OneBodies
 pub mod OneOutsets

@@ -45,12 +45,12 @@ went_settled v w m place sights most owes t q =
     let d = times-cons q place new in let e = times-one q place in let f = ap (times q) t.lost in omega arith
 
 -- the same, but the last of these steps is lost
-pub short_settled : (v w : View) (m : Machine) (place : ℕ) → Owes v place → FellShort (less_one_try v) m place w → IsSettled w
-short_settled v w m place owes t q =
+pub short_settled : (v w : View) (m : Machine) (place : ℕ) (sights : Bool) (most : ℕ) → Owes v place → FellShort (less_one_try v) m place sights most w → IsSettled w
+short_settled v w m place sights most owes t q =
     let n : ℕ = length w.seen in let new : List ℕ = places_after (length m.journal) n in let rest : List ℕ = places_after (length m.journal) (n - 1) in
     let a = owes q in let b = ap (times q) t.mine ∙ times-append q v.mine new in let c = ap (times q) t.home ∙ times-append q v.home (place ∷ rest) in
     let d = times-cons q place rest in let e = times-one q place in let f = ap (times q) t.lost ∙ times-append q v.lost (n ∷ []) in
-    let last = places_after-last q (length m.journal) n t.core.more in omega arith
+    let last = places_after-last q (length m.journal) n t.core.broke.more in omega arith
 
 pub still_settled : (v w : View) → IsSettled v → w.mine ≡ v.mine → (w.home ≡ v.home) × (w.lost ≡ v.lost) → IsSettled w
 still_settled v w settled mine others q = let a = settled q in let b = ap (times q) mine in let c = ap (times q) others.0 in let d = ap (times q) others.1 in omega arith

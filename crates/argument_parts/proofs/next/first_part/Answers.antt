@@ -15,3 +15,8 @@ loop-part-preserved c = elim c.match-part_at.branch [
       (let misfit = rw w.in-Err-Fault.field-0-is at w.in-Err-Fault.ensures.refused in
       rw (w.first-is, w.unwrap_or.ensures) (passed_misfit c.args.text.now c.args.parts.now c.loop-part.part-index _ c.loop-part.first (omega arith) c.loop-part.invariant w.in-Err-Fault.fault misfit))
 ]
+
+pub returns-in-Err-NoMemory-clause-memory : goal.returns-in-Err-NoMemory-clause-memory
+returns-in-Err-NoMemory-clause-memory c =
+    let part = rw c.in-Err-NoMemory.field-0-is at c.in-Err-NoMemory.ensures.memory in
+    (part.0, part.1, first_fits c.args.text.now c.args.parts.now c.loop-part.part-index _ c.loop-part.first (omega arith) c.loop-part.invariant part.0 part.1 part.2)

@@ -1,5 +1,5 @@
 -- The two strands are what the desk and the net tell of them.
-use Rattle.std.proofs.Common.{rules, ◌≡◌, refl, ◌∙◌}
+use Rattle.std.proofs.Common.{rules, refl}
 use Rattle.std.proofs.lemmas.Option.{slice_get_within}
 use Rattle.core_machine.proofs.Sounds.{actor_at, in_use}
 use Rattle.core_machine.proofs.Rounds.{offer_held}

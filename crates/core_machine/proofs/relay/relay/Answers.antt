@@ -1,7 +1,6 @@
 -- In each round the core is sound, and the writer's record is due to be put.
-use Rattle.std.proofs.Common.{rules, ◌≡◌, ◌≢◌, ◌<◌, ◌≤◌, ◌++◌, ◌∷◌, ◌+◌, ◌-◌, ℕ, Bool, true, List, [], length, refl, sym, ◌∙◌, ap, subst, arith, slice_set, IfOk}
+use Rattle.std.proofs.Common.{rules, ◌≡◌, ◌≢◌, ◌<◌, ◌≤◌, ◌++◌, ◌∷◌, ◌+◌, ◌-◌, ℕ, true, List, [], length, refl, sym, ◌∙◌, ap, subst, arith, slice_set, IfOk}
 use Rattle.std.proofs.lemmas.Bool.{ltb-false}
-use Rattle.pipe_model.specs.declared.step.Entry.{Entry}
 use Rattle.pipe_model.proofs.Lists.{get_set_same}
 use Rattle.stage_steps.specs.Showings.{IsShowing, IsCutting}
 use Rattle.stage_steps.specs.declared.reply.Reply.TheVariants.{Takes}
@@ -9,11 +8,10 @@ use Rattle.run_desk.specs.Desk.{DeskState}
 use Rattle.run_desk.specs.Relaying.{desk_showing, pool_refilled}
 use Rattle.run_desk.specs.Telling.{ended_at}
 use Rattle.run_desk.specs.Turns.{CanCome, bare, offer_on}
-use Rattle.core_machine.specs.declared.run.Which.TheVariants.{OfRecords}
 use Rattle.core_machine.specs.Actors.{HasSeen, IsClearFor, asking_for, given_up}
 use Rattle.core_machine.specs.Floor.{FloorState, IsInUse, StaysEarly}
 use Rattle.core_machine.specs.Pairs.{with_stage}
-use Rattle.core_machine.specs.Runs.{AreSteps, is_made}
+use Rattle.core_machine.specs.Runs.{HasRelayed}
 use Rattle.core_machine.specs.Woken.{HasReturned}
 use Rattle.core_machine.proofs.Clears.{clear_covers, clear_found, clear_next, clear_none, clear_round}
 use Rattle.core_machine.proofs.Rounds.{begins, comes_round, due_back, early_round, few_there, goes_round, held_end, held_still, home_round, last_pool, live_round, lost_round, may_show, offers_grip, on_covers, read_is, one_out, place_end, place_link, reader_at, reader_back, saw_only, sees, shown_covers_at, sound_back, takes_so, two_longer, two_steps, used_round, writer_back, writer_end, writer_home}
@@ -42,8 +40,7 @@ longer g c =
     two_longer_by c.args.pair c.args.journal.now.items c.loop-rounds.journal.items c.loop-rounds.rounds c.push_rounds.new.self.items c.push_reserved.new.self.items c.push_reserved-in-loop-rounds.new.self.items (ap (λ j. j.items) c.loop-rounds.invariant.2) c.push_rounds.ensures.items c.push_reserved.ensures.items c.push_reserved-in-loop-rounds.ensures.items
 
 -- by steps of the core
-pushed_more : (g : Over) (c : After-copied g) → (more : List Entry) × (c.push_reserved-in-loop-rounds.new.self.items ≡ c.args.journal.now.items ++ more)
-    × ((budget : ℕ) (broken : Bool) → AreSteps (is_made OfRecords) (record { net = c.args.floor.now.net; budget = budget; journal = c.args.journal.now.items; out = c.args.out.now.items; is_broken = broken }) more)
+pushed_more : (g : Over) (c : After-copied g) → HasRelayed c.args.floor.now.net c.args.out.now.items c.args.journal.now.items c.push_reserved-in-loop-rounds.new.self.items
 pushed_more g c =
     let r = c.loop-rounds.invariant.0 in
     let space = round_space c.args.pair c.args.journal.now.items c.args.limit c.len.result c.loop-rounds.rounds c.len.ensures c.loop-rounds-test.true in
@@ -216,20 +213,18 @@ pub returns-in-loop-rounds-clause-more : goal.returns-in-loop-rounds-clause-more
 returns-in-loop-rounds-clause-more g c = λ over. longer g (goal.at.returns-in-loop-rounds-clause-more g c).After-copied
 
 pub returns-in_default-reply-2-clause-lacks : goal.returns-in_default-reply-2-clause-lacks
-returns-in_default-reply-2-clause-lacks g c =
-    let more = pushed_more g (goal.at.returns-in_default-reply-2-clause-lacks g c).After-copied in (
-      (more.0, more.1),
-      longer g (goal.at.returns-in_default-reply-2-clause-lacks g c).After-copied,
-      c.give_up.ensures.out ∙ ap (λ (o : List ℕ). o ++ c.len-in_default-reply-2.result ∷ []) (ap (λ o. o.items) c.loop-rounds.invariant.1) ∙ ap (λ n. c.args.out.now.items ++ n ∷ []) c.len-in_default-reply-2.ensures,
-    )
+returns-in_default-reply-2-clause-lacks g c = (
+  pushed_more g (goal.at.returns-in_default-reply-2-clause-lacks g c).After-copied,
+  longer g (goal.at.returns-in_default-reply-2-clause-lacks g c).After-copied,
+  c.give_up.ensures.out ∙ ap (λ (o : List ℕ). o ++ c.len-in_default-reply-2.result ∷ []) (ap (λ o. o.items) c.loop-rounds.invariant.1) ∙ ap (λ n. c.args.out.now.items ++ n ∷ []) c.len-in_default-reply-2.ensures,
+)
 
 pub returns-in_default-come_home-clause-lacks : goal.returns-in_default-come_home-clause-lacks
-returns-in_default-come_home-clause-lacks g c =
-    let more = pushed_more g (goal.at.returns-in_default-come_home-clause-lacks g c).After-copied in (
-      (more.0, more.1),
-      longer g (goal.at.returns-in_default-come_home-clause-lacks g c).After-copied,
-      c.give_up-in_default-come_home.ensures.out ∙ ap (λ (o : List ℕ). o ++ c.len-in_default-come_home.result ∷ []) (ap (λ o. o.items) c.loop-rounds.invariant.1) ∙ ap (λ n. c.args.out.now.items ++ n ∷ []) c.len-in_default-come_home.ensures,
-    )
+returns-in_default-come_home-clause-lacks g c = (
+  pushed_more g (goal.at.returns-in_default-come_home-clause-lacks g c).After-copied,
+  longer g (goal.at.returns-in_default-come_home-clause-lacks g c).After-copied,
+  c.give_up-in_default-come_home.ensures.out ∙ ap (λ (o : List ℕ). o ++ c.len-in_default-come_home.result ∷ []) (ap (λ o. o.items) c.loop-rounds.invariant.1) ∙ ap (λ n. c.args.out.now.items ++ n ∷ []) c.len-in_default-come_home.ensures,
+)
 
 pub returns-clause-goes : goal.returns-clause-goes
 returns-clause-goes g c =

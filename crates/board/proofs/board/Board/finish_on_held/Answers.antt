@@ -1,7 +1,7 @@
 use Rattle.std.proofs.Common.{ℕ, sym, subst, ap, ◌∙◌, inl, inr, [], ◌∷◌}
 use Rattle.board.specs.Rule.{Kept}
 use Rattle.board.specs.Plays.{without_slot}
-use Rattle.board.specs.Calls.{WentOn, most_after}
+use Rattle.board.specs.Calls.{WentOn, FellShort, most_after}
 use Rattle.board.specs.Holding.{CameAs, MayGiveBack, GaveBack}
 use Rattle.board.specs.declared.core_box.Came.{Came}
 use Rattle.board.specs.declared.core_box.Came.TheVariants.{Home}
@@ -49,7 +49,8 @@ returns-in-Home-clause-told g c = let h = c.requires.holder in let p = c.args.do
 pub returns-in-Short-clause-told : goal.returns-in-Short-clause-told
 returns-in-Short-clause-told g c k at = let h = c.requires.holder in let p = c.args.done.place in let sights = c.args.sights in let most = most_after c.args.at_once h.kept.0 p in let t = c.finish_on_core-came.ensures.came h.kept h.slot in let n = c.finish_on_core-came.new.seat.me in
     let f = subst (λ (x : Came). CameAs sights most h.kept.0 p x t.0.0) c.in-Short.is t.2 in
-    inr (fell_short c.args.seat.now.me n h t.0 p sights most c.in-Short.made c.requires.can t.1 t.4 t.5 f c.place-place.result c.finish_on_core-came.result.1 c.place-place.ensures t.3 c.give_short.new.seat.me c.give_short.ensures.gave k at)
+    inr (of_kept c.args.seat.now.me h (λ (y : Kept). FellShort (without_slot c.args.seat.now.me.0) y.0 p sights (most_after c.args.at_once y.0 p) c.give_short.new.seat.me.0)
+    (fell_short c.args.seat.now.me n h t.0 p sights most c.in-Short.made c.requires.can t.1 t.4 t.5 f c.place-place.result c.finish_on_core-came.result.1 c.place-place.ensures t.3 c.give_short.new.seat.me c.give_short.ensures.gave h.kept h.slot) k at)
 
 pub returns-in-Lost-clause-told : goal.returns-in-Lost-clause-told
 returns-in-Lost-clause-told g c k at = let h = c.requires.holder in let p = c.args.done.place in let sights = c.args.sights in let most = most_after c.args.at_once h.kept.0 p in let t = c.finish_on_core-came.ensures.came h.kept h.slot in let n = c.finish_on_core-came.new.seat.me in let w = c.give_lost.new.seat.me in

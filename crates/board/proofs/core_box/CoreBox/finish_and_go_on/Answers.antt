@@ -1,6 +1,6 @@
 use Rattle.std.proofs.Common.{rules, ◌≡◌, Bool, false, ℕ, length, sym, ◌∙◌, ap, subst}
 use Rattle.core_machine.specs.Machine.{Machine, came_home}
-use Rattle.core_machine.specs.Answered.{HasRunOnRecords, HasBroken}
+use Rattle.core_machine.specs.Answered.{HasRunOnRecords, HasBrokenOnRecords}
 use Rattle.board.specs.Calls.{most_beside, most_after}
 use Rattle.board.specs.Holding.{CameAs}
 use Rattle.board.specs.declared.core_box.Came.{Came}
@@ -22,5 +22,5 @@ returns-clause-came g c =
       | in-Ok w ↦ let made : ℕ = w.in-Ok.made in let q = w.in-Ok.ensures.runs in
           subst (λ (x : Came). CameAs sights most m p x n) (sym w.result-is) (came_on sights most m k n p sound home made (subst (λ (x : Machine). HasRunOnRecords sights x made n) begun q.0) q.1 w.in-Ok.ensures.ends)
       | in-Err w ↦
-          subst (λ (x : Came). CameAs sights most m p x n) (sym w.result-is) (came_short sights most m k n p sound home c.len-start.result w.len.result (subst (λ (x : Machine). HasBroken x n) begun w.in-Err.ensures.lacks) (search rules) (search rules))
+          subst (λ (x : Came). CameAs sights most m p x n) (sym w.result-is) (came_short sights most m k n p sound home c.len-start.result w.len.result (subst (λ (x : Machine). HasBrokenOnRecords sights most x n) begun w.in-Err.ensures.lacks) (search rules) (search rules))
     ])

@@ -1,13 +1,12 @@
 -- What the two strands did is a run of the core.
-use Rattle.std.proofs.Common.{◌≡◌, ◌<◌, ◌≤◌, ◌++◌, ◌∷◌, ℕ, Bool, List, [], Some, true, false, length, refl, sym, ◌∙◌, ap, subst, arith, vec_capacity}
+use Rattle.std.proofs.Common.{◌≡◌, ◌<◌, ◌≤◌, ◌++◌, ◌∷◌, Bool, [], Some, true, false, length, refl, sym, ◌∙◌, ap, subst, arith, vec_capacity}
 use Rattle.pipe_model.specs.declared.net.Net.{Net}
-use Rattle.pipe_model.specs.declared.step.Entry.{Entry}
 use Rattle.pipe_model.specs.declared.step.Seen.TheVariants.{Put}
 use Rattle.core_machine.specs.declared.run.Which.TheVariants.{OfRecords}
-use Rattle.core_machine.specs.Answered.{LeastEvent, HasBroken, IsLonger}
+use Rattle.core_machine.specs.Answered.{LeastEvent}
 use Rattle.core_machine.specs.Machine.{Machine}
 use Rattle.core_machine.specs.Pairs.{IsDue}
-use Rattle.core_machine.specs.Runs.{AreSteps, HasRunBy, is_made}
+use Rattle.core_machine.specs.Runs.{HasRelayed, HasRunBy, HasBrokenBy, is_made}
 use Rattle.core_machine.specs.Woken.{LeastEventAwake}
 use Rattle.core_machine.proofs.Rounds.{sound_up_to}
 use Rattle.core_machine.proofs.Runs.{err_so, ok_both, ok_each}
@@ -59,18 +58,21 @@ returns-then-is_err-clause-lacks g c =
     let i = c.self.inside in
     let n = c.relay-relayed.new in
     let v : ◌≡◌ {A = Machine} (record { net = i.floor.net; budget = i.budget; journal = i.journal.items; out = i.out.items; is_broken = i.is_broken }) c.args.self.now = c.self.view_is in
-    err_so (IsLonger i.journal.items n.journal.items × (length i.journal.items < length n.journal.items) × (n.out.items ≡ i.out.items ++ length n.journal.items ∷ []))
-    (HasBroken c.args.self.now (record { net = n.floor.net; budget = i.budget; journal = n.journal.items; out = n.out.items; is_broken = true })) c.relay-relayed.result
-    (λ lacks. subst (λ (z : Machine). HasBroken z (record { net = n.floor.net; budget = i.budget; journal = n.journal.items; out = n.out.items; is_broken = true })) v
-    (record { broken = refl; net = c.relay-relayed.ensures.net; budget = refl; longer = lacks.0; more = lacks.1; out = lacks.2 })) c.relay-relayed.ensures.lacks
+    let broken : Machine = record { net = n.floor.net; budget = i.budget; journal = n.journal.items; out = n.out.items; is_broken = true } in
+    err_so (HasRelayed i.floor.net i.out.items i.journal.items n.journal.items × (length i.journal.items < length n.journal.items) × (n.out.items ≡ i.out.items ++ length n.journal.items ∷ []))
+    (HasBrokenBy (is_made OfRecords) c.args.limit c.args.self.now broken) c.relay-relayed.result
+    (λ lacks. subst (λ (z : Machine). HasBrokenBy (is_made OfRecords) c.args.limit z broken) v (record {
+      broke = record { broken = refl; net = c.relay-relayed.ensures.net; budget = refl; longer = (lacks.0.0, lacks.0.1); more = lacks.1; out = lacks.2 };
+      steps = lacks.0.2 i.budget i.is_broken;
+      within = c.relay-relayed.ensures.sound.within;
+    })) c.relay-relayed.ensures.lacks
 
 pub returns-else-is_err-clause-goes : goal.returns-else-is_err-clause-goes
 returns-else-is_err-clause-goes g c =
     let i = c.self.inside in
     let n = c.relay-relayed.new in
     let v : ◌≡◌ {A = Machine} (record { net = i.floor.net; budget = i.budget; journal = i.journal.items; out = i.out.items; is_broken = i.is_broken }) c.args.self.now = c.self.view_is in
-    ok_both ((more : List Entry) × (n.journal.items ≡ i.journal.items ++ more)
-    × ((budget : ℕ) (broken : Bool) → AreSteps (is_made OfRecords) (record { net = i.floor.net; budget = budget; journal = i.journal.items; out = i.out.items; is_broken = broken }) more))
+    ok_both (HasRelayed i.floor.net i.out.items i.journal.items n.journal.items)
     (n.out.items ≡ i.out.items) (HasRunBy (is_made OfRecords) c.args.self.now (record { net = n.floor.net; budget = i.budget; journal = n.journal.items; out = n.out.items; is_broken = i.is_broken })) c.relay-relayed.result
     (λ goes outs. subst (λ (z : Machine). HasRunBy (is_made OfRecords) z (record { net = n.floor.net; budget = i.budget; journal = n.journal.items; out = n.out.items; is_broken = i.is_broken })) v (record {
       more = goes.0;

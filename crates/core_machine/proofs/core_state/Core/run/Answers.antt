@@ -1,13 +1,14 @@
 -- Each step of the loop makes the event that is known ahead, or finds it, or makes another one.
-use Rattle.std.proofs.Common.{◌≡◌, ◌≤◌, ◌<◌, ◌+◌, ◌∷◌, [], ◌++◌, ℕ, Some, None, inl, inr, true, false, length, refl, sym, ◌∙◌, ap, subst, arith}
+use Rattle.std.proofs.Common.{◌≡◌, ◌<◌, ◌+◌, ◌∷◌, [], ◌++◌, ℕ, Some, None, inl, inr, true, false, length, refl, sym, ◌∙◌, ap, subst, arith}
 use Rattle.pipe_model.specs.declared.step.Seen.{Seen}
 use Rattle.pipe_model.specs.declared.step.Seen.TheVariants.{Saw, Took, Put}
 use Rattle.core_machine.specs.declared.floor.Ahead.TheVariants as Known
 use Rattle.core_machine.specs.declared.run.Which.{Which}
-use Rattle.core_machine.specs.Answered.{LeastEvent, HasBroken}
-use Rattle.core_machine.specs.Machine.{Machine}
-use Rattle.core_machine.specs.Runs.{HasRunBy, is_made, may_end}
-use Rattle.core_machine.proofs.Runs.{IsUnderWay, err_so, ok_each, runs_begin, runs_break, runs_go, runs_join, runs_make, runs_on, makes_quiet, ahead_known, least_ahead}
+use Rattle.core_machine.specs.Answered.{LeastEvent}
+use Rattle.core_machine.specs.Machine.{Machine, turned, broke_down}
+use Rattle.core_machine.specs.Runs.{HasRunBy, HasBrokenBy, is_made, may_end}
+use Rattle.core_machine.proofs.Broken.{breaks_at, breaks_later, on_err}
+use Rattle.core_machine.proofs.Runs.{IsUnderWay, err_so, ok_each, runs_begin, runs_go, runs_join, runs_make, runs_on, makes_quiet, ahead_known, least_ahead}
 use Rattle.core_machine.proofs.core_state.Core.run.Goals as goal
 use Rattle.core_machine.proofs.core_state.Core.run.Goals.{in-All, in-OfRecords, in-Quiet}
 
@@ -100,5 +101,36 @@ returns-clause-runs g c =
 
 pub returns-clause-lacks : goal.returns-clause-lacks
 returns-clause-lacks g c =
-    err_so (HasBroken c.loop-ahead.self c.run_last.new.self) (HasBroken c.args.self.now c.run_last.new.self) c.run_last.result
-    (λ broke. runs_break (is_made c.args.which) c.args.self.now c.loop-ahead.self c.run_last.new.self c.loop-ahead.invariant.0.0 broke) c.run_last.ensures.lacks
+    err_so (HasBrokenBy (is_made c.args.which) c.args.limit c.loop-ahead.self c.run_last.new.self) (HasBrokenBy (is_made c.args.which) c.args.limit c.args.self.now c.run_last.new.self) c.run_last.result
+    (λ broke. breaks_later (is_made c.args.which) c.args.limit c.args.self.now c.loop-ahead.self c.run_last.new.self c.loop-ahead.invariant.0.0 broke) c.run_last.ensures.lacks
+
+-- A step breaks it
+
+pub returns-in_err-ahead-in-Search-known-clause-lacks : goal.returns-in_err-ahead-in-Search-known-clause-lacks
+returns-in_err-ahead-in-Search-known-clause-lacks g c =
+    let space : length c.loop-ahead.self.journal < c.args.limit = omega (arith, c.loop-ahead-test.true, c.len.ensures.length) in
+    on_err _ _ (breaks_at (is_made c.args.which) c.args.self.now c.loop-ahead.self c.go_on_otherwise.new.self c.in-Some.strand c.in-Some.stream c.args.limit c.in-Some.seen c.loop-ahead.invariant.0 space c.in-Some.ensures.least (c.makes.ensures.makes c.if-not-makes.false)
+    (c.in_err-ahead-in-Search-known.ensures.lacks ∙ ap (λ (z : Machine). broke_down (turned z (record { strand = c.in-Some.strand; stream = c.in-Some.stream }))) c.least_event.ensures.same))
+
+pub returns-in_err-ahead-in-Saw-clause-lacks : goal.returns-in_err-ahead-in-Saw-clause-lacks
+returns-in_err-ahead-in-Saw-clause-lacks g c =
+    let space : length c.loop-ahead.self.journal < c.args.limit = omega (arith, c.loop-ahead-test.true, c.len.ensures.length) in
+    let e : ℕ × ℕ × Seen = (c.in-Saw.strand, c.in-Saw.i, Saw c.in-Saw.i) in
+    let least = least_ahead c.loop-ahead.self c.loop-ahead.ahead (Known.Saw c.in-Saw.strand c.in-Saw.i) e c.loop-ahead.invariant.1 c.in-Saw.is refl in
+    let made : is_made c.args.which (Saw c.in-Saw.i) ≡ true = elim c.match-which.branch [
+      | in-All w ↦ ap (λ (which : Which). is_made which (Saw c.in-Saw.i)) w.in-All.is
+      | in-OfRecords w ↦ ap (λ (which : Which). is_made which (Saw c.in-Saw.i)) w.in-OfRecords.is
+      | in-Quiet w ↦ let no : false ≡ true = sym w.is_made-is ∙ c.if-not-is_made.false in cc no
+    ] in
+    on_err _ _ (breaks_at (is_made c.args.which) c.args.self.now c.loop-ahead.self c.see.new.self c.in-Saw.strand c.in-Saw.i c.args.limit (Saw c.in-Saw.i) c.loop-ahead.invariant.0 space least made c.in_err-ahead-in-Saw.ensures.lacks)
+
+pub returns-in_err-ahead-in-Took-clause-lacks : goal.returns-in_err-ahead-in-Took-clause-lacks
+returns-in_err-ahead-in-Took-clause-lacks g c =
+    let space : length c.loop-ahead.self.journal < c.args.limit = omega (arith, c.loop-ahead-test.true, c.len.ensures.length) in
+    let e : ℕ × ℕ × Seen = (c.in-Took.strand, c.in-Took.i, Took c.in-Took.i) in
+    let least = least_ahead c.loop-ahead.self c.loop-ahead.ahead (Known.Took c.in-Took.strand c.in-Took.i) e c.loop-ahead.invariant.1 c.in-Took.is refl in
+    on_err _ _ (breaks_at (is_made c.args.which) c.args.self.now c.loop-ahead.self c.go_on.new.self c.in-Took.strand c.in-Took.i c.args.limit (Took c.in-Took.i) c.loop-ahead.invariant.0 space least (makes_quiet c.args.which (Took c.in-Took.i) refl) c.in_err-ahead-in-Took.ensures.lacks)
+
+pub returns-in_err-ahead-in-Put-clause-lacks : goal.returns-in_err-ahead-in-Put-clause-lacks
+returns-in_err-ahead-in-Put-clause-lacks g c =
+    on_err _ _ (breaks_later (is_made c.args.which) c.args.limit c.args.self.now c.loop-ahead.self c.put_on.new.self c.loop-ahead.invariant.0.0 c.in_err-ahead-in-Put.ensures.lacks)

@@ -1,11 +1,12 @@
 -- A strand whose coroutine wanted memory, in place or as it came home, is given up: the core is sound, and broken.
-use Rattle.std.proofs.Common.{rules, ◌≡◌, ◌<◌, suc, true, Some, [], ◌∷◌, ◌++◌, length, slice_set, refl, arith, sym, ◌∙◌, ap, subst}
+use Rattle.std.proofs.Common.{rules, ◌≡◌, ◌<◌, suc, true, Some, [], ◌∷◌, ◌++◌, length, slice_set, sym, ◌∙◌, ap, subst}
 use Rattle.pipe_model.specs.declared.step.Entry.{Entry}
 use Rattle.pipe_model.proofs.Lists.{length_more}
 use Rattle.core_machine.specs.declared.actor.Actor.{Actor}
 use Rattle.core_machine.specs.Actors.{asking_for, given_up}
 use Rattle.core_machine.specs.Machine.{Machine, licence_of, IsLawful}
 use Rattle.core_machine.specs.Sound.{IsSound}
+use Rattle.core_machine.proofs.Broken.{broke_so}
 use Rattle.core_machine.proofs.GoesOn.{lost}
 use Rattle.core_machine.proofs.Sounds.{actor_at, in_range, out_room, on_floor, lawful_turned}
 use Rattle.core_machine.proofs.core_state.Core.go_on.Goals as goal
@@ -97,29 +98,13 @@ lacks_broken g c =
     let i = c.self.inside in
     let v : ◌≡◌ {A = Machine} (record { net = i.floor.net; budget = i.budget; journal = i.journal.items; out = i.out.items; is_broken = i.is_broken }) c.args.self.now = c.self.view_is in
     let e : Entry = record { strand = c.args.strand; stream = c.args.stream } in
-    let longer : c.push_reserved.new.self.items ≡ c.args.self.now.journal ++ e ∷ [] = c.push_reserved.ensures.items ∙ ap (λ (z : Machine). z.journal ++ e ∷ []) v in
-    let place : c.len.result ≡ length c.push_reserved.new.self.items = search rules in
-    record {
-      broken = refl;
-      net = c.make.ensures.net ∙ ap (λ (z : Machine). z.net) v;
-      budget = ap (λ (z : Machine). z.budget) v;
-      longer = (e ∷ [], longer);
-      more = let a = length_more c.args.self.now.journal e in let b : length c.push_reserved.new.self.items ≡ length (c.args.self.now.journal ++ e ∷ []) = ap length longer in omega (arith, a, b);
-      out = c.give_up.ensures.out ∙ ap (λ (z : Machine). z.out ++ c.len.result ∷ []) v ∙ ap (λ p. c.args.self.now.out ++ p ∷ []) place;
-    }
+    let place : c.len.result ≡ suc (length i.journal.items) = c.len.ensures ∙ ap length c.push_reserved.ensures.items ∙ length_more i.journal.items e in
+    broke_so c.args.self.now e i.floor.net i.budget i.journal.items i.out.items i.is_broken v c.make.ensures.net c.push_reserved.ensures.items c.len.result place c.give_up.ensures.out
 
 pub lacks_broken_home : goal.returns-in_default-come_home-clause-lacks
 lacks_broken_home g c =
     let i = c.self.inside in
     let v : ◌≡◌ {A = Machine} (record { net = i.floor.net; budget = i.budget; journal = i.journal.items; out = i.out.items; is_broken = i.is_broken }) c.args.self.now = c.self.view_is in
     let e : Entry = record { strand = c.args.strand; stream = c.args.stream } in
-    let longer : c.push_reserved.new.self.items ≡ c.args.self.now.journal ++ e ∷ [] = c.push_reserved.ensures.items ∙ ap (λ (z : Machine). z.journal ++ e ∷ []) v in
-    let place : c.len-in_default-come_home.result ≡ length c.push_reserved.new.self.items = search rules in
-    record {
-      broken = refl;
-      net = c.come_home.ensures.net ∙ c.make.ensures.net ∙ ap (λ (z : Machine). z.net) v;
-      budget = ap (λ (z : Machine). z.budget) v;
-      longer = (e ∷ [], longer);
-      more = let a = length_more c.args.self.now.journal e in let b : length c.push_reserved.new.self.items ≡ length (c.args.self.now.journal ++ e ∷ []) = ap length longer in omega (arith, a, b);
-      out = c.give_up-in_default-come_home.ensures.out ∙ ap (λ (z : Machine). z.out ++ c.len-in_default-come_home.result ∷ []) v ∙ ap (λ p. c.args.self.now.out ++ p ∷ []) place;
-    }
+    let place : c.len-in_default-come_home.result ≡ suc (length i.journal.items) = c.len-in_default-come_home.ensures ∙ ap length c.push_reserved.ensures.items ∙ length_more i.journal.items e in
+    broke_so c.args.self.now e i.floor.net i.budget i.journal.items i.out.items i.is_broken v (c.come_home.ensures.net ∙ c.make.ensures.net) c.push_reserved.ensures.items c.len-in_default-come_home.result place c.give_up-in_default-come_home.ensures.out

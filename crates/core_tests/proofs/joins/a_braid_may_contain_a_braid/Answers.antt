@@ -1,0 +1,11 @@
+use Rattle.std.proofs.Common.{sym, subst}
+use Rattle.pipe_model.specs.declared.net.Net.{Net}
+use Rattle.pipe_model.specs.WellFormed.{IsWellFormed}
+use Rattle.confluence_laws.proofs.FormedBraids.{nesting_formed}
+use Rattle.core_tests.proofs.joins.a_braid_may_contain_a_braid.Goals as goal
+
+pub settled-requires : goal.settled-requires
+settled-requires g c = subst (λ (n : Net). IsWellFormed n) (sym c.in_ok-net.ensures) nesting_formed
+
+pub forks-requires : goal.forks-requires
+forks-requires g c = subst (λ (n : Net). IsWellFormed n) (sym c.in_ok-net.ensures) nesting_formed

@@ -1,0 +1,4 @@
+pub mod Alike
+pub mod Ends
+pub mod Leaves
+pub mod Trees

@@ -1,0 +1,4 @@
+pub mod ClosedWalks
+pub mod Groups
+pub mod Never
+pub mod Rooted

@@ -1,0 +1,18 @@
+ghost use Rattle.pipe_model.specs.Plain.{IsAcyclic, IssuesNothing};
+ghost use Rattle.pipe_model.specs.Settled.{IsSettled};
+ghost use Rattle.pipe_model.specs.WellFormed.{IsWellFormed};
+ghost use Rattle.stall_lint.specs.Never.{HasNoDam, NeverStalls};
+ghost use Rattle.stall_lint.specs.Rooted.{IsRooted};
+
+use pipe_model::Net;
+
+/// A settled net without cycles, issuers and DAM whose groups are trees never stalls.
+pub fn never_stalls(net: &Net)
+    requires formed { IsWellFormed net.now }
+    requires settled { IsSettled net.now }
+    requires issues { IssuesNothing net.now }
+    requires undammed { HasNoDam net.now }
+    requires acyclic { IsAcyclic net.now }
+    requires rooted { IsRooted net.now }
+    ensures { NeverStalls net.now }
+{}
