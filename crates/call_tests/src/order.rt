@@ -75,6 +75,8 @@ impl<D: Shelf> Shelf for Noted<'_, D> {
 
     ghost faults = { λ s. D.faults s.device };
 
+    ghost wants = { λ s. D.wants s.device };
+
     fn fetch(&mut self, alloc: Global, name: &[u8]) -> Fetched {
         self.made.add(b" <");
         self.made.add(name);

@@ -23,12 +23,9 @@ use Rattle.confluence_laws.proofs.Waiting.Waits.{to_read, to_see, to_write}
 use Rattle.net_graph.specs.Fed.{fed}
 use Rattle.stall_lint.specs.Groups.{IsFollowed, IsInner}
 use Rattle.stall_lint.specs.Groups.IsFollowed.{at_join, onward}
-use Rattle.stall_lint.specs.Rooted.{IsAbove, IsRooted}
+use Rattle.stall_lint.specs.Rooted.{IsRooted}
 use Rattle.stall_lint.proofs.Alike.{IsAlike, strand_of}
-
--- the link of number j is the way up of one of the two groups that it joins
-abbrev pub IsEdge : {net : Net} → IsRooted net → ℕ → Link → Type 0
-IsEdge rooted j l = IsAbove rooted.label rooted.depth rooted.up j l.from l.to ⊎ IsAbove rooted.label rooted.depth rooted.up j l.to l.from
+use Rattle.stall_lint.proofs.Edges.{IsEdge}
 
 -- the strand at the end of an inner link takes its records from that link alone, or takes what comes first
 pub record IsConsumer (net : Net) (l : Link) : Type 0 where

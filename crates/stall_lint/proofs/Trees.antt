@@ -1,5 +1,5 @@
 -- From group to group the way never goes back over the edge by which it came, so in trees there is none.
-use Rattle.std.proofs.Common.{◌≡◌, ◌≢◌, ◌⊎◌, inl, inr, ℕ, zero, suc, ◌+◌, ◌<◌, ◌≤◌, List, length, sym, ◌∙◌, ap, subst, arith, Option, Some, slice_get}
+use Rattle.std.proofs.Common.{◌≡◌, ◌⊎◌, inl, inr, ℕ, zero, suc, ◌+◌, ◌<◌, ◌≤◌, List, length, sym, ◌∙◌, ap, subst, arith, Option, Some, slice_get}
 use Rattle.std.proofs.lemmas.Option.{slice_get_within}
 use Rattle.pipe_model.specs.declared.net.Net.{Net}
 use Rattle.pipe_model.specs.declared.net.Link.{Link}
@@ -12,40 +12,12 @@ use Rattle.confluence_laws.proofs.Waiting.Waits.{to_read, to_see, to_write}
 use Rattle.net_graph.specs.Fed.{fed}
 use Rattle.stall_lint.specs.Rooted.{IsAbove, IsRooted}
 use Rattle.stall_lint.proofs.Alike.{strand_of}
-use Rattle.stall_lint.proofs.Leaves.{IsEdge, IsLeaving, leaves_group}
-
--- they are the two ends of the link
-abbrev pub AreEnds : Link → Who → Who → Type 0
-AreEnds l s t = ((l.from ≡ s) × (l.to ≡ t)) ⊎ ((l.from ≡ t) × (l.to ≡ s))
+use Rattle.stall_lint.proofs.Edges.{AreEnds, edge_ends, one_end}
+use Rattle.stall_lint.proofs.Leaves.{IsLeaving, leaves_group}
 
 module _ (input : List ℕ) (files : List ℕ → Option (List ℕ)) (net : Net) (formed : IsWellFormed net) (acyclic : IsAcyclic net) (rooted : IsRooted net) where
   abbrev whole : Net
   whole = fed input files net
-
-  -- of two ends of an edge the one's group is above the other's
-  edge_ends : (j : ℕ) (l : Link) (s t : Who) → IsEdge rooted j l → AreEnds l s t → IsAbove rooted.label rooted.depth rooted.up j s t ⊎ IsAbove rooted.label rooted.depth rooted.up j t s
-  edge_ends j l s t edge (inl ends) = subst (λ z. IsAbove rooted.label rooted.depth rooted.up j z t ⊎ IsAbove rooted.label rooted.depth rooted.up j t z) ends.0
-      (subst (λ z. IsAbove rooted.label rooted.depth rooted.up j l.from z ⊎ IsAbove rooted.label rooted.depth rooted.up j z l.from) ends.1 edge)
-  edge_ends j l s t edge (inr ends) = subst (λ z. IsAbove rooted.label rooted.depth rooted.up j z t ⊎ IsAbove rooted.label rooted.depth rooted.up j t z) ends.1
-      (subst (λ z. IsAbove rooted.label rooted.depth rooted.up j l.to z ⊎ IsAbove rooted.label rooted.depth rooted.up j z l.to) ends.0 (turned edge))
-    where
-      turned : IsEdge rooted j l → IsAbove rooted.label rooted.depth rooted.up j l.to l.from ⊎ IsAbove rooted.label rooted.depth rooted.up j l.from l.to
-      turned (inl above) = inr above
-      turned (inr above) = inl above
-
-  -- so the ends of an edge stand in two groups
-  apart : (j : ℕ) (l : Link) (s t : Who) → IsEdge rooted j l → AreEnds l s t → rooted.label s ≢ rooted.label t
-  apart j l s t edge ends one = elim (edge_ends j l s t edge ends) [
-    | inl above ↦ (let deeper = above.1 in let same = ap rooted.depth one in absurd (omega (arith, deeper, same)))
-    | inr above ↦ (let deeper = above.1 in let same = ap rooted.depth one in absurd (omega (arith, deeper, same)))
-  ]
-
-  -- in one group an edge has one end
-  one_end : (j : ℕ) (l : Link) (s t u v : Who) → IsEdge rooted j l → AreEnds l s u → AreEnds l t v → rooted.label s ≡ rooted.label t → s ≡ t
-  one_end j l s t u v edge (inl a) (inl b) one = sym a.0 ∙ b.0
-  one_end j l s t u v edge (inr a) (inr b) one = sym a.1 ∙ b.1
-  one_end j l s t u v edge (inl a) (inr b) one = absurd (apart j l s t edge (inl (a.0, b.1)) one)
-  one_end j l s t u v edge (inr a) (inl b) one = absurd (apart j l s t edge (inr (b.0, a.1)) one)
 
   module _ (whole_formed : IsWellFormed whole) (calm : IsCalm whole) (st : State) (halted : IsHalted whole st) where
     -- a strand waits at the one end of a link for the other
@@ -89,7 +61,7 @@ module _ (input : List ℕ) (files : List ℕ → Option (List ℕ)) (net : Net)
     -- having gone down once the way goes down for ever
     no_way_down : (n : ℕ) (t : Who) → GoesOn whole st t → IsBelow t → length net.strands < n + rooted.depth (rooted.label t) → ⊥
     no_way_down zero t on below enough = (let few = deep t on in absurd (omega (arith, enough, few)))
-    no_way_down (suc n) t on below enough = by_edge (edge_ends wait.place wait.link way.at wait.other way.edge (wait_ends way.at wait.other wait.link wait.waits))
+    no_way_down (suc n) t on below enough = by_edge (edge_ends net rooted wait.place wait.link way.at wait.other way.edge (wait_ends way.at wait.other wait.link wait.waits))
         (λ above. no_way_down n wait.other wait.goes_on (is_below way.at wait.other wait.place wait.link wait.at wait.waits above.0)
         (let deeper = above.1 in let same = ap rooted.depth way.in_group in omega (arith, enough, deeper, same)))
       where
@@ -108,13 +80,13 @@ module _ (input : List ℕ) (files : List ℕ → Option (List ℕ)) (net : Net)
             let links : Some wait.link ≡ Some below.link = sym wait.at ∙ ap (slice_get net.links) number ∙ below.at in
             let link : wait.link ≡ below.link = cc in
             let ends : AreEnds wait.link t below.other = subst (λ z. AreEnds z t below.other) (sym link) below.ends in
-            let it : way.at ≡ t = one_end wait.place wait.link way.at t wait.other below.other way.edge (wait_ends way.at wait.other wait.link wait.waits) ends way.in_group in
+            let it : way.at ≡ t = one_end net rooted wait.place wait.link way.at t wait.other below.other way.edge (wait_ends way.at wait.other wait.link wait.waits) ends way.in_group in
             below.free wait.other (subst (λ z. Waits whole st z below.link wait.other) it (subst (λ z. Waits whole st way.at z wait.other) link wait.waits))
 
     -- it goes up some edges, and then down
     no_way : (n : ℕ) (s : Who) → GoesOn whole st s → rooted.depth (rooted.label s) < n → ⊥
     no_way zero s on few = absurd (omega (arith, few))
-    no_way (suc n) s on few = by_edge (edge_ends wait.place wait.link way.at wait.other way.edge (wait_ends way.at wait.other wait.link wait.waits))
+    no_way (suc n) s on few = by_edge (edge_ends net rooted wait.place wait.link way.at wait.other way.edge (wait_ends way.at wait.other wait.link wait.waits))
         (λ above. no_way n wait.other wait.goes_on (let deeper = above.1 in let same = ap rooted.depth way.in_group in omega (arith, few, deeper, same)))
       where
         way : IsLeaving input files net formed acyclic rooted whole_formed calm st halted s

@@ -1,6 +1,6 @@
-//! Whether a net can stall, told before it runs: groups of strands, walks through them, and a law that does nothing.
+//! Whether a net can stall, told before it runs: groups of strands, closed walks through them, and laws that do nothing.
 #![tactic(auto)]
 
 mod never;
 
-pub use never::never_stalls;
+pub use never::{never_stalls, no_closed_walk};
