@@ -1,5 +1,5 @@
 -- From what a call answers to the headline.
-use Rattle.std.proofs.Common.{◌≡◌, ◌≢◌, inl, inr, ℕ, ◌<◌, ◌≤◌, List, [], ◌∷◌, ◌++◌, length, refl, sym, ◌∙◌, ap, subst, arith, length-append, ℤ, pos, negsuc, zero, suc, Option, None}
+use Rattle.std.proofs.Common.{◌≡◌, ◌≢◌, inl, inr, ℕ, ◌<◌, ◌≤◌, List, [], ◌∷◌, ◌++◌, length, refl, sym, ◌∙◌, ap, subst, arith, length-append, ℤ, pos, negsuc, zero, suc, Option, Some, None}
 use Rattle.pipe_model.specs.declared.net.Net.{Net}
 use Rattle.pipe_model.specs.declared.step.Entry.{Entry}
 use Rattle.pipe_model.specs.Alone.{Lists, IsPlainReading}
@@ -13,24 +13,27 @@ use Rattle.confluence_laws.proofs.Commits.{committed_before}
 use Rattle.confluence_laws.proofs.Lengths.{few_steps, legal_last}
 use Rattle.confluence_laws.proofs.Prefixes.{alike, beginning_of}
 use Rattle.confluence_laws.proofs.Readings.{plain_reading}
-use Rattle.confluence_laws.proofs.WaitLines.{none_ended, some_unended, unended_some}
+use Rattle.confluence_laws.proofs.WaitLines.{ended_none, none_ended, some_unended, unended_some}
 use Rattle.net_graph.specs.Fed.{with_input}
-use Rattle.net_graph.proofs.Feeds.{fed_formed, input_formed}
+use Rattle.net_graph.proofs.Feeds.{fed_formed}
+use Rattle.call_words.specs.Command.{command_of}
 use Rattle.call_words.specs.declared.command.Command.TheVariants.{Run, Sample}
 use Rattle.call_meaning.specs.declared.status.Outcome.{Outcome}
-use Rattle.call_meaning.specs.declared.status.Outcome.TheVariants.{Spent}
+use Rattle.call_meaning.specs.declared.status.Outcome.TheVariants.{Done, Spent}
 use Rattle.call_meaning.specs.Effects.{Before, Effect, effect_of, no_effect, traced, untraced}
 use Rattle.call_meaning.specs.Headline.{HasOneSummary, Headline, IsEnded, IsHeadline, IsOneReading, IsReplyOf, IsStall}
 use Rattle.call_meaning.specs.Headline.HasOneAnswer.{reads, spends}
 use Rattle.call_meaning.specs.Headline.HasOneSummary.{sums_up as one_sum, falls_short}
-use Rattle.call_meaning.specs.Meaning.{Exhausts, Finishes, IsCommittedFirst, Means, RunMeans, RunsNet, SampleMeans, SamplesNet, fed_size, input_limit, net_on, outcome_by, outcome_of, summed_up}
+use Rattle.call_meaning.specs.Meaning.{Exhausts, Finishes, IsCommittedFirst, IsNetOf, Means, RunMeans, RunsNet, SampleMeans, fed_size, input_limit, net_on, outcome_by, outcome_of, summed_up}
 use Rattle.call_meaning.specs.Meaning.RunMeans.{finishes, exhausts}
 use Rattle.call_meaning.specs.Meaning.SampleMeans.{sums_up, spends as sample_spends}
 use Rattle.call_meaning.specs.Sample.{sample_spec, sample_text}
 use Rattle.call_meaning.proofs.Journals.{goes_further}
 use Rattle.call_meaning.proofs.Lists.{some_lists}
-use Rattle.call_meaning.proofs.Meanings.{IfFits, meaning_at, run_called, sample_called}
+use Rattle.call_meaning.proofs.Meanings.{IfFits, meaning_at, run_called}
 use Rattle.call_meaning.proofs.OneTexts.{net_formed}
+use Rattle.call_meaning.proofs.SampleNets.{sample_has_net, sample_net}
+use Rattle.call_meaning.proofs.SampleRuns.{fed_code, fed_ends, fed_plain, fed_whole}
 use Rattle.call_meaning.proofs.Untraced.{traced_by, untraced_is}
 
 -- The outcome of a reply
@@ -163,12 +166,23 @@ module _ (net : Net) (steps workers : ℕ) (formed : IsWellFormed net) (settled 
     }
 
     -- and the sample
-    summary_net : (count : ℕ) → SampleMeans count net steps workers outcome effect → HasOneSummary net count steps outcome effect
-    summary_net count (sums_up answer done outcome_is effect_is) =
-        one_sum (play net done.journal) (length done.journal) (reading_of done.journal done.legal done.complete) done.within
-        (outcome_is ∙ ap (outcome_of net) (sym done.replies))
-        (effect_is ∙ ap (λ (r : Reply). summed_up count r.console (length done.journal) outcome) (sym done.replies))
-    summary_net count (sample_spends spent outcome_is effect_is) = falls_short (none_short spent outcome_is) outcome_is effect_is
+    module _ (plain : IsPlain net) (ends : (es : List Entry) → IsLegal net es → IsComplete net es → HasEnded net (play net es) × ((reply net (play net es)).code ≡ pos 0)) (count : ℕ) where
+      done_by : (waits : List WaitLine) (code : ℤ) → waits ≡ [] → code ≡ pos 0 → outcome_by net waits code ≡ Done
+      done_by waits code none zero_code = rw none (rw zero_code refl)
+
+      all_done : (es : List Entry) → IsLegal net es → IsComplete net es → outcome_of net (reply net (play net es)) ≡ Done
+      all_done es legal complete =
+          let over = ends es legal complete in
+          done_by (reply net (play net es)).waits (reply net (play net es)).code (ended_none net (play net es) over.0) over.1
+
+      summary_net : SampleMeans count net steps workers outcome effect → HasOneSummary net count steps outcome effect
+      summary_net (sums_up answer done outcome_is effect_is) =
+          let is_done = outcome_is ∙ ap (outcome_of net) (sym done.replies) ∙ all_done done.journal done.legal done.complete in
+          one_sum (play net done.journal) (length done.journal) (reading_of done.journal done.legal done.complete)
+          (plain_reading net formed plain done.journal done.legal (ends done.journal done.legal done.complete).0) done.within is_done
+          (effect_is ∙ ap (λ (r : Reply). summed_up count r.console (length done.journal) outcome) (sym done.replies)
+          ∙ ap (summed_up count (reply net (play net done.journal)).console (length done.journal)) is_done)
+      summary_net (sample_spends spent outcome_is effect_is) = falls_short (none_short spent outcome_is) outcome_is effect_is
 
 -- A call
 
@@ -181,10 +195,17 @@ module _ (words : List (List ℕ)) (given : Before) (outcome : Outcome) (effect 
       by (inl large) = (let past = large.0 in absurd (omega (arith, fits, past)))
       by (inr run) = headline_net (net_on given net) steps runs.run.workers (fed_formed given.input given.files net (net_formed runs.spec net runs.net_of)) settled trace outcome effect run.1
 
-  by_sample : (net : Net) (count steps : ℕ) → SamplesNet words net count steps → IsSettled (with_input (sample_text count) net) → HasOneSummary (with_input (sample_text count) net) count steps outcome effect
-  by_sample net count steps samples settled =
-      summary_net (with_input (sample_text count) net) steps samples.workers (input_formed (sample_text count) net (net_formed sample_spec net samples.net_of)) settled None outcome effect count
-      (meaning_at words given (Sample count samples.workers steps) net (sample_called words net count steps samples) outcome effect means)
+  by_sample : (count workers steps : ℕ) → command_of words ≡ Some (Sample count workers steps) →
+      (net : Net) × IsNetOf sample_spec net × HasOneSummary (with_input (sample_text count) net) count steps outcome effect
+  by_sample count workers steps command =
+      let net = sample_net [] in
+      let input = sample_text count in (
+        net,
+        sample_has_net,
+        summary_net (with_input input net) steps workers (fed_whole input net sample_has_net) (fed_plain input net sample_has_net).settled None outcome effect (fed_plain input net sample_has_net)
+            (λ es legal complete. (fed_ends input net sample_has_net es legal complete, fed_code input net sample_has_net es legal complete)) count
+            (meaning_at words given (Sample count workers steps) net (record { command_is = command; net_of = sample_has_net }) outcome effect means),
+      )
 
   pub headline : Headline words given outcome effect
   headline = record { runs = by_run; samples = by_sample }

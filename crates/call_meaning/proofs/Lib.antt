@@ -12,5 +12,9 @@ pub mod Meanings
 pub mod OneRuns
 pub mod OneTexts
 pub mod SameReplies
+pub mod SampleAnswers
+pub mod SampleNets
+pub mod SampleRuns
+pub mod SampleTexts
 pub mod Unread
 pub mod Untraced

@@ -5,7 +5,7 @@ use Rattle.pipe_model.specs.declared.step.Entry.{Entry}
 use Rattle.pipe_model.specs.Settled.{IsSettled}
 use Rattle.spec_scanner.specs.declared.fault.Fault.{Fault}
 use Rattle.net_graph.specs.Fed.{with_input}
-use Rattle.net_graph.proofs.Feeds.{fed_formed, input_formed}
+use Rattle.net_graph.proofs.Feeds.{fed_formed}
 use Rattle.journal_file.specs.declared.checking.Checked.TheVariants.{Legal, Illegal}
 use Rattle.journal_file.specs.Faults.{IsFirstFault}
 use Rattle.journal_file.specs.Text.{IsJournal, journal_text}
@@ -16,19 +16,19 @@ use Rattle.call_words.specs.declared.command.Command.TheVariants.{Run, Check, Sa
 use Rattle.call_meaning.specs.declared.status.Outcome.{Outcome}
 use Rattle.call_meaning.specs.declared.status.Outcome.TheVariants.{SpecRefused, InputTooLarge, JournalAbsent, JournalEntry, JournalLine}
 use Rattle.call_meaning.specs.Effects.{Before, Effect, no_effect, output_of, untraced}
-use Rattle.call_meaning.specs.Meaning.{CheckMeans, ChecksNet, FeedsNet, IsNetOf, IsSpecRefused, IsUnrun, Means, RunMeans, RunsNet, SampleMeans, SamplesNet, TakesSteps, fed_size, input_limit, legal_line, net_on, spec_of}
+use Rattle.call_meaning.specs.Meaning.{CheckMeans, ChecksNet, FeedsNet, IsNetOf, IsSpecRefused, IsUnrun, Means, RunMeans, RunsNet, SampleMeans, SamplesNet, fed_size, input_limit, legal_line, net_on, spec_of}
 use Rattle.call_meaning.specs.Meaning.CheckMeans.{legal, illegal}
 use Rattle.call_meaning.specs.Meaning.ComesTo.{ran, checked, sampled}
 use Rattle.call_meaning.specs.Meaning.FeedsNet.{of_run, of_check}
 use Rattle.call_meaning.specs.Meaning.IsUnchecked.{absent, unread}
 use Rattle.call_meaning.specs.Meaning.IsUnrun.{no_command, refused}
 use Rattle.call_meaning.specs.Meaning.Means.{unrun, unchecked, too_large, came}
-use Rattle.call_meaning.specs.Meaning.TakesSteps.{of_run as steps_of_run, of_sample}
 use Rattle.call_meaning.specs.Refusals.{HasLeastFault}
 use Rattle.call_meaning.specs.Sample.{sample_text}
 use Rattle.call_meaning.specs.Calls.{IsCall}
 use Rattle.call_meaning.proofs.OneRuns.{one_run, one_sample}
 use Rattle.call_meaning.proofs.OneTexts.{net_formed, net_unrefused, one_least, one_net}
+use Rattle.call_meaning.proofs.SampleRuns.{fed_plain, fed_whole}
 
 -- What a command comes to
 
@@ -180,16 +180,14 @@ module _ (words : List (List ℕ)) where
           let same = journals_same journal journal' is is' texts in
           one_fitting net (one_check (net_on before net) journal') (subst (λ j. IfFits before net a x (CheckMeans (net_on before net) j a x)) same fed) fed'
 
-      module _ (settled : (net : Net) → TakesSteps words before net → IsSettled net) where
+      module _ (settled : (net : Net) (steps : ℕ) (trace : Option (List ℕ)) → RunsNet words net steps trace → IsSettled (net_on before net)) where
         one_command : (command : Command) (net : Net) → IsCall words command net → CarriesOut before command net a x → CarriesOut before command net b y → AreOne
         one_command (Run spec workers steps trace) net call first second =
             let runs : RunsNet words net steps trace = record { spec = spec; run = record { workers = workers; command = call.command_is }; net_of = call.net_of } in
-            one_fitting net (one_run (net_on before net) steps workers (fed_formed before.input before.files net (net_formed spec net call.net_of)) (settled (net_on before net) (steps_of_run net steps trace runs refl)) trace a b x y) first second
+            one_fitting net (one_run (net_on before net) steps workers (fed_formed before.input before.files net (net_formed spec net call.net_of)) (settled net steps trace runs) trace a b x y) first second
         one_command (Check spec name) net call first second = one_checked name net first second
         one_command (Sample count workers steps) net call first second =
-            let samples : SamplesNet words net count steps = record { workers = workers; command = call.command_is; net_of = call.net_of } in
-            let fed = with_input (sample_text count) net in
-            let one = one_sample fed steps workers (input_formed (sample_text count) net (net_formed (spec_of (Sample count workers steps)) net call.net_of)) (settled fed (of_sample net count steps samples refl)) count a b x y first second in
+            let one = one_sample (with_input (sample_text count) net) steps workers (fed_whole (sample_text count) net call.net_of) (fed_plain (sample_text count) net call.net_of).settled count a b x y first second in
             (one.0, ap untraced one.1)
 
         pub one_of_each : Means words before a x → Means words before b y → AreOne

@@ -15,11 +15,13 @@ use Rattle.pipe_model.specs.Play.{play, HasEnded, IsComplete, IsLegal}
 use Rattle.pipe_model.specs.Reply.{FileText, reply}
 use Rattle.pipe_model.specs.Settled.{IsSettled}
 use Rattle.pipe_model.specs.State.{State}
+use Rattle.call_words.specs.Command.{command_of}
+use Rattle.call_words.specs.declared.command.Command.TheVariants.{Sample}
 use Rattle.call_meaning.specs.declared.status.Outcome.{Outcome}
 use Rattle.call_meaning.specs.declared.status.Outcome.TheVariants.{Done, Coded, Stalled, Spent}
-use Rattle.call_meaning.specs.Effects.{Before, Effect, effect_of, no_effect, untraced}
-use Rattle.call_meaning.specs.Meaning.{AreLeast, IsCommittedFirst, RunsNet, SamplesNet, fed_size, input_limit, net_on, outcome_of, summed_up}
-use Rattle.call_meaning.specs.Sample.{sample_text}
+use Rattle.call_meaning.specs.Effects.{Before, Effect, effect_of, no_effect, output_of, untraced}
+use Rattle.call_meaning.specs.Meaning.{AreLeast, IsCommittedFirst, IsNetOf, RunsNet, fed_size, input_limit, net_on, outcome_of}
+use Rattle.call_meaning.specs.Sample.{sample_spec, sample_text, summary}
 use Rattle.net_graph.specs.Fed.{with_input}
 
 -- the reading of a net: every complete order of steps comes to these histories, in so many steps, and no order goes on for longer
@@ -71,14 +73,18 @@ pub record IsHeadline (net : Net) (steps workers : ℕ) (trace : Option (List �
   -- the order in which the steps were taken is told where it is asked for
   pub traced : IsTraced net steps workers trace effect.trace
 
--- what the sample of so many lines comes to, whose net is fed them: what its reading is summed up as, or too few steps
+-- what the sample of so many lines comes to, whose net is fed them
 pub data HasOneSummary (net : Net) (count steps : ℕ) (outcome : Outcome) (effect : Effect) : Type 0 where
-  sums_up : (st : State) (size : ℕ) → IsOneReading net st size → size ≤ steps → outcome ≡ outcome_of net (reply net st) → effect ≡ summed_up count (reply net st).console size outcome →
+  -- the summary of its one reading, in which every stage has ended with code 0, and which is that of its stages read as functions on streams
+  sums_up : (st : State) (size : ℕ) → IsOneReading net st size → IsPlainReading net st → size ≤ steps → outcome ≡ Done → effect ≡ output_of (summary count (reply net st).console size) →
       HasOneSummary net count steps outcome effect
+  -- or too few steps
   falls_short : ((order : List Entry) → IsLegal net order → IsComplete net order → steps < length order) → outcome ≡ Spent steps → effect ≡ no_effect → HasOneSummary net count steps outcome effect
 
 -- what words of a settled specification come to, on the bytes that the input gave and the files that there were
 pub record Headline (words : List (List ℕ)) (given : Before) (outcome : Outcome) (effect : Effect) : Type 0 where
   pub runs : (net : Net) (steps : ℕ) (trace : Option (List ℕ)) (runs : RunsNet words net steps trace) → IsSettled (net_on given net) → fed_size given net ≤ input_limit →
       IsHeadline (net_on given net) steps runs.run.workers trace outcome effect
-  pub samples : (net : Net) (count steps : ℕ) → SamplesNet words net count steps → IsSettled (with_input (sample_text count) net) → HasOneSummary (with_input (sample_text count) net) count steps outcome effect
+  -- the net of the sample is settled, and never stalls
+  pub samples : (count workers steps : ℕ) → command_of words ≡ Some (Sample count workers steps) →
+      (net : Net) × IsNetOf sample_spec net × HasOneSummary (with_input (sample_text count) net) count steps outcome effect

@@ -265,11 +265,6 @@ pub data Means (words : List (List ℕ)) (before : Before) (outcome : Outcome) (
   too_large : IsTooLarge words before → outcome ≡ InputTooLarge → effect ≡ no_effect → Means words before outcome effect
   came : ComesTo words before outcome effect → Means words before outcome effect
 
--- the words have steps taken on this net, whose stages are fed
-pub data TakesSteps (words : List (List ℕ)) (before : Before) (net : Net) : Type 0 where
-  of_run : (bare : Net) (steps : ℕ) (trace : Option (List ℕ)) → RunsNet words bare steps trace → net ≡ net_on before bare → TakesSteps words before net
-  of_sample : (bare : Net) (count steps : ℕ) → SamplesNet words bare count steps → net ≡ with_input (sample_text count) bare → TakesSteps words before net
-
 -- ---- the straight line
 
 -- what words of a straight line with LOCATEs of these strings mean, in so many steps at most, but for the journal's file: the lines that hold every string,

@@ -6,12 +6,12 @@ ghost use Rattle.net_graph.specs.Line.{line_net};
 ghost use Rattle.spec_scanner.specs.Straight.{IsStraight};
 ghost use Rattle.call_meaning.specs.declared.status.Outcome.{Outcome as OutcomeIs};
 ghost use Rattle.call_meaning.specs.Effects.{Before, Effect, untraced};
-ghost use Rattle.call_meaning.specs.Meaning.{IsLineOutcome, IsRunOf, Means, TakesSteps};
+ghost use Rattle.call_meaning.specs.Meaning.{IsLineOutcome, IsRunOf, Means, RunsNet, net_on};
 
-/// Words mean one outcome and one effect at most on what there was before, but for the file of a journal, where the net on which they have
-/// steps taken, if they do, is settled.
+/// Words mean one outcome and one effect at most on what there was before, but for the file of a journal, where the net that they run, if
+/// they do, is settled.
 pub fn one_meaning()
-    ensures { (words : List (List ℕ)) (before : Before) → ((net : Net) → TakesSteps words before net → IsSettled net) →
+    ensures { (words : List (List ℕ)) (before : Before) → ((net : Net) (steps : ℕ) (trace : Option (List ℕ)) → RunsNet words net steps trace → IsSettled (net_on before net)) →
         (a b : OutcomeIs) (x y : Effect) → Means words before a x → Means words before b y → (a ≡ b) × (untraced x ≡ untraced y) }
 {}
 

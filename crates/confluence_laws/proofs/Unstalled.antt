@@ -64,38 +64,44 @@ module _ (net : Net) (formed : IsWellFormed net) (onward : WaitsOnward net) (st 
       ap (λ b. up_answer level (cond b (Some (worst_early st level (members net st s))) None)) (all_below (stands_at net st none_left level) (length net.strands) all) in
       none s 0 (Up level (worst_early st level (members net st s))) (ap (answer (sight_of net st none_left s) 0) is ∙ answered)
 
-  commits_there : (level : ℤ) (s : Who) → int_eq level level ≡ true → want_at net st none_left s ≡ Some (Commit level) → commits_to level (want_at net st none_left s) ≡ true
-  commits_there level s same is = ap (commits_to level) is ∙ same
+  -- a strand stands at a level that it has reached or waits for
+  abbrev Stands : ℤ → Who → Type 0
+  Stands level t = (has_reached level (past st t) || commits_to level (want_at net st none_left t)) ≡ true
 
-  stands_first : (t : Who) → t < length net.strands → stands_at net st none_left (negsuc 0) t ≡ true
-  stands_first t lt = by_end (has_ended (past st t)) refl
+  stands_by : (level : ℤ) → ((t : Who) → WaitsFor net st t → Stands level t) → (t : Who) → t < length net.strands → stands_at net st none_left level t ≡ true
+  stands_by level stands t lt = by_end (has_ended (past st t)) refl
     where
-      by_wait : WaitsFor net st t → (has_reached (negsuc 0) (past st t) || commits_to (negsuc 0) (want_at net st none_left t)) ≡ true
-      by_wait (first_level is) = or_second (has_reached (negsuc 0) (past st t)) (commits_to (negsuc 0) (want_at net st none_left t)) (commits_there (negsuc 0) t refl is)
-      by_wait (second_level is there) = ap (λ b. b || commits_to (negsuc 0) (want_at net st none_left t)) there
-      by_wait (record_comes went looking) = ap (λ b. b || commits_to (negsuc 0) (want_at net st none_left t)) (reached_up (negsuc 0) (pos 0) (past st t) went.1)
-      by_wait (record_goes went o rec is) = ap (λ b. b || commits_to (negsuc 0) (want_at net st none_left t)) (reached_up (negsuc 0) (pos 0) (past st t) went.1)
-
-      by_end : (b : Bool) → has_ended (past st t) ≡ b → stands_at net st none_left (negsuc 0) t ≡ true
-      by_end true ended = ap (λ b. b || (has_reached (negsuc 0) (past st t) || commits_to (negsuc 0) (want_at net st none_left t))) ended
+      by_end : (b : Bool) → has_ended (past st t) ≡ b → stands_at net st none_left level t ≡ true
+      by_end true ended = ap (λ b. b || (has_reached level (past st t) || commits_to level (want_at net st none_left t))) ended
       by_end false going =
           let p = at_some net.strands t lt in
-          or_second (has_ended (past st t)) (has_reached (negsuc 0) (past st t) || commits_to (negsuc 0) (want_at net st none_left t)) (by_wait (waits t p.0 p.1 going))
+          or_second (has_ended (past st t)) (has_reached level (past st t) || commits_to level (want_at net st none_left t)) (stands t (waits t p.0 p.1 going))
 
-  stands_second : (t : Who) → t < length net.strands → stands_at net st none_left (pos 0) t ≡ true
-  stands_second t lt = by_end (has_ended (past st t)) refl
+  by_reaching : (level : ℤ) (t : Who) → has_reached level (past st t) ≡ true → Stands level t
+  by_reaching level t there = ap (λ b. b || commits_to level (want_at net st none_left t)) there
+
+  by_wanting : (level : ℤ) (t : Who) → int_eq level level ≡ true → want_at net st none_left t ≡ Some (Commit level) → Stands level t
+  by_wanting level t same is = or_second (has_reached level (past st t)) (commits_to level (want_at net st none_left t)) (ap (commits_to level) is ∙ same)
+
+  -- so nobody waits for the first level
+  never_first : (s : Who) → want_at net st none_left s ≢ Some (Commit (negsuc 0))
+  never_first = never_at (negsuc 0) (stands_by (negsuc 0) stands)
     where
-      by_wait : WaitsFor net st t → (has_reached (pos 0) (past st t) || commits_to (pos 0) (want_at net st none_left t)) ≡ true
-      by_wait (first_level is) = absurd (never_at (negsuc 0) stands_first t is)
-      by_wait (second_level is there) = or_second (has_reached (pos 0) (past st t)) (commits_to (pos 0) (want_at net st none_left t)) (commits_there (pos 0) t refl is)
-      by_wait (record_comes went looking) = ap (λ b. b || commits_to (pos 0) (want_at net st none_left t)) (reached_up (pos 0) (pos 0) (past st t) went.0)
-      by_wait (record_goes went o rec is) = ap (λ b. b || commits_to (pos 0) (want_at net st none_left t)) (reached_up (pos 0) (pos 0) (past st t) went.0)
+      stands : (t : Who) → WaitsFor net st t → Stands (negsuc 0) t
+      stands t (first_level is) = by_wanting (negsuc 0) t refl is
+      stands t (second_level is there) = by_reaching (negsuc 0) t there
+      stands t (record_comes went looking) = by_reaching (negsuc 0) t (reached_up (negsuc 0) (pos 0) (past st t) went.1)
+      stands t (record_goes went o rec is) = by_reaching (negsuc 0) t (reached_up (negsuc 0) (pos 0) (past st t) went.1)
 
-      by_end : (b : Bool) → has_ended (past st t) ≡ b → stands_at net st none_left (pos 0) t ≡ true
-      by_end true ended = ap (λ b. b || (has_reached (pos 0) (past st t) || commits_to (pos 0) (want_at net st none_left t))) ended
-      by_end false going =
-          let p = at_some net.strands t lt in
-          or_second (has_ended (past st t)) (has_reached (pos 0) (past st t) || commits_to (pos 0) (want_at net st none_left t)) (by_wait (waits t p.0 p.1 going))
+  -- nor for the second
+  never_second : (s : Who) → want_at net st none_left s ≢ Some (Commit (pos 0))
+  never_second = never_at (pos 0) (stands_by (pos 0) stands)
+    where
+      stands : (t : Who) → WaitsFor net st t → Stands (pos 0) t
+      stands t (first_level is) = absurd (never_first t is)
+      stands t (second_level is there) = by_wanting (pos 0) t refl is
+      stands t (record_comes went looking) = by_reaching (pos 0) t (reached_up (pos 0) (pos 0) (past st t) went.0)
+      stands t (record_goes went o rec is) = by_reaching (pos 0) t (reached_up (pos 0) (pos 0) (past st t) went.0)
 
   -- Writers: each waits for one further on, and the last for nobody
 
@@ -179,8 +185,8 @@ module _ (net : Net) (formed : IsWellFormed net) (onward : WaitsOnward net) (st 
       (waits held.link.to joined.consumer joined.to_strand held.going)
     where
       by_wait : (held : IsHeldUp s rec) → ((o : ℕ) (rec : List ℕ) → want_at net st none_left held.link.to ≢ Some (Write o rec)) → WaitsFor net st held.link.to → ⊥
-      by_wait held never (first_level is) = never_at (negsuc 0) stands_first held.link.to is
-      by_wait held never (second_level is reached_first) = never_at (pos 0) stands_second held.link.to is
+      by_wait held never (first_level is) = never_first held.link.to is
+      by_wait held never (second_level is reached_first) = never_second held.link.to is
       by_wait held never (record_comes went looking) = (let nothing = looking.nothing held.link.input held.link held.in_link in let offers = held.offers in cc)
       by_wait held never (record_goes went o' rec' is) = never o' rec' is
 
@@ -195,8 +201,8 @@ module _ (net : Net) (formed : IsWellFormed net) (onward : WaitsOnward net) (st 
       by_end joined.producer joined.from_strand (λ before. never_looks n looking.link.from (omega (arith, low, rises, to)) before) (has_ended (past st looking.link.from)) refl
     where
       by_wait : (p : Strand) → strand_at net st looking.link.from ≡ Some p → (IsLooking net st looking.link.from → ⊥) → WaitsFor net st looking.link.from → ⊥
-      by_wait p there never (first_level is) = never_at (negsuc 0) stands_first looking.link.from is
-      by_wait p there never (second_level is reached_first) = never_at (pos 0) stands_second looking.link.from is
+      by_wait p there never (first_level is) = never_first looking.link.from is
+      by_wait p there never (second_level is reached_first) = never_second looking.link.from is
       by_wait p there never (record_comes went before) = never before
       by_wait p there never (record_goes went o rec is) = never_writes (suc (over rank (length net.strands))) looking.link.from p there (omega arith) o rec is
 
@@ -221,8 +227,8 @@ module _ (net : Net) (formed : IsWellFormed net) (onward : WaitsOnward net) (st 
   all_ended s p here = by_end (has_ended (past st s)) refl
     where
       by_wait : WaitsFor net st s → ⊥
-      by_wait (first_level is) = never_at (negsuc 0) stands_first s is
-      by_wait (second_level is reached_first) = never_at (pos 0) stands_second s is
+      by_wait (first_level is) = never_first s is
+      by_wait (second_level is reached_first) = never_second s is
       by_wait (record_comes went looking) = never_looks (suc (rank s)) s (omega arith) looking
       by_wait (record_goes went o rec is) = never_writes (suc (over rank (length net.strands))) s p here (omega arith) o rec is
 
