@@ -39,10 +39,3 @@ module _ (net : Net) (rooted : IsRooted net) where
     | inl above ↦ (let deeper = above.1 in let same = ap rooted.depth one in absurd (omega (arith, deeper, same)))
     | inr above ↦ (let deeper = above.1 in let same = ap rooted.depth one in absurd (omega (arith, deeper, same)))
   ]
-
-  -- in one group an edge has one end
-  pub one_end : (j : ℕ) (l : Link) (s t u v : Who) → IsEdge rooted j l → AreEnds l s u → AreEnds l t v → rooted.label s ≡ rooted.label t → s ≡ t
-  one_end j l s t u v edge (inl a) (inl b) one = sym a.0 ∙ b.0
-  one_end j l s t u v edge (inr a) (inr b) one = sym a.1 ∙ b.1
-  one_end j l s t u v edge (inl a) (inr b) one = absurd (apart j l s t edge (inl (a.0, b.1)) one)
-  one_end j l s t u v edge (inr a) (inl b) one = absurd (apart j l s t edge (inr (b.0, a.1)) one)

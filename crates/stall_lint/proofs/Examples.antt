@@ -27,6 +27,7 @@ use Rattle.stall_lint.specs.Groups.StandsOn.{begins, goes_over, goes_through}
 use Rattle.stall_lint.specs.Never.{HasNoDam, NeverStalls}
 use Rattle.stall_lint.specs.Rooted.{IsAbove, IsRooted}
 use Rattle.stall_lint.proofs.Ends.{never_stalls}
+use Rattle.stall_lint.proofs.NoRounds.{no_round}
 
 -- A braid: the links from the FANINANY back to the first LOCATE are inner
 
@@ -155,7 +156,7 @@ no_dam (suc (suc (suc (suc (suc n))))) p here is = cc
 
 -- so it never stalls
 joining_never : NeverStalls joining
-joining_never = never_stalls joining joining_formed (settled_if joining refl) (λ s p here. refl) no_dam (acyclic_if joining refl) joining_rooted
+joining_never = never_stalls joining joining_formed (settled_if joining refl) (λ s p here. refl) no_dam (acyclic_if joining refl) (no_round joining joining_formed (acyclic_if joining refl) joining_rooted)
 
 -- Closed walks of nets where nothing takes what comes first
 

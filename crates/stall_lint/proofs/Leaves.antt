@@ -1,5 +1,5 @@
 -- Within a group the way from strand to strand that waits goes up inner links, then down, and leaves the group over an edge.
-use Rattle.std.proofs.Common.{◌≡◌, ◌⊎◌, inl, inr, ℕ, zero, suc, ◌+◌, ◌<◌, ◌≤◌, ◌==◌, true, false, List, length, refl, sym, ◌∙◌, ap, subst, arith, Option, Some}
+use Rattle.std.proofs.Common.{◌≡◌, ◌⊎◌, inl, inr, ℕ, zero, suc, ◌+◌, ◌<◌, ◌≤◌, ◌==◌, true, false, List, length, sym, ◌∙◌, ap, subst, arith, Option, Some, slice_get}
 use Rattle.pipe_model.specs.declared.net.Net.{Net}
 use Rattle.pipe_model.specs.declared.net.Link.{Link}
 use Rattle.pipe_model.specs.declared.net.Strand.{Strand}
@@ -23,9 +23,7 @@ use Rattle.confluence_laws.proofs.Waiting.Waits.{to_read, to_see, to_write}
 use Rattle.net_graph.specs.Fed.{fed}
 use Rattle.stall_lint.specs.Groups.{IsFollowed, IsInner}
 use Rattle.stall_lint.specs.Groups.IsFollowed.{at_join, onward}
-use Rattle.stall_lint.specs.Rooted.{IsRooted}
 use Rattle.stall_lint.proofs.Alike.{IsAlike, strand_of}
-use Rattle.stall_lint.proofs.Edges.{IsEdge}
 
 -- the strand at the end of an inner link takes its records from that link alone, or takes what comes first
 pub record IsConsumer (net : Net) (l : Link) : Type 0 where
@@ -44,7 +42,15 @@ inner_consumer net formed l inner = by inner.followed
         let to = (from_in net formed nothing_yet t 0 l e).0 in
         record { strand = p; there = ap (strand_in net) to ∙ here; takes = inl (thin, subst (λ z. link_into net z 0 ≡ Some l) (sym to) e) }
 
-module _ (input : List ℕ) (files : List ℕ → Option (List ℕ)) (net : Net) (formed : IsWellFormed net) (acyclic : IsAcyclic net) (rooted : IsRooted net) where
+-- a relation that holds within each group, and what each link is that isn't inner
+pub record IsGrouping (net : Net) (Same : Who → Who → Type 0) (Edge : ℕ → Link → Type 0) : Type 0 where
+  pub itself : (s : Who) → Same s s
+  pub on : (s t u : Who) → Same s t → Same t u → Same s u
+  pub inner : (l : Link) → IsInner net l → Same l.from l.to
+  pub inner_back : (l : Link) → IsInner net l → Same l.to l.from
+  pub either : (j : ℕ) (l : Link) → slice_get net.links j ≡ Some l → IsInner net l ⊎ Edge j l
+
+module _ (input : List ℕ) (files : List ℕ → Option (List ℕ)) (net : Net) (formed : IsWellFormed net) (acyclic : IsAcyclic net) (Same : Who → Who → Type 0) (Edge : ℕ → Link → Type 0) (groups : IsGrouping net Same Edge) where
   abbrev pub whole : Net
   whole = fed input files net
 
@@ -102,13 +108,13 @@ module _ (input : List ℕ) (files : List ℕ → Option (List ℕ)) (net : Net)
     -- the way leaves the group of x over an edge
     pub record IsLeaving (x : Who) : Type 0 where
       pub at : Who
-      pub in_group : rooted.label at ≡ rooted.label x
+      pub in_group : Same at x
       pub wait : IsWaiting whole st at
-      pub edge : IsEdge rooted wait.place wait.link
+      pub edge : Edge wait.place wait.link
 
     -- a way that leaves the group of t leaves that of s, if it is one group
-    leaves_too : (s t : Who) → rooted.label t ≡ rooted.label s → IsLeaving t → IsLeaving s
-    leaves_too s t one leaving = record { at = leaving.at; in_group = leaving.in_group ∙ one; wait = leaving.wait; edge = leaving.edge }
+    leaves_too : (s t : Who) → Same t s → IsLeaving t → IsLeaving s
+    leaves_too s t one leaving = record { at = leaving.at; in_group = groups.on leaving.at t s leaving.in_group one; wait = leaving.wait; edge = leaving.edge }
 
     waiting : (s : Who) → GoesOn whole st s → IsWaiting whole st s
     waiting s on = waits_there whole whole_formed calm st halted s on
@@ -129,7 +135,7 @@ module _ (input : List ℕ) (files : List ℕ → Option (List ℕ)) (net : Net)
     leaves_down : (n : ℕ) (s t : Who) (l : Link) → Writes s l t → IsInner net l → GoesOn whole st t → length net.strands ≤ n + below t → IsLeaving t
     leaves_down zero s t l writes inner on enough = (let few = few_below t on in absurd (omega (arith, enough, few)))
     leaves_down (suc n) s t l writes inner on enough =
-        by_edge (rooted.edge wait.place wait.link wait.at) (λ further more. leaves_down n t wait.other wait.link next further wait.goes_on (omega (arith, enough, more)))
+        by_edge (groups.either wait.place wait.link wait.at) (λ further more. leaves_down n t wait.other wait.link next further wait.goes_on (omega (arith, enough, more)))
       where
         wait : IsWaiting whole st t
         wait = waiting t on
@@ -137,19 +143,19 @@ module _ (input : List ℕ) (files : List ℕ → Option (List ℕ)) (net : Net)
         next : Writes t wait.link wait.other
         next = falls s t l writes inner on wait.other wait.link wait.waits
 
-        by_edge : IsInner net wait.link ⊎ IsEdge rooted wait.place wait.link → (IsInner net wait.link → suc (below t) ≤ below wait.other → IsLeaving wait.other) → IsLeaving t
-        by_edge (inr edge) further = record { at = t; in_group = refl; wait = wait; edge = edge }
+        by_edge : IsInner net wait.link ⊎ Edge wait.place wait.link → (IsInner net wait.link → suc (below t) ≤ below wait.other → IsLeaving wait.other) → IsLeaving t
+        by_edge (inr edge) further = record { at = t; in_group = groups.itself t; wait = wait; edge = edge }
         by_edge (inl inner_too) further =
             let ends = from_out whole whole_formed st t next.output wait.link next.at in
             let higher : suc (below wait.link.from) ≤ below wait.link.to = link_below wait.link.to wait.link.input wait.link ends.2 in
             let more : suc (below t) ≤ below wait.other = subst (λ z. suc (below z) ≤ below wait.other) ends.0 (subst (λ z. suc (below wait.link.from) ≤ below z) next.to higher) in
-            let one : rooted.label wait.other ≡ rooted.label t = ap rooted.label (sym next.to) ∙ sym (rooted.inner wait.link inner_too) ∙ ap rooted.label ends.0 in
+            let one : Same wait.other t = subst (λ z. Same z t) next.to (subst (Same wait.link.to) ends.0 (groups.inner_back wait.link inner_too)) in
             leaves_too t wait.other one (further inner_too more)
 
     -- from any strand that goes on the way leaves its group
     pub leaves : (n : ℕ) (s : Who) → GoesOn whole st s → below s < n → IsLeaving s
     leaves zero s on few = absurd (omega (arith, few))
-    leaves (suc n) s on few = by_edge (rooted.edge wait.place wait.link wait.at) (λ fewer_there. leaves n wait.other wait.goes_on (omega (arith, few, fewer_there)))
+    leaves (suc n) s on few = by_edge (groups.either wait.place wait.link wait.at) (λ fewer_there. leaves n wait.other wait.goes_on (omega (arith, few, fewer_there)))
       where
         wait : IsWaiting whole st s
         wait = waiting s on
@@ -158,20 +164,20 @@ module _ (input : List ℕ) (files : List ℕ → Option (List ℕ)) (net : Net)
         up_link i e from inner lower_leaves =
             let fewer_there : suc (below wait.other) ≤ below s = subst (λ z. suc (below z) ≤ below s) from (link_below s i wait.link e) in
             let to = (from_in whole whole_formed st s i wait.link e).0 in
-            let one : rooted.label wait.other ≡ rooted.label s = ap rooted.label (sym from) ∙ rooted.inner wait.link inner ∙ ap rooted.label to in
+            let one : Same wait.other s = subst (λ z. Same z s) from (subst (Same wait.link.from) to (groups.inner wait.link inner)) in
             leaves_too s wait.other one (lower_leaves fewer_there)
 
         inside : IsInner net wait.link → Waits whole st s wait.link wait.other → (suc (below wait.other) ≤ below s → IsLeaving wait.other) → IsLeaving s
         inside inner (to_write o rec want e plain to) lower_leaves =
             let ends = from_out whole whole_formed st s o wait.link e in
             let writes : Writes s wait.link wait.other = record { output = o; rec = rec; wants = want; at = e; plain = plain; to = to } in
-            let one : rooted.label wait.other ≡ rooted.label s = ap rooted.label (sym to) ∙ sym (rooted.inner wait.link inner) ∙ ap rooted.label ends.0 in
+            let one : Same wait.other s = subst (λ z. Same z s) to (subst (Same wait.link.to) ends.0 (groups.inner_back wait.link inner)) in
             leaves_too s wait.other one (leaves_down (length net.strands) s wait.other wait.link writes inner wait.goes_on (omega arith))
         inside inner (to_read i want e from) lower_leaves = up_link i e from inner lower_leaves
         inside inner (to_see i want e from) lower_leaves = up_link i e from inner lower_leaves
 
-        by_edge : IsInner net wait.link ⊎ IsEdge rooted wait.place wait.link → (suc (below wait.other) ≤ below s → IsLeaving wait.other) → IsLeaving s
-        by_edge (inr edge) lower_leaves = record { at = s; in_group = refl; wait = wait; edge = edge }
+        by_edge : IsInner net wait.link ⊎ Edge wait.place wait.link → (suc (below wait.other) ≤ below s → IsLeaving wait.other) → IsLeaving s
+        by_edge (inr edge) lower_leaves = record { at = s; in_group = groups.itself s; wait = wait; edge = edge }
         by_edge (inl inner) lower_leaves = inside inner wait.waits lower_leaves
 
     pub leaves_group : (s : Who) → GoesOn whole st s → IsLeaving s

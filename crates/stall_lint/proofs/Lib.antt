@@ -4,4 +4,5 @@ pub mod Ends
 pub mod Examples
 pub mod Leaves
 pub mod NoRounds
-pub mod Trees
+pub mod Repeats
+pub mod Trails

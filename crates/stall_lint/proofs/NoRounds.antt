@@ -16,11 +16,11 @@ use Rattle.stall_lint.specs.Rooted.{IsAbove, IsRooted}
 use Rattle.stall_lint.proofs.Edges.{AreEnds, IsEdge, apart, edge_ends, one_label}
 
 -- the place behind the last is the first
-behind_last : (walk : List Who) (k : ℕ) → suc k ≡ length walk → behind walk k ≡ 0
+pub behind_last : (walk : List Who) (k : ℕ) → suc k ≡ length walk → behind walk k ≡ 0
 behind_last walk k last = ap (λ b. cond b 0 (suc k)) (eq-eqb (suc k) (length walk) last)
 
 -- and behind any other the next
-behind_other : (walk : List Who) (k : ℕ) → suc k ≢ length walk → behind walk k ≡ suc k
+pub behind_other : (walk : List Who) (k : ℕ) → suc k ≢ length walk → behind walk k ≡ suc k
 behind_other walk k other = ap (λ b. cond b 0 (suc k)) (ne_eqb (suc k) (length walk) other)
 
 behind_within : (walk : List Who) (k : ℕ) → k < length walk → behind walk k < length walk

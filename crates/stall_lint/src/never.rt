@@ -8,14 +8,14 @@ ghost use Rattle.stall_lint.specs.Rooted.{IsRooted};
 
 use pipe_model::Net;
 
-/// A settled net without cycles, issuers and DAM whose groups are trees never stalls, whatever its stages are fed.
+/// A settled net without cycles, issuers and DAM in which no walk is closed never stalls, whatever its stages are fed.
 pub fn never_stalls(net: &Net)
     requires formed { IsWellFormed net.now }
     requires settled { IsSettled net.now }
     requires issues { IssuesNothing net.now }
     requires undammed { HasNoDam net.now }
     requires acyclic { IsAcyclic net.now }
-    requires rooted { IsRooted net.now }
+    requires unclosed { (walk : List ℕ) → ¬ IsRound net.now walk }
     ensures { NeverStalls net.now }
 {}
 
