@@ -6,3 +6,4 @@ pub mod Leaves
 pub mod NoRounds
 pub mod Repeats
 pub mod Trails
+pub mod Turns
