@@ -156,7 +156,7 @@ no_dam (suc (suc (suc (suc (suc n))))) p here is = cc
 
 -- so it never stalls
 joining_never : NeverStalls joining
-joining_never = never_stalls joining joining_formed (settled_if joining refl) (λ s p here. refl) no_dam (acyclic_if joining refl) (no_round joining joining_formed (acyclic_if joining refl) joining_rooted)
+joining_never = never_stalls joining joining_formed (settled_if joining refl) (λ s p here. refl) no_dam (λ walk closed. no_round joining joining_formed (acyclic_if joining refl) joining_rooted walk closed.0)
 
 -- Closed walks of nets where nothing takes what comes first
 

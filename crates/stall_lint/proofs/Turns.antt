@@ -1,18 +1,16 @@
 -- Each round, begun elsewhere and turned, is a closed walk.
-use Rattle.std.proofs.Common.{◌≡◌, ◌≢◌, ◌⊎◌, inl, inr, ℕ, zero, suc, ◌+◌, ◌-◌, ◌<◌, ◌≤◌, ◌==◌, Bool, true, false, cond, List, [], ◌∷◌, length, map, get_or, refl, sym, ◌∙◌, ap, subst, arith, Option, Some, None, slice_get, eq-eqb}
+use Rattle.std.proofs.Common.{◌≡◌, ◌≢◌, ◌⊎◌, inl, inr, ℕ, zero, suc, ◌+◌, ◌-◌, ◌<◌, ◌≤◌, ◌==◌, cond, List, [], ◌∷◌, length, map, get_or, refl, sym, ◌∙◌, ap, arith, Option, Some, None, slice_get, eq-eqb}
 use Rattle.std.specs.Prelude.{nat_lt, unwrap_or}
 use Rattle.std.specs.List.{range_with_len}
-use Rattle.std.proofs.lemmas.Bool.{cases_lt, eqb-true, le-ltb, lt-ltb, ne_eqb}
+use Rattle.std.proofs.lemmas.Bool.{cases_lt, le-ltb, lt-ltb, ne_eqb}
 use Rattle.std.proofs.lemmas.List.FromFn.{length-map-range_with_len, get_or-map-range_with_len}
 use Rattle.std.proofs.lemmas.Option.{slice_get_within, unwrap_or-slice_get}
 use Rattle.pipe_model.specs.declared.net.Net.{Net}
-use Rattle.pipe_model.specs.declared.net.Link.{Link}
 use Rattle.pipe_model.specs.State.{Who}
 use Rattle.pipe_model.proofs.Lists.{at_some}
 use Rattle.pipe_model.proofs.Numbers.{equal_or_not}
-use Rattle.stall_lint.specs.ClosedWalks.{EachFeeds, EachIsFed, Goes, IsClosedWalk, IsRound, IsStep, IsTurned, UsesEdge, Way, behind}
+use Rattle.stall_lint.specs.ClosedWalks.{EachFeeds, EachIsFed, Goes, IsClosedWalk, IsRound, IsStep, UsesEdge, Way, behind}
 use Rattle.stall_lint.specs.ClosedWalks.Way.{ByLink, Within}
-use Rattle.stall_lint.proofs.NoRounds.{behind_last, behind_other}
 use Rattle.stall_lint.proofs.Trails.{group_back}
 
 -- A list whose places are changed
