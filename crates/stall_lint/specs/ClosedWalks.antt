@@ -11,6 +11,7 @@ pub data Way : Type 0 where
   ByLink : ℕ → Way
   Within : Way
 
+-- from s to t so
 abbrev pub Goes : Net → Who → Way → Who → Type 0
 Goes net s (ByLink j) t = (l : Link) × (slice_get net.links j ≡ Some l) × (((l.from ≡ s) × (l.to ≡ t)) ⊎ ((l.from ≡ t) × (l.to ≡ s)))
 Goes net s Within t = InOneGroup net s t
@@ -56,5 +57,6 @@ pub record IsTurned (walk : List Who) : Type 0 where
   pub least : (k : ℕ) (first s : Who) → slice_get walk 0 ≡ Some first → slice_get walk k ≡ Some s → first ≤ s
   pub lesser : (second last : Who) → slice_get walk 1 ≡ Some second → slice_get walk (length walk - 1) ≡ Some last → second ≤ last
 
+-- a round that begins and turns so
 abbrev pub IsClosedWalk : Net → List Who → Type 0
 IsClosedWalk net walk = IsRound net walk × IsTurned walk
