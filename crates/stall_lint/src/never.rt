@@ -8,7 +8,8 @@ ghost use Rattle.stall_lint.specs.Rooted.{IsRooted};
 
 use pipe_model::Net;
 
-/// A settled net without issuers and DAM that has no closed walk never stalls, whatever its stages are fed.
+/// A settled net without issuers and DAM that has no closed walk never stalls, whatever its stages
+/// are fed.
 pub fn never_stalls(net: &Net)
     requires formed { IsWellFormed net.now }
     requires settled { IsSettled net.now }
