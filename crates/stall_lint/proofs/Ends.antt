@@ -1,11 +1,13 @@
 -- A net in which no walk is closed never stalls, whatever it is fed.
 use Rattle.std.proofs.Common.{◌≡◌, ◌⊎◌, inl, inr, ℕ, zero, suc, ◌<◌, Bool, true, false, List, length, refl, sym, ◌∙◌, ap, subst, arith, Option, Some, slice_get}
+use Rattle.std.proofs.lemmas.Bool.{cases_lt}
 use Rattle.std.proofs.lemmas.Option.{slice_get_within}
 use Rattle.pipe_model.specs.declared.net.Link.{Link}
 use Rattle.pipe_model.specs.declared.net.Net.{Net}
 use Rattle.pipe_model.specs.Event.{has_ended}
 use Rattle.pipe_model.specs.Plain.{IsAcyclic, IssuesNothing}
-use Rattle.pipe_model.specs.Play.{play}
+use Rattle.pipe_model.specs.declared.step.Entry.{Entry}
+use Rattle.pipe_model.specs.Play.{IsLegal, IsStalled, play}
 use Rattle.pipe_model.specs.Settled.{IsSettled, Meets}
 use Rattle.pipe_model.specs.State.{IsThere, State, Who, nothing_yet, past, strand_at}
 use Rattle.pipe_model.specs.WellFormed.{IsWellFormed}
@@ -17,7 +19,7 @@ use Rattle.confluence_laws.proofs.Waiting.{GoesOn, IsCalm, IsHalted, IsWaiting, 
 use Rattle.confluence_laws.proofs.Waiting.Waits.{to_read, to_see, to_write}
 use Rattle.net_graph.specs.Fed.{fed}
 use Rattle.net_graph.proofs.Feeds.{fed_formed}
-use Rattle.stall_lint.specs.ClosedWalks.{IsRound}
+use Rattle.stall_lint.specs.ClosedWalks.{IsClosedWalk, IsRound}
 use Rattle.stall_lint.specs.Groups.{InOneGroup, IsInner}
 use Rattle.stall_lint.specs.Groups.InOneGroup.{alone, down, up}
 use Rattle.stall_lint.specs.Never.{HasNoDam, NeverStalls}
@@ -25,7 +27,9 @@ use Rattle.stall_lint.proofs.Alike.{strand_of}
 use Rattle.stall_lint.proofs.Edges.{AreEnds}
 use Rattle.stall_lint.proofs.Leaves.{IsGrouping, IsLeaving, leaves_group}
 use Rattle.stall_lint.proofs.Repeats.{Hop, IsEndless, round}
+use Rattle.stall_lint.proofs.Rings.{Reaches, acyclic, ends_there}
 use Rattle.stall_lint.proofs.Trails.{group_on}
+use Rattle.stall_lint.proofs.Turns.{closed_walk}
 
 -- Where nothing is to be shown but that something can't be, finitely many questions may be taken as decided
 
@@ -147,11 +151,28 @@ module _ (net : Net) (formed : IsWellFormed net) (settled : IsSettled net) (issu
           (λ s lt fail. all_decided (length net.strands) (λ t. InOneGroup net s t ⊎ (InOneGroup net s t → ⊥)) (λ t lt_t. decided (InOneGroup net s t)) fail)
           (λ all. fails (λ s t lt_s lt_t. all s lt_s t lt_t))
 
-  pub never_stalls : ((walk : List ℕ) → IsRound net walk → ⊥) → NeverStalls net
-  never_stalls unclosed input files es legal stalled = stalled.1 (λ s there. by_end s there (has_ended (past (play (fed input files net) es) s)) refl)
+  not_stalled : ((walk : List ℕ) → IsRound net walk → ⊥) → (input : List ℕ) (files : List ℕ → Option (List ℕ)) (es : List Entry) → IsLegal (fed input files net) es → IsStalled (fed input files net) es → ⊥
+  not_stalled unclosed input files es legal stalled = stalled.1 (λ s there. by_end s there (has_ended (past (play (fed input files net) es) s)) refl)
     where
       by_end : (s : Who) → IsThere (fed input files net) (play (fed input files net) es) s → (b : Bool) → has_ended (past (play (fed input files net) es) s) ≡ b → has_ended (past (play (fed input files net) es) s) ≡ true
       by_end s there true is = is
       by_end s there false is =
           let p = the_event (strand_at (fed input files net) (play (fed input files net) es) s) there in
           absurd (none_goes_on unclosed input files (play (fed input files net) es) (halted_at (fed input files net) (fed_formed input files net formed) es legal stalled.0) s (record { strand = p.0; there = p.1; going = is }))
+
+-- each strand leads to each other or not
+reach_decided : (net : Net) → IsWellFormed net → (((s t : Who) → Reaches net s t ⊎ (Reaches net s t → ⊥)) → ⊥) → ⊥
+reach_decided net formed fails = all_decided (length net.strands) (λ s. (t : Who) → t < length net.strands → Reaches net s t ⊎ (Reaches net s t → ⊥))
+    (λ s lt fail. all_decided (length net.strands) (λ t. Reaches net s t ⊎ (Reaches net s t → ⊥)) (λ t lt_t. decided (Reaches net s t)) fail)
+    (λ all. fails (λ s t. elim (cases_lt s (length net.strands)) [
+      | inl lt_s ↦ elim (cases_lt t (length net.strands)) [
+        | inl lt_t ↦ all s lt_s t lt_t
+        | inr le ↦ inr (λ reaches. let lt = (ends_there net formed s t reaches).1 in absurd (omega (arith, le, lt)))
+      ]
+      | inr le ↦ inr (λ reaches. let lt = (ends_there net formed s t reaches).0 in absurd (omega (arith, le, lt)))
+    ]))
+
+pub never_stalls : (net : Net) → IsWellFormed net → IsSettled net → IssuesNothing net → HasNoDam net → ((walk : List ℕ) → IsClosedWalk net walk → ⊥) → NeverStalls net
+never_stalls net formed settled issues undammed unclosed input files es legal stalled =
+    let no_round : (walk : List ℕ) → IsRound net walk → ⊥ = λ walk round. (let turned = closed_walk net walk round in unclosed turned.0 turned.1) in
+    reach_decided net formed (λ reach. not_stalled net formed settled issues undammed (acyclic net formed undammed no_round reach) no_round input files es legal stalled)

@@ -13,12 +13,12 @@ use Rattle.pipe_model.specs.State.{Who, link_into, nothing_yet, same, strand_in}
 use Rattle.pipe_model.specs.Table.{form}
 use Rattle.pipe_model.proofs.Lists.{all_at, found_at}
 use Rattle.pipe_model.proofs.Truths.{both}
-use Rattle.confluence_laws.specs.Examples.{buffered, joining, queue}
+use Rattle.confluence_laws.specs.Examples.{buffered, joining, queue, ring}
 use Rattle.confluence_laws.proofs.Basics.{from_in}
 use Rattle.confluence_laws.proofs.Acyclic.{acyclic_if}
 use Rattle.confluence_laws.proofs.Formed.{joining_formed}
 use Rattle.confluence_laws.proofs.Walks.{settled_if}
-use Rattle.stall_lint.specs.ClosedWalks.{Goes, IsClosedWalk, IsStep, Way, behind}
+use Rattle.stall_lint.specs.ClosedWalks.{EachFeeds, Goes, IsClosedWalk, IsStep, Way, behind}
 use Rattle.stall_lint.specs.ClosedWalks.Way.{ByLink}
 use Rattle.stall_lint.specs.Groups.{InOneGroup, IsFollowed, IsInner, StandsOn}
 use Rattle.stall_lint.specs.Groups.InOneGroup.{alone, down, up}
@@ -156,7 +156,7 @@ no_dam (suc (suc (suc (suc (suc n))))) p here is = cc
 
 -- so it never stalls
 joining_never : NeverStalls joining
-joining_never = never_stalls joining joining_formed (settled_if joining refl) (λ s p here. refl) no_dam (acyclic_if joining refl) (no_round joining joining_formed (acyclic_if joining refl) joining_rooted)
+joining_never = never_stalls joining joining_formed (settled_if joining refl) (λ s p here. refl) no_dam (λ walk closed. no_round joining joining_formed (acyclic_if joining refl) joining_rooted walk closed.0)
 
 -- Closed walks of nets where nothing takes what comes first
 
@@ -245,3 +245,31 @@ buffered_walk = (
     least (suc (suc zero)) first s a b = (let x : 1 ≡ first = cc in let y : 5 ≡ s = cc in omega (arith, x, y))
     least (suc (suc (suc zero))) first s a b = (let x : 1 ≡ first = cc in let y : 4 ≡ s = cc in omega (arith, x, y))
     least (suc (suc (suc (suc k)))) first s a b = cc
+
+-- A strand whose output leads to its own input is a closed walk by itself
+
+ring_walk : IsClosedWalk ring (0 ∷ [])
+ring_walk = (
+  record {
+    some = omega arith;
+    once = λ j k s. apart_places (0 ∷ []) refl j k s;
+    ways = map ByLink (0 ∷ []);
+    count = refl;
+    goes = goes;
+    no_twice = λ j k n. apart_ways (0 ∷ []) refl j k n;
+    closes = inr (inl feeds);
+  },
+  record { least = least; lesser = λ second last at_1 at_end. cc },
+)
+  where
+    goes : (k : ℕ) (way : Way) (s t : Who) → slice_get (map ByLink (0 ∷ [])) k ≡ Some way → IsStep (0 ∷ []) k s t → Goes ring s way t
+    goes zero way s t at step = step_at ring 0 0 0 (0 ∷ []) 0 (rendezvous 0 0 0 0, refl, inl (refl, refl)) refl refl (map ByLink (0 ∷ [])) refl way s t at step
+    goes (suc k) way s t at step = cc
+
+    feeds : EachFeeds ring (0 ∷ [])
+    feeds zero s t step = (let a : Some 0 ≡ Some s = step.here in let b : Some 0 ≡ Some t = step.next in let x : 0 ≡ s = cc in let y : 0 ≡ t = cc in (0, rendezvous 0 0 0 0, refl, x, y))
+    feeds (suc k) s t step = (let here = step.here in cc)
+
+    least : (k : ℕ) (first s : Who) → Some 0 ≡ Some first → slice_get (0 ∷ []) k ≡ Some s → first ≤ s
+    least zero first s a b = (let x : first ≡ s = cc in omega (arith, x))
+    least (suc k) first s a b = cc

@@ -5,4 +5,6 @@ pub mod Examples
 pub mod Leaves
 pub mod NoRounds
 pub mod Repeats
+pub mod Rings
 pub mod Trails
+pub mod Turns

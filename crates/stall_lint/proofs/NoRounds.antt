@@ -9,7 +9,7 @@ use Rattle.pipe_model.specs.State.{Who}
 use Rattle.pipe_model.specs.WellFormed.{IsWellFormed}
 use Rattle.pipe_model.proofs.Lists.{at_some}
 use Rattle.pipe_model.proofs.Numbers.{equal_or_not}
-use Rattle.stall_lint.specs.ClosedWalks.{EachFeeds, Goes, IsRound, IsStep, UsesEdge, Way, behind}
+use Rattle.stall_lint.specs.ClosedWalks.{EachFeeds, EachIsFed, Goes, IsRound, IsStep, UsesEdge, Way, behind}
 use Rattle.stall_lint.specs.ClosedWalks.Way.{ByLink, Within}
 use Rattle.stall_lint.specs.Groups.{IsInner}
 use Rattle.stall_lint.specs.Rooted.{IsAbove, IsRooted}
@@ -32,25 +32,19 @@ behind_within walk k lt = elim (equal_or_not (suc k) (length walk)) [
 module _ (net : Net) (formed : IsWellFormed net) (acyclic : IsAcyclic net) (rooted : IsRooted net) (walk : List Who) (round : IsRound net walk) where
   -- Where each strand feeds the next
 
-  module _ (feeds : EachFeeds net walk) where
-    rises : (k : ℕ) (s t : Who) → IsStep walk k s t → acyclic.rank s < acyclic.rank t
-    rises k s t step =
-        let f = feeds k s t step in
-        subst (λ z. acyclic.rank z < acyclic.rank t) f.3 (subst (λ z. acyclic.rank f.1.from < acyclic.rank z) f.4 (acyclic.along f.0 f.1 f.2))
-
-    -- the ranks rise from the first place on
-    higher : (k : ℕ) (s t : Who) → slice_get walk 0 ≡ Some s → slice_get walk k ≡ Some t → acyclic.rank s ≤ acyclic.rank t
-    higher zero s t first at = (let one : s ≡ t = (let e : Some s ≡ Some t = sym first ∙ at in cc) in let r = ap acyclic.rank one in omega (arith, r))
-    higher (suc k) s t first at =
+  -- what each step of a walk brings nearer can't come back
+  module _ (Less : Who → Who → Type 0) (on : (s t u : Who) → Less s t → Less t u → Less s u) (never : (s : Who) → Less s s → ⊥) (steps : (k : ℕ) (s t : Who) → IsStep walk k s t → Less s t) where
+    behind_first : (k : ℕ) (s t : Who) → slice_get walk 0 ≡ Some s → slice_get walk k ≡ Some t → (s ≡ t) ⊎ Less s t
+    behind_first zero s t first at = inl (let e : Some s ≡ Some t = sym first ∙ at in cc)
+    behind_first (suc k) s t first at =
         let lt = slice_get_within walk (suc k) t at in
         let u = at_some walk k (omega (arith, lt)) in
-        let before = higher k s u.0 first u.1 in
         let next : behind walk k ≡ suc k = behind_other walk k (λ last. omega (arith, lt, last)) in
-        let up = rises k u.0 t (record { here = u.1; next = ap (slice_get walk) next ∙ at }) in
-        omega (arith, before, up)
+        let step = steps k u.0 t (record { here = u.1; next = ap (slice_get walk) next ∙ at }) in
+        elim (behind_first k s u.0 first u.1) [ inl it ↦ inr (subst (λ z. Less z t) (sym it) step) | inr less ↦ inr (on s u.0 t less step) ]
 
-    never_feeds : ⊥
-    never_feeds = by (length walk) refl
+    no_ring : ⊥
+    no_ring = by (length walk) refl
       where
         by : (n : ℕ) → length walk ≡ n → ⊥
         by zero none = (let some = round.some in absurd (omega (arith, some, none)))
@@ -58,9 +52,16 @@ module _ (net : Net) (formed : IsWellFormed net) (acyclic : IsAcyclic net) (root
             let some = round.some in
             let first = at_some walk 0 some in
             let last = at_some walk n (omega (arith, is)) in
-            let low = higher n first.0 last.0 first.1 last.1 in
-            let up = rises n last.0 first.0 (record { here = last.1; next = ap (slice_get walk) (behind_last walk n (sym is)) ∙ first.1 }) in
-            absurd (omega (arith, low, up))
+            let step = steps n last.0 first.0 (record { here = last.1; next = ap (slice_get walk) (behind_last walk n (sym is)) ∙ first.1 }) in
+            elim (behind_first n first.0 last.0 first.1 last.1) [ inl it ↦ never first.0 (subst (λ z. Less z first.0) (sym it) step) | inr less ↦ never first.0 (on first.0 last.0 first.0 less step) ]
+
+  rises : (s t j : ℕ) (l : Link) → slice_get net.links j ≡ Some l → l.from ≡ s → l.to ≡ t → acyclic.rank s < acyclic.rank t
+  rises s t j l at from to = subst (λ z. acyclic.rank z < acyclic.rank t) from (subst (λ z. acyclic.rank l.from < acyclic.rank z) to (acyclic.along j l at))
+
+  -- the ranks would rise, or fall, all the way round
+  never_feeds : EachFeeds net walk ⊎ EachIsFed net walk → ⊥
+  never_feeds (inl feeds) = no_ring (λ s t. acyclic.rank s < acyclic.rank t) (λ s t u a b. omega (arith, a, b)) (λ s less. omega (arith, less)) (λ k s t step. let f = feeds k s t step in rises s t f.0 f.1 f.2 f.3 f.4)
+  never_feeds (inr fed) = no_ring (λ s t. acyclic.rank t < acyclic.rank s) (λ s t u a b. omega (arith, a, b)) (λ s less. omega (arith, less)) (λ k s t step. let f = fed k s t step in rises t s f.0 f.1 f.2 f.3 f.4)
 
   -- Where an edge is used
 

@@ -11,6 +11,7 @@ pub data Way : Type 0 where
   ByLink : ℕ → Way
   Within : Way
 
+-- from s to t so
 abbrev pub Goes : Net → Who → Way → Who → Type 0
 Goes net s (ByLink j) t = (l : Link) × (slice_get net.links j ≡ Some l) × (((l.from ≡ s) × (l.to ≡ t)) ⊎ ((l.from ≡ t) × (l.to ≡ s)))
 Goes net s Within t = InOneGroup net s t
@@ -37,7 +38,11 @@ pub record UsesEdge (net : Net) (ways : List Way) : Type 0 where
 abbrev pub EachFeeds : Net → List Who → Type 0
 EachFeeds net walk = (k : ℕ) (s t : Who) → IsStep walk k s t → (j : ℕ) × (l : Link) × (slice_get net.links j ≡ Some l) × (l.from ≡ s) × (l.to ≡ t)
 
--- strands without repeats, where each two neighbours stand at the two ends of a link or in one group, and no link serves twice
+-- the same where the walk is read from its end
+abbrev pub EachIsFed : Net → List Who → Type 0
+EachIsFed net walk = (k : ℕ) (s t : Who) → IsStep walk k s t → (j : ℕ) × (l : Link) × (slice_get net.links j ≡ Some l) × (l.from ≡ t) × (l.to ≡ s)
+
+-- strands without repeats, where each two neighbours stand at the two ends of a link or in one group, and no link serves twice; an edge serves, or each strand feeds the next one, one way or the other
 pub record IsRound (net : Net) (walk : List Who) : Type 0 where
   pub some : 0 < length walk
   pub once : (j k : ℕ) (s : Who) → slice_get walk j ≡ Some s → slice_get walk k ≡ Some s → j ≡ k
@@ -45,12 +50,13 @@ pub record IsRound (net : Net) (walk : List Who) : Type 0 where
   pub count : length ways ≡ length walk
   pub goes : (k : ℕ) (way : Way) (s t : Who) → slice_get ways k ≡ Some way → IsStep walk k s t → Goes net s way t
   pub no_twice : (j k n : ℕ) → slice_get ways j ≡ Some (ByLink n) → slice_get ways k ≡ Some (ByLink n) → j ≡ k
-  pub closes : UsesEdge net ways ⊎ EachFeeds net walk
+  pub closes : UsesEdge net ways ⊎ (EachFeeds net walk ⊎ EachIsFed net walk)
 
 -- it begins with its least strand, and the lesser of that one's two neighbours comes second
 pub record IsTurned (walk : List Who) : Type 0 where
   pub least : (k : ℕ) (first s : Who) → slice_get walk 0 ≡ Some first → slice_get walk k ≡ Some s → first ≤ s
   pub lesser : (second last : Who) → slice_get walk 1 ≡ Some second → slice_get walk (length walk - 1) ≡ Some last → second ≤ last
 
+-- a round that begins and turns so
 abbrev pub IsClosedWalk : Net → List Who → Type 0
 IsClosedWalk net walk = IsRound net walk × IsTurned walk

@@ -1,4 +1,5 @@
-//! Whether a net can stall, told before it runs: groups of strands, closed walks through them, and laws that do nothing.
+//! Whether a net can stall, told before it runs: groups of strands, closed walks through them, and
+//! laws that do nothing.
 #![tactic(auto)]
 
 mod never;
