@@ -20,7 +20,7 @@ use Rattle.call_words.specs.Command.{command_of}
 use Rattle.call_words.specs.declared.command.Command.TheVariants.{Run, Sample}
 use Rattle.call_meaning.specs.declared.status.Outcome.{Outcome}
 use Rattle.call_meaning.specs.declared.status.Outcome.TheVariants.{Done, Spent}
-use Rattle.call_meaning.specs.Effects.{Before, Effect, effect_of, no_effect, traced, untraced}
+use Rattle.call_meaning.specs.Effects.{Before, Effect, effect_of, no_effect, traced}
 use Rattle.call_meaning.specs.Headline.{HasOneSummary, Headline, IsEnded, IsHeadline, IsOneReading, IsReplyOf, IsStall}
 use Rattle.call_meaning.specs.Headline.HasOneAnswer.{reads, spends}
 use Rattle.call_meaning.specs.Headline.HasOneSummary.{sums_up as one_sum, falls_short}

@@ -1,5 +1,5 @@
 -- Words mean one outcome and one effect at most, but for the file of a journal.
-use Rattle.std.proofs.Common.{◌≡◌, ◌⊎◌, inl, inr, ℕ, ◌<◌, ◌≤◌, List, length, refl, sym, ◌∙◌, ap, subst, arith, Option, Some, None}
+use Rattle.std.proofs.Common.{◌≡◌, ◌⊎◌, inl, inr, ℕ, ◌<◌, ◌≤◌, List, length, sym, ◌∙◌, ap, subst, arith, Option, Some, None}
 use Rattle.pipe_model.specs.declared.net.Net.{Net}
 use Rattle.pipe_model.specs.declared.step.Entry.{Entry}
 use Rattle.pipe_model.specs.Settled.{IsSettled}
@@ -63,7 +63,7 @@ module _ (words : List (List ℕ)) where
   check_called : (net : Net) (name : List ℕ) (checks : ChecksNet words net name) → IsCall words (Check checks.spec name) net
   check_called net name checks = record { command_is = checks.command; net_of = checks.net_of }
 
-  pub sample_called : (net : Net) (count steps : ℕ) (samples : SamplesNet words net count steps) → IsCall words (Sample count samples.workers steps) net
+  sample_called : (net : Net) (count steps : ℕ) (samples : SamplesNet words net count steps) → IsCall words (Sample count samples.workers steps) net
   sample_called net count steps samples = record { command_is = samples.command; net_of = samples.net_of }
 
   -- words are one command, of one net

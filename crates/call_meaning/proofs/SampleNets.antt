@@ -1,5 +1,5 @@
 -- The net of the sample's specification, which is settled and plain.
-use Rattle.std.proofs.Common.{◌≡◌, ℕ, true, false, List, [], ◌∷◌, codes, refl, sym, ap, subst, inl, inr, ◌∙◌, Some, arith}
+use Rattle.std.proofs.Common.{◌≡◌, ℕ, true, false, List, [], ◌∷◌, codes, refl, ap, inl, inr, Some, arith}
 use Rattle.pipe_model.specs.declared.kind.Kind.{Kind}
 use Rattle.pipe_model.specs.declared.kind.Kind.TheVariants.{Change, ConsoleIn, ConsoleOut, FanInAny, Locate}
 use Rattle.pipe_model.specs.declared.kind.Times.TheVariants.{All}
@@ -9,8 +9,7 @@ use Rattle.pipe_model.specs.Nets.{net_from, rendezvous, strand}
 use Rattle.pipe_model.specs.Plain.{IsPlain}
 use Rattle.pipe_model.specs.Straight.{all_columns}
 use Rattle.confluence_laws.proofs.Acyclic.{plain_if}
-use Rattle.argument_parts.specs.Parts.{IsAtEnd, IsFirstPart, IsNext, IsNot}
-use Rattle.argument_parts.specs.Strings.{IsDelimited}
+use Rattle.argument_parts.specs.Parts.{IsAtEnd, IsNext, IsNot}
 use Rattle.argument_parts.specs.declared.part.Part.TheVariants as Asked
 use Rattle.argument_parts.specs.declared.part.Value.TheVariants as Read
 use Rattle.argument_parts.proofs.DelimitedParts.{delimited_comes}

@@ -81,10 +81,10 @@ pub data HasOneSummary (net : Net) (count steps : ℕ) (outcome : Outcome) (effe
   -- or too few steps
   falls_short : ((order : List Entry) → IsLegal net order → IsComplete net order → steps < length order) → outcome ≡ Spent steps → effect ≡ no_effect → HasOneSummary net count steps outcome effect
 
--- what words of a settled specification come to, on the bytes that the input gave and the files that there were
+-- what words of a settled specification come to, on the bytes that the input gave and the files that there were, and what those of the sample do
 pub record Headline (words : List (List ℕ)) (given : Before) (outcome : Outcome) (effect : Effect) : Type 0 where
   pub runs : (net : Net) (steps : ℕ) (trace : Option (List ℕ)) (runs : RunsNet words net steps trace) → IsSettled (net_on given net) → fed_size given net ≤ input_limit →
       IsHeadline (net_on given net) steps runs.run.workers trace outcome effect
-  -- the net of the sample is settled, and never stalls
+  -- the sample owes no condition: its net is settled, and never stalls
   pub samples : (count workers steps : ℕ) → command_of words ≡ Some (Sample count workers steps) →
       (net : Net) × IsNetOf sample_spec net × HasOneSummary (with_input (sample_text count) net) count steps outcome effect

@@ -11,7 +11,7 @@ ghost use Rattle.net_graph.specs.Fed.{with_input};
 ghost use Rattle.call_words.specs.Command.{command_of};
 ghost use Rattle.call_words.specs.declared.command.Command.TheVariants.{Sample};
 ghost use Rattle.call_meaning.specs.declared.status.Status.{Status as StatusIs};
-ghost use Rattle.call_meaning.specs.declared.status.Status.TheVariants.{Spent, Zero};
+ghost use Rattle.call_meaning.specs.declared.status.Status.TheVariants.{NoMemory, Spent, WriteFault, Zero};
 ghost use Rattle.call_meaning.specs.Answer.{Answers, IsUnhindered};
 ghost use Rattle.call_meaning.specs.Devices.{Outside};
 ghost use Rattle.call_meaning.specs.Meaning.{IsNetOf};
@@ -33,8 +33,11 @@ pub fn sample_completes()
         (reply (with_input input net) (play (with_input input net) order)).code ≡ pos 0 }
 {}
 
-/// A call of the sample in which nothing failed and that wanted no memory answers status 0, or 4.
+/// A call of the sample answers status 0 or 4, or the fault of a stream that it writes, or want of memory. Where nothing failed and no
+/// memory was wanted it answers 0 or 4.
 pub fn sample_answers()
-    ensures { (words : List (List ℕ)) (old new : Outside) (diag diag' : Device) (status : StatusIs) (count workers steps : ℕ) → command_of words ≡ Some (Sample count workers steps) →
+    ensures any { (words : List (List ℕ)) (old new : Outside) (diag diag' : Device) (status : StatusIs) (count workers steps : ℕ) → command_of words ≡ Some (Sample count workers steps) →
+        Answers words old new diag diag' status → ((status ≡ Zero) ⊎ (status ≡ Spent)) ⊎ ((status ≡ WriteFault) ⊎ (status ≡ NoMemory)) }
+    ensures unhindered { (words : List (List ℕ)) (old new : Outside) (diag diag' : Device) (status : StatusIs) (count workers steps : ℕ) → command_of words ≡ Some (Sample count workers steps) →
         Answers words old new diag diag' status → IsUnhindered old new diag diag' status → (status ≡ Zero) ⊎ (status ≡ Spent) }
 {}
