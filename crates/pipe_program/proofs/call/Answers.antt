@@ -20,4 +20,4 @@ made_of words input output diag source sink texts shelf after told status source
 
 pub returns : goal.returns
 returns g c =
-    made_of _ _ _ _ _ _ _ _ _ _ _ c.new-source.ensures c.new-sink.ensures c.new-texts.ensures c.new-shelf.ensures c.pipe_main-status.ensures
+    made_of _ _ _ _ _ _ _ _ _ _ _ c.new-source.ensures c.new-sink.ensures c.new-texts.ensures c.new-shelf.ensures c.pipe_main-status.ensures.answers
