@@ -2,4 +2,5 @@ pub mod Answer
 pub mod Examples
 pub mod Feeds
 pub mod Joins
+pub mod Jumps
 pub mod Walks

@@ -5,7 +5,9 @@
 mod answer;
 mod feeds;
 mod joins;
+mod jumps;
 mod kinds;
+mod places;
 mod rounds;
 mod told;
 mod walks;
