@@ -9,4 +9,5 @@ pub mod Producing
 pub mod Rounding
 pub mod Seeking
 pub mod Strides
+pub mod Waking
 pub mod Ways

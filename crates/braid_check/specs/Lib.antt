@@ -1,3 +1,4 @@
+pub mod Agenda
 pub mod Answer
 pub mod Examples
 pub mod Feeds

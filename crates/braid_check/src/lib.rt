@@ -2,6 +2,7 @@
 //! first part.
 #![tactic(auto)]
 
+mod agenda;
 mod answer;
 mod feeds;
 mod joins;
