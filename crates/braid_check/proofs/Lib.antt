@@ -2,8 +2,12 @@ pub mod ApartFormed
 pub mod Counting
 pub mod Feeding
 pub mod Going
+pub mod Jumping
 pub mod Meeting
+pub mod Parting
 pub mod Producing
 pub mod Rounding
 pub mod Seeking
+pub mod Strides
+pub mod Waking
 pub mod Ways

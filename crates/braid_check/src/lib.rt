@@ -2,10 +2,13 @@
 //! first part.
 #![tactic(auto)]
 
+mod agenda;
 mod answer;
 mod feeds;
 mod joins;
+mod jumps;
 mod kinds;
+mod places;
 mod rounds;
 mod told;
 mod walks;
