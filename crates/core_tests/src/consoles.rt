@@ -1,5 +1,5 @@
 //! The small core of the tests: `console | console | console` on three records.
-ghost use Rattle.std.specs.Prelude.{◌≡◌, ◌≤◌, ◌∷◌, [], true, IfOk};
+ghost use Rattle.std.specs.Prelude.{◌≡◌, ◌≤◌, IfOk};
 ghost use Rattle.pipe_model.specs.declared.kind.Kind.TheVariants.{ConsoleIn, ConsoleOut};
 ghost use Rattle.confluence_laws.specs.Examples.{passing};
 ghost use Rattle.core_machine.specs.Machine.{started};
@@ -64,20 +64,24 @@ impl Stage for Console {
     }
 }
 
-// The stage of a CONSOLE that is first, with its bytes, before its first event. Its output is connected.
-fn reading(alloc: Global, bytes: &[u8]) -> Result<Listed<TextLines>, NoMemory>
-    ensures { IfOk result (IsStageOf LinesStand lines_look (ConsoleIn bytes.now) (true ∷ [])) }
+/// The stage of a CONSOLE that is first, with its bytes, before its first event.
+pub(crate) fn reading(
+    alloc: Global,
+    bytes: &[u8],
+    outputs: &[bool],
+) -> Result<Listed<TextLines>, NoMemory>
+    ensures { IfOk result (IsStageOf LinesStand lines_look (ConsoleIn bytes.now) outputs.now) }
 {
     let lines = TextLines::new(Rec::from_slice(alloc, bytes)?);
-    Listed::new(alloc, lines, Order::WritesFirst, &[true], false)
+    Listed::new(alloc, lines, Order::WritesFirst, outputs, false)
 }
 
-// The stage of a CONSOLE that isn't first, before its first event, with its output connected or not.
-fn writing(alloc: Global, is_linked: bool) -> Result<Listed<Each<Copies>>, NoMemory>
-    ensures { IfOk result (IsStageOf (EachStand CopiesStand) (each_look copies_look) ConsoleOut (is_linked ∷ [])) }
+/// The stage of a CONSOLE that isn't first, before its first event.
+pub(crate) fn writing(alloc: Global, outputs: &[bool]) -> Result<Listed<Each<Copies>>, NoMemory>
+    ensures { IfOk result (IsStageOf (EachStand CopiesStand) (each_look copies_look) ConsoleOut outputs.now) }
 {
     let copies = Copies::lists(true);
-    Listed::new(alloc, copies, Order::WritesFirst, &[is_linked], true)
+    Listed::new(alloc, copies, Order::WritesFirst, outputs, true)
 }
 
 fn passing_net(alloc: Global) -> Result<Net, NoMemory>
@@ -98,9 +102,9 @@ pub(crate) fn passing_core(alloc: Global, budget: u64) -> Result<Core<Console>, 
     ensures { IfOk result (λ core. core ≡ started passing budget) }
 {
     let net = passing_net(alloc)?;
-    let first = reading(alloc, b"ab\ncd\nb")?;
-    let second = writing(alloc, true)?;
-    let last = writing(alloc, false)?;
+    let first = reading(alloc, b"ab\ncd\nb", &[true])?;
+    let second = writing(alloc, &[true])?;
+    let last = writing(alloc, &[false])?;
     let stages = vec![in alloc;
         Console::Reads(first),
         Console::Writes(second),

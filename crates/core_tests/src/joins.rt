@@ -28,7 +28,8 @@ fn the_least_reason_is_told(rt: HostRuntime) -> Result<(), Fail> {
     Ok(())
 }
 
-fn located(alloc: Global, text: &[u8]) -> Result<Kind, NoMemory>
+/// LOCATE of a string in the whole record.
+pub(crate) fn located(alloc: Global, text: &[u8]) -> Result<Kind, NoMemory>
     ensures { IfOk result (λ kind. kind ≡ locate text.now) }
 {
     let range = Range {
@@ -40,8 +41,8 @@ fn located(alloc: Global, text: &[u8]) -> Result<Kind, NoMemory>
     Ok(Kind::Locate { range, text })
 }
 
-// (endchar ?) console | a: locate /x/ | b: locate /y/ | c: faninany | d: faninany | console ? a: | d: ? b: | c:
-fn nesting_net(alloc: Global) -> Result<Net, NoMemory>
+/// (endchar ?) console | a: locate /x/ | b: locate /y/ | c: faninany | d: faninany | console ? a: | d: ? b: | c:
+pub(crate) fn nesting_net(alloc: Global) -> Result<Net, NoMemory>
     ensures { IfOk result (λ net. net ≡ nesting) }
 {
     let pair = [true, true];

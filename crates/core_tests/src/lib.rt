@@ -3,6 +3,8 @@
 #![tactic(auto)]
 
 #[cfg(test)]
+mod braids;
+#[cfg(test)]
 mod consoles;
 #[cfg(test)]
 mod entries;
@@ -10,6 +12,8 @@ mod entries;
 mod joins;
 #[cfg(test)]
 mod levels;
+#[cfg(test)]
+mod orders;
 #[cfg(test)]
 mod passes;
 #[cfg(test)]

@@ -17,14 +17,15 @@ fn a_run_keeps_what_was_taken(rt: HostRuntime) -> Result<(), Fail> {
     Ok(())
 }
 
-// A strand's event on its first stream, with its work.
-fn work<S: Stage>(
+/// A strand's event on a stream, where it may have one, with its work.
+pub(crate) fn work<S: Stage>(
     core: &mut Core<S>,
     alloc: Global,
     strand: u32,
+    stream: u16,
     room: &mut Vec<u8>,
 ) -> Result<(), NoMemory> {
-    let Turned::Work(job) = core.turn(strand, 0, room) else {
+    let Turned::Work(job) = core.turn(strand, stream, room) else {
         return Ok(());
     };
     let done = job.run(alloc, room);
@@ -39,7 +40,7 @@ fn records_are_taken_and_put_in_a_row(rt: HostRuntime) -> Result<(), Fail> {
     let mut core = passing_core(alloc, 40)?;
     let mut room = Vec::with_capacity(alloc, 2)?;
     for strand in [0, 1, 2, 0, 1, 1, 2, 2] {
-        work(&mut core, alloc, strand, &mut room)?;
+        work(&mut core, alloc, strand, 0, &mut room)?;
     }
     if core.is_broken() {
         return Err(NoMemory.into());

@@ -1,4 +1,4 @@
-use Rattle.std.proofs.Common.{◌∙◌, refl, sym, ap, subst, true, false, [], ◌∷◌}
+use Rattle.std.proofs.Common.{◌∙◌, refl, sym, ap, subst, true, false, []}
 use Rattle.std.proofs.lemmas.Result.{IfOk-weaker}
 use Rattle.pipe_model.specs.declared.kind.Kind.TheVariants.{ConsoleOut}
 use Rattle.pipe_model.specs.Shape.{each_record, copied}
@@ -10,5 +10,5 @@ use Rattle.core_tests.proofs.consoles.writing.Goals as goal
 pub returns : goal.returns
 returns c =
     let looks = ap (each_look copies_look) c.lists-copies.ensures ∙ fresh_copies_look true in
-    IfOk-weaker c.new.result _ _ (λ x fresh. stage_of (EachStand CopiesStand) (each_look copies_look) ConsoleOut (λ outputs. each_record copied) c.lists-copies.result _ (c.args.is_linked ∷ []) true x fresh
+    IfOk-weaker c.new.result _ _ (λ x fresh. stage_of (EachStand CopiesStand) (each_look copies_look) ConsoleOut (λ outputs. each_record copied) c.lists-copies.result _ c.args.outputs.now true x fresh
     (λ s. refl) looks (λ keeps. looks) (subst (λ l. EachStand CopiesStand l false (each_record copied) [] []) (sym c.lists-copies.ensures) (copies_begin true))) c.new.ensures
