@@ -7,8 +7,8 @@ ghost use Rattle.braid_check.specs.Joins.{meets_by, takes_first_by};
 
 use pipe_model::{Item, Keep, Kind, Strand};
 
-// Whether a strand writes only what the record at hand causes, and has one input place.
-pub(crate) fn is_thin(strand: &Strand) -> bool
+/// Whether a strand writes only what the record at hand causes, and has one input place.
+pub fn is_thin(strand: &Strand) -> bool
     ensures { result ≡ is_thin strand.now }
 {
     is_thin_kind(&strand.kind) && strand.ports.inputs == 1

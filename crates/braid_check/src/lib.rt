@@ -14,4 +14,5 @@ mod told;
 mod walks;
 
 pub use answer::{forks, settled};
+pub use kinds::is_thin;
 pub use told::Settled;

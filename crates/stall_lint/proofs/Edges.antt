@@ -3,6 +3,7 @@ use Rattle.std.proofs.Common.{◌≡◌, ◌≢◌, ◌⊎◌, inl, inr, ℕ, re
 use Rattle.pipe_model.specs.declared.net.Net.{Net}
 use Rattle.pipe_model.specs.declared.net.Link.{Link}
 use Rattle.pipe_model.specs.State.{Who}
+use Rattle.stall_lint.specs.Circles.{AreEnds}
 use Rattle.stall_lint.specs.Groups.{InOneGroup}
 use Rattle.stall_lint.specs.Groups.InOneGroup.{alone, down, up}
 use Rattle.stall_lint.specs.Rooted.{IsAbove, IsRooted}
@@ -10,10 +11,6 @@ use Rattle.stall_lint.specs.Rooted.{IsAbove, IsRooted}
 -- the link of number j is the way up of one of the two groups that it joins
 abbrev pub IsEdge : {net : Net} → IsRooted net → ℕ → Link → Type 0
 IsEdge rooted j l = IsAbove rooted.label rooted.depth rooted.up j l.from l.to ⊎ IsAbove rooted.label rooted.depth rooted.up j l.to l.from
-
--- they are the two ends of the link
-abbrev pub AreEnds : Link → Who → Who → Type 0
-AreEnds l s t = ((l.from ≡ s) × (l.to ≡ t)) ⊎ ((l.from ≡ t) × (l.to ≡ s))
 
 module _ (net : Net) (rooted : IsRooted net) where
   -- a group has one label

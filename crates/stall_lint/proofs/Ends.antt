@@ -24,7 +24,7 @@ use Rattle.stall_lint.specs.Groups.{InOneGroup, IsInner}
 use Rattle.stall_lint.specs.Groups.InOneGroup.{alone, down, up}
 use Rattle.stall_lint.specs.Never.{HasNoDam, NeverStalls}
 use Rattle.stall_lint.proofs.Alike.{strand_of}
-use Rattle.stall_lint.proofs.Edges.{AreEnds}
+use Rattle.stall_lint.specs.Circles.{AreEnds}
 use Rattle.stall_lint.proofs.Leaves.{IsGrouping, IsLeaving, leaves_group}
 use Rattle.stall_lint.proofs.Repeats.{Hop, IsEndless, round}
 use Rattle.stall_lint.proofs.Rings.{Reaches, acyclic, ends_there}

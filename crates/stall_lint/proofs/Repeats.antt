@@ -14,7 +14,7 @@ use Rattle.stall_lint.specs.ClosedWalks.{Goes, IsRound}
 use Rattle.stall_lint.specs.ClosedWalks.Way.{ByLink, Within}
 use Rattle.stall_lint.specs.Groups.{InOneGroup, IsInner}
 use Rattle.stall_lint.specs.Groups.InOneGroup.{alone}
-use Rattle.stall_lint.proofs.Edges.{AreEnds}
+use Rattle.stall_lint.specs.Circles.{AreEnds}
 use Rattle.stall_lint.proofs.Trails.{Built, before, closed, group_back, group_on, widen}
 use Rattle.stall_lint.proofs.Trails.Trail.{last}
 

@@ -1,4 +1,9 @@
+pub mod Answer
+pub mod Circles
 pub mod ClosedWalks
+pub mod Grouped
 pub mod Groups
 pub mod Never
+pub mod Ranks
 pub mod Rooted
+pub mod Trees
