@@ -2,9 +2,12 @@ pub mod Alike
 pub mod EdgeEnds
 pub mod Ends
 pub mod Examples
+pub mod FedRounds
 pub mod Leaves
+pub mod LookingBack
 pub mod NoRounds
 pub mod Repeats
 pub mod RingRounds
+pub mod Telling
 pub mod Trails
 pub mod Turns

@@ -223,6 +223,16 @@ ends_there net formed s t reaches =
 
 -- The ranks
 
+-- without a DAM no strand waits for the first one of its stage
+pub no_later : (net : Net) → HasNoDam net → (s : Who) (m : Option Strand) → strand_in net s ≡ m → waits_for_first m ≡ true → ⊥
+no_later net undammed s None here waits = cc
+no_later net undammed s (Some p) here waits = by (form p).parting refl waits
+  where
+    by : (x : Parting) → (form p).parting ≡ x → is_primed_later p x ≡ true → ⊥
+    by Whole is waits = cc
+    by Queued is waits = cc
+    by Streamed is waits = undammed s p here is
+
 abbrev left : {A B : Type 0} → A ⊎ B → Bool
 left (inl a) = true
 left (inr b) = false
@@ -253,15 +263,6 @@ module _ (net : Net) (formed : IsWellFormed net) (undammed : HasNoDam net) (uncl
       by (inl ring) = (let round = ring_closes net s ring in absurd (unclosed round.0 round.1))
       by (inr never) = refl
 
-  no_later : (s : Who) (m : Option Strand) → strand_in net s ≡ m → waits_for_first m ≡ true → ⊥
-  no_later s None here waits = cc
-  no_later s (Some p) here waits = by (form p).parting refl waits
-    where
-      by : (x : Parting) → (form p).parting ≡ x → is_primed_later p x ≡ true → ⊥
-      by Whole is waits = cc
-      by Queued is waits = cc
-      by Streamed is waits = undammed s p here is
-
   pub acyclic : IsAcyclic net
   acyclic = record {
     rank = rank;
@@ -271,5 +272,5 @@ module _ (net : Net) (formed : IsWellFormed net) (undammed : HasNoDam net) (uncl
         let less = pass_rise (λ s. left (reach s l.from)) (λ s. left (reach s l.to)) (length net.strands) l.from (slice_get_within net.strands l.from joined.producer joined.from_strand) (not_itself l.from) (to_left l.from l.to (by_one net j l.from l.to fed))
         (λ s is. to_left s l.to (by_more net j s l.from l.to (is_left s l.from is) fed)) in
         omega (arith, less);
-    parts = λ s waits. absurd (no_later s (strand_in net s) refl waits);
+    parts = λ s waits. absurd (no_later net undammed s (strand_in net s) refl waits);
   }

@@ -1,10 +1,11 @@
 -- What is told of a net before it runs.
-use Rattle.std.specs.Prelude.{◌≡◌, ◌<◌, ◌≢◌, ℕ, List, true, slice_get}
+use Rattle.std.specs.Prelude.{◌≡◌, ◌<◌, ◌≢◌, ℕ, List, Bool, true, false, slice_get}
 use Rattle.std.specs.declared.option.Option.{Option}
 use Rattle.std.specs.declared.option.Option.TheVariants.{Some, None}
 use Rattle.pipe_model.specs.declared.net.Net.{Net}
 use Rattle.pipe_model.specs.declared.net.Strand.{Strand}
-use Rattle.pipe_model.specs.Form.Parting.{Streamed}
+use Rattle.pipe_model.specs.Form.{Parting}
+use Rattle.pipe_model.specs.Form.Parting.{Whole, Queued, Streamed}
 use Rattle.pipe_model.specs.Plain.{IssuesNothing}
 use Rattle.pipe_model.specs.Settled.{IsSettled}
 use Rattle.pipe_model.specs.State.{Who, strand_in}
@@ -14,6 +15,12 @@ use Rattle.stall_lint.specs.ClosedWalks.{IsClosedWalk}
 use Rattle.stall_lint.specs.Never.{HasNoDam}
 use Rattle.stall_lint.specs.declared.told.Lint.{Lint}
 use Rattle.stall_lint.specs.declared.told.Lint.TheVariants.{Loose, Issuer, Latch, Walk, Never}
+
+-- a stage of this parting is a DAM
+abbrev pub is_streamed : Parting → Bool
+is_streamed Whole = false
+is_streamed Queued = false
+is_streamed Streamed = true
 
 -- the strand issues pipelines, and no lesser one does
 pub record IsLeastIssuer (net : Net) (s : Who) : Type 0 where

@@ -3,6 +3,7 @@ pub mod Circles
 pub mod ClosedWalks
 pub mod Grouped
 pub mod Groups
+pub mod LooksBack
 pub mod Never
 pub mod Ranks
 pub mod Rooted

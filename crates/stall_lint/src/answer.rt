@@ -1,8 +1,9 @@
-ghost use Rattle.std.specs.Prelude.{◌≡◌, IfOk, option_map};
-ghost use Rattle.pipe_model.specs.Plain.{IssuesNothing};
+ghost use Rattle.std.specs.Prelude.{◌≡◌, ◌≤◌, length, option_map, IfOk};
+ghost use Rattle.pipe_model.specs.Form.{parting_by};
 ghost use Rattle.pipe_model.specs.Settled.{IsSettled};
+ghost use Rattle.pipe_model.specs.Table.{line_of};
 ghost use Rattle.pipe_model.specs.WellFormed.{IsWellFormed};
-ghost use Rattle.stall_lint.specs.Answer.{IsFirstDam, Lints};
+ghost use Rattle.stall_lint.specs.Answer.{IsFirstDam, Lints, is_streamed};
 ghost use Rattle.stall_lint.specs.Never.{HasNoDam, NeverStalls};
 ghost use Rattle.stall_lint.specs.Ranks.{IsSought};
 
@@ -41,14 +42,22 @@ pub fn lint(alloc: Global, net: &Net) -> Result<Lint, NoMemory>
 
 // The least strand of a DAM, if there is one.
 fn first_dam(strands: &[Strand]) -> Option<u32>
+    requires { length strands.now ≤ 65536 }
     ensures { IsFirstDam strands.now result }
 {
     for strand in 0..strands.len() {
-        if let Kind::Dam = strands[strand].kind {
+        if is_dam(&strands[strand].kind) {
             return Some(strand as u32);
         }
     }
     None
+}
+
+// Whether a stage of this kind is a DAM.
+fn is_dam(kind: &Kind) -> bool
+    ensures { result ≡ is_streamed (parting_by (line_of kind.now).shape) }
+{
+    matches!(kind, Kind::Dam)
 }
 
 // A round through the groups of a net, if there is one.

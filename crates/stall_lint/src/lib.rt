@@ -17,4 +17,4 @@ mod turn;
 
 pub use answer::lint;
 pub use told::{Lint, Strands};
-pub use never::{never_stalls, no_closed_walk};
+pub use never::{never_stalls, no_closed_walk, one_line};

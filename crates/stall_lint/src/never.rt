@@ -1,7 +1,9 @@
 ghost use Rattle.std.specs.Prelude.{List, ℕ};
+ghost use Rattle.stall_lint.specs.declared.told.Lint.{Lint};
 ghost use Rattle.pipe_model.specs.Plain.{IsAcyclic, IssuesNothing};
 ghost use Rattle.pipe_model.specs.Settled.{IsSettled};
 ghost use Rattle.pipe_model.specs.WellFormed.{IsWellFormed};
+ghost use Rattle.stall_lint.specs.Answer.{IsOneLine, Lints};
 ghost use Rattle.stall_lint.specs.ClosedWalks.{IsClosedWalk};
 ghost use Rattle.stall_lint.specs.Never.{HasNoDam, NeverStalls};
 ghost use Rattle.stall_lint.specs.Rooted.{IsRooted};
@@ -25,4 +27,9 @@ pub fn no_closed_walk(net: &Net)
     requires acyclic { IsAcyclic net.now }
     requires rooted { IsRooted net.now }
     ensures { (walk : List ℕ) → ¬ IsClosedWalk net.now walk }
+{}
+
+/// Two answers for a net are of one line: they are one, or both are closed walks.
+pub fn one_line(net: &Net)
+    ensures { (answer other : Lint) → Lints net.now answer → Lints net.now other → IsOneLine answer other }
 {}
