@@ -15,7 +15,7 @@ use Rattle.pipe_model.proofs.Numbers.{equal_or_not, test_same}
 use Rattle.braid_check.proofs.Producing.{get_before}
 use Rattle.net_graph.proofs.FormedLists.{get_more}
 use Rattle.stall_lint.specs.ClosedWalks.{IsRound, IsStep, behind}
-use Rattle.stall_lint.specs.LooksBack.{AllWait, ClosesAt, GoesOn, IsDone, IsFed, IsSearch, NoneIsNew, Waits, steps_left, work}
+use Rattle.stall_lint.specs.LooksBack.{AllWait, ClosesAt, GoesOn, IsDone, IsFed, IsLooking, IsSearch, NoneIsNew, Waits, steps_left, work}
 use Rattle.stall_lint.specs.Never.{HasNoDam}
 use Rattle.stall_lint.specs.declared.rings.Look.{Look}
 use Rattle.stall_lint.specs.declared.rings.Look.TheVariants.{New, On, Done}
@@ -105,7 +105,7 @@ module _ (net : Net) (n : ℕ) (waiting : List (List ℕ)) (all : AllWait net n 
     | inr p ↦ all.led t j (record { numbers = waits.numbers; here = p.1; place = waits.place; at = waits.at })
   ]
 
-  pub one_more_waits : AllWait net (suc n) more
+  pub one_more_waits : AllWait net (n + 1) more
   one_more_waits = record {
     places = length-set waiting link.to (numbers ++ n ∷ []) ∙ all.places;
     led = led_more;
@@ -469,13 +469,52 @@ module _ (net : Net) (waiting : List (List ℕ)) (looks : List Look) (way : List
                     steps;
               }
 
+-- From one strand
+
+pub looking_begins : (net : Net) (waiting : List (List ℕ)) (looks : List Look) → IsSearch net waiting looks [] → (start : Who) → slice_get looks start ≡ Some New → IsLooking net start looks waiting (slice_set looks start (On 0)) (start ∷ [])
+looking_begins net waiting looks search start fresh =
+    let on = goes_on_entered net waiting looks [] search start fresh (λ k t one at. cc) in
+    record {
+      search = on.search;
+      known = on.known;
+      itself = λ new. (let e : Some (On 0) ≡ Some New = sym (get_set_same looks start (On 0) New fresh) ∙ new in cc);
+    }
+
+-- From all
+
+-- a search from each of the first n strands
+pub record AreLooked (net : Net) (n : ℕ) (waiting : List (List ℕ)) (looks : List Look) : Type 0 where
+  pub search : IsSearch net waiting looks []
+  pub looked : (s : Who) → s < n → slice_get looks s ≡ Some New → ⊥
+
+pub none_looked : (net : Net) (waiting : List (List ℕ)) (looks : List Look) → AllWait net (length net.links) waiting → looks ≡ replicate (length net.strands) New → AreLooked net 0 waiting looks
+none_looked net waiting looks all are = record { search = search_begins net waiting looks all are; looked = λ s lt. absurd (omega (arith, lt)) }
+
+pub one_more_looked : (net : Net) (n : ℕ) (waiting new_waiting : List (List ℕ)) (looks new_looks : List Look) → AreLooked net n waiting looks → IsLooking net n looks new_waiting new_looks [] → AreLooked net (n + 1) new_waiting new_looks
+one_more_looked net n waiting new_waiting looks new_looks are more = record {
+  search = more.search;
+  looked = λ s lt new. elim (equal_or_not s n) [
+    | inl it ↦ more.itself (ap (slice_get new_looks) (sym it) ∙ new)
+    | inr other ↦ are.looked s (omega (arith, lt, other)) (more.known s new)
+  ];
+}
+
+pub was_looked : (net : Net) (n : ℕ) (waiting : List (List ℕ)) (looks : List Look) → AreLooked net n waiting looks → (slice_get looks n ≡ Some New → ⊥) → AreLooked net (n + 1) waiting looks
+was_looked net n waiting looks are known = record {
+  search = are.search;
+  looked = λ s lt. elim (equal_or_not s n) [
+    | inl it ↦ (λ new. known (ap (slice_get looks) (sym it) ∙ new))
+    | inr other ↦ are.looked s (omega (arith, lt, other))
+  ];
+}
+
 -- Where all strands were looked at there is no cycle
 
-pub all_ranked : (net : Net) → IsWellFormed net → HasNoDam net → (waiting : List (List ℕ)) (looks : List Look) → IsSearch net waiting looks [] → ((s : Who) → s < length net.strands → slice_get looks s ≡ Some New → ⊥) → IsAcyclic net
-all_ranked net formed undammed waiting looks search looked = record {
-  rank = search.rank;
-  along = λ j l at. elim (search.known j l at) [
-    | inl waits ↦ absurd (search.none l.to j (is_done l.to (to_there j l at)) waits)
+pub all_ranked : (net : Net) → IsWellFormed net → HasNoDam net → (n : ℕ) (waiting : List (List ℕ)) (looks : List Look) → length net.strands ≤ n → AreLooked net n waiting looks → IsAcyclic net
+all_ranked net formed undammed n waiting looks all are = record {
+  rank = are.search.rank;
+  along = λ j l at. elim (are.search.known j l at) [
+    | inl waits ↦ absurd (are.search.none l.to j (is_done l.to (to_there j l at)) waits)
     | inr p ↦ p.1 (is_done l.to (to_there j l at))
   ];
   parts = λ s waits. absurd (no_later net undammed s (slice_get net.strands s) refl waits);
@@ -485,9 +524,9 @@ all_ranked net formed undammed waiting looks search looked = record {
     to_there j l at = (let joined = formed.joined j l at in slice_get_within net.strands l.to joined.consumer joined.to_strand)
 
     is_done : (s : Who) → s < length net.strands → IsDone looks s
-    is_done s lt = (let n = search.count in let x = at_some looks s (omega (arith, lt, n)) in by x.0 x.1)
+    is_done s lt = (let n = are.search.count in let x = at_some looks s (omega (arith, lt, n)) in by x.0 x.1)
       where
         by : (x : Look) → slice_get looks s ≡ Some x → IsDone looks s
-        by New is = absurd (looked s lt is)
-        by (On k) is = (let e = search.on_way k s is in cc)
+        by New is = absurd (are.looked s (omega (arith, lt, all)) is)
+        by (On k) is = (let e = are.search.on_way k s is in cc)
         by Done is = is

@@ -1,5 +1,5 @@
 -- The inside: a search for a ring, back along the links.
-use Rattle.std.specs.Prelude.{◌≡◌, ◌⊎◌, ℕ, suc, ◌+◌, ◌<◌, ◌≤◌, List, [], drop, length, slice_get, sum_by}
+use Rattle.std.specs.Prelude.{◌≡◌, ◌⊎◌, ℕ, suc, ◌+◌, ◌<◌, ◌≤◌, List, drop, length, slice_get, sum_by}
 use Rattle.std.specs.declared.option.Option.TheVariants.{Some}
 use Rattle.pipe_model.specs.declared.net.Net.{Net}
 use Rattle.pipe_model.specs.declared.net.Link.{Link}
@@ -76,8 +76,8 @@ pub record ClosesAt (net : Net) (way : List Who) (place : ℕ) : Type 0 where
   pub within : place ≤ length way
   pub ring : IsRound net (drop place way)
 
--- all that leads to a strand was looked at
-pub record HasLooked (net : Net) (start : Who) (before : List Look) (waiting : List (List ℕ)) (looks : List Look) : Type 0 where
-  pub search : IsSearch net waiting looks []
+-- a search from a strand that has gone back this way so far
+pub record IsLooking (net : Net) (start : Who) (before : List Look) (waiting : List (List ℕ)) (looks : List Look) (way : List Who) : Type 0 where
+  pub search : IsSearch net waiting looks way
   pub known : NoneIsNew before looks
   pub itself : slice_get looks start ≡ Some New → ⊥

@@ -1,6 +1,6 @@
 ghost use Rattle.std.specs.Prelude.{◌≡◌, ◌-◌, ◌<◌, ◌++◌, ◌∷◌, [], ℕ, None, Some, MatchOption, drop, length, option_map, replicate, slice_get, slice_index_or, slice_set, take, IfOk};
 ghost use Rattle.pipe_model.specs.WellFormed.{IsWellFormed};
-ghost use Rattle.stall_lint.specs.LooksBack.{AllWait, ClosesAt, GoesOn, HasLooked, IsSearch};
+ghost use Rattle.stall_lint.specs.LooksBack.{AllWait, ClosesAt, GoesOn, IsLooking, IsSearch};
 ghost use Rattle.stall_lint.specs.Never.{HasNoDam};
 ghost use Rattle.stall_lint.specs.ClosedWalks.{IsRound};
 ghost use Rattle.stall_lint.specs.Ranks.{IsRanked};
@@ -67,9 +67,8 @@ pub(crate) fn ring(alloc: Global, net: &Net) -> Result<Option<Vec<u32>>, NoMemor
     let mut looks = vec![in alloc; Look::New; count]?;
     for start in 0..count {
         if let Look::New = looks[start] {
-            let ring = look_back(alloc, net, &mut waiting, &mut looks, start as u32)?;
-            if ring.is_some() {
-                return Ok(ring);
+            if let Some(ring) = look_back(alloc, net, &mut waiting, &mut looks, start as u32)? {
+                return Ok(Some(ring));
             }
         }
     }
@@ -114,7 +113,7 @@ fn look_back(
     requires search { IsSearch net.now waiting.old looks.old [] }
     requires fresh { slice_get looks.old start ≡ Some Look.New }
     ensures { IfOk result (λ found. MatchOption found
-        (HasLooked net.now start looks.old waiting.new looks.new)
+        (IsLooking net.now start looks.old waiting.new looks.new [])
         (λ ring. IsRound net.now ring.items)) }
 {
     let mut way = Vec::new(alloc);
