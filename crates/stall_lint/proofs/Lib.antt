@@ -1,9 +1,14 @@
 pub mod Alike
+pub mod AllGrown
+pub mod Branches
+pub mod Closing
 pub mod EdgeEnds
 pub mod Ends
 pub mod Examples
 pub mod Leaves
+pub mod Listing
 pub mod NoRounds
+pub mod Places
 pub mod Repeats
 pub mod RingRounds
 pub mod Trails

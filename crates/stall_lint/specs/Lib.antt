@@ -3,6 +3,8 @@ pub mod Circles
 pub mod ClosedWalks
 pub mod Grouped
 pub mod Groups
+pub mod Growing
+pub mod Listed
 pub mod Never
 pub mod Ranks
 pub mod Rooted
