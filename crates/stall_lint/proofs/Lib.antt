@@ -1,11 +1,16 @@
 pub mod Alike
+pub mod AllGrown
+pub mod Branches
+pub mod Closing
 pub mod EdgeEnds
 pub mod Ends
 pub mod Examples
 pub mod FedRounds
 pub mod Leaves
 pub mod LookingBack
+pub mod Listing
 pub mod NoRounds
+pub mod Places
 pub mod Repeats
 pub mod RingRounds
 pub mod Telling

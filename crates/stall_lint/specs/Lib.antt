@@ -4,6 +4,8 @@ pub mod ClosedWalks
 pub mod Grouped
 pub mod Groups
 pub mod LooksBack
+pub mod Growing
+pub mod Listed
 pub mod Never
 pub mod Ranks
 pub mod Rooted
