@@ -21,7 +21,7 @@ impl Edges {
 }
 
 // For each label the edges that have an end in its group.
-pub(crate) fn edges(alloc: Global, net: &Net, groups: &Groups) -> Result<Vec<Edges>, NoMemory> {
+pub(crate) fn edges_of(alloc: Global, net: &Net, groups: &Groups) -> Result<Vec<Edges>, NoMemory> {
     let mut edges = Vec::new(alloc);
     for _ in 0..groups.labels.len() {
         edges.push(Edges {

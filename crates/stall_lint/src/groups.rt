@@ -18,7 +18,7 @@ pub(crate) struct Groups {
 }
 
 // The groups of a net.
-pub(crate) fn groups(alloc: Global, net: &Net) -> Result<Groups, NoMemory>
+pub(crate) fn groups_of(alloc: Global, net: &Net) -> Result<Groups, NoMemory>
     requires formed { IsWellFormed net.now }
     requires settled { IsSettled net.now }
     ensures { IfOk result (AreGroups net.now) }

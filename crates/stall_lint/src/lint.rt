@@ -6,7 +6,7 @@ ghost use Rattle.stall_lint.specs.Answer.{IsFirstDam, Lints};
 ghost use Rattle.stall_lint.specs.Never.{HasNoDam, NeverStalls};
 ghost use Rattle.stall_lint.specs.Ranks.{IsSought};
 
-use crate::groups::groups;
+use crate::groups::groups_of;
 use crate::rings::ring;
 use crate::rounds::round;
 use crate::told::{Lint, Strands};
@@ -58,7 +58,7 @@ fn some_round(alloc: Global, net: &Net) -> Result<Option<Vec<u32>>, NoMemory>
     requires undammed { HasNoDam net.now }
     ensures { IfOk result (λ found. IsSought net.now (option_map (λ found. found.items) found)) }
 {
-    let groups = groups(alloc, net)?;
+    let groups = groups_of(alloc, net)?;
     match grow(alloc, net, &groups)? {
         Some(hops) => Ok(Some(round(alloc, &hops)?)),
         None => ring(alloc, net),

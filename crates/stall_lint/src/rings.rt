@@ -19,7 +19,7 @@ pub(crate) fn ring(alloc: Global, net: &Net) -> Result<Option<Vec<u32>>, NoMemor
     ensures { IfOk result (λ found. IsRanked net.now (option_map (λ found. found.items) found)) }
 {
     let count = net.strands.as_slice().len();
-    let mut producers = producers(alloc, net)?;
+    let mut producers = producers_of(alloc, net)?;
     let mut looks = vec![in alloc; Look::New; count]?;
     for start in 0..count {
         if looks[start] == Look::New {
@@ -43,7 +43,7 @@ enum Look {
 }
 
 // The producers of all strands.
-fn producers(alloc: Global, net: &Net) -> Result<Vec<Producers>, NoMemory> {
+fn producers_of(alloc: Global, net: &Net) -> Result<Vec<Producers>, NoMemory> {
     let mut producers = Vec::new(alloc);
     for _ in 0..net.strands.as_slice().len() {
         producers.push(Producers {

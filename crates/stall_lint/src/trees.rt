@@ -3,7 +3,7 @@ ghost use Rattle.pipe_model.specs.WellFormed.{IsWellFormed};
 ghost use Rattle.stall_lint.specs.Grouped.{AreGroups};
 ghost use Rattle.stall_lint.specs.Trees.{Grows};
 
-use crate::edges::{Edges, edges};
+use crate::edges::{Edges, edges_of};
 use crate::groups::Groups;
 use crate::hops::Hop;
 use pipe_model::{Net, NoMemory};
@@ -26,7 +26,7 @@ pub(crate) fn grow(alloc: Global, net: &Net, groups: &Groups) -> Result<Option<V
     requires groups { AreGroups net.now groups.now }
     ensures { IfOk result (λ found. Grows net.now (option_map (λ found. found.items) found)) }
 {
-    let mut edges = edges(alloc, net, groups)?;
+    let mut edges = edges_of(alloc, net, groups)?;
     let mut places = vec![in alloc; None; groups.labels.len()]?;
     for root in 0..groups.labels.len() {
         if places[root].is_none() {
