@@ -27,7 +27,7 @@ use Rattle.stall_lint.proofs.Alike.{strand_of}
 use Rattle.stall_lint.specs.Circles.{AreEnds}
 use Rattle.stall_lint.proofs.Leaves.{IsGrouping, IsLeaving, leaves_group}
 use Rattle.stall_lint.proofs.Repeats.{Hop, IsEndless, round}
-use Rattle.stall_lint.proofs.Rings.{Reaches, acyclic, ends_there}
+use Rattle.stall_lint.proofs.RingRounds.{Reaches, acyclic, ends_there}
 use Rattle.stall_lint.proofs.Trails.{group_on}
 use Rattle.stall_lint.proofs.Turns.{closed_walk}
 

@@ -1,10 +1,10 @@
 pub mod Alike
-pub mod Edges
+pub mod EdgeEnds
 pub mod Ends
 pub mod Examples
 pub mod Leaves
 pub mod NoRounds
 pub mod Repeats
-pub mod Rings
+pub mod RingRounds
 pub mod Trails
 pub mod Turns

@@ -14,7 +14,7 @@ use Rattle.stall_lint.specs.ClosedWalks.Way.{ByLink, Within}
 use Rattle.stall_lint.specs.Groups.{IsInner}
 use Rattle.stall_lint.specs.Rooted.{IsAbove, IsRooted}
 use Rattle.stall_lint.specs.Circles.{AreEnds}
-use Rattle.stall_lint.proofs.Edges.{IsEdge, apart, edge_ends, one_label}
+use Rattle.stall_lint.proofs.EdgeEnds.{IsEdge, apart, edge_ends, one_label}
 
 -- the place behind the last is the first
 pub behind_last : (walk : List Who) (k : ℕ) → suc k ≡ length walk → behind walk k ≡ 0

@@ -2,12 +2,12 @@
 //! laws that do nothing.
 #![tactic(auto)]
 
+mod answer;
 mod edges;
 mod groups;
 mod hops;
 mod inner;
 mod labels;
-mod lint;
 mod never;
 mod rings;
 mod rounds;
@@ -15,6 +15,6 @@ mod told;
 mod trees;
 mod turn;
 
-pub use lint::lint;
+pub use answer::lint;
 pub use told::{Lint, Strands};
 pub use never::{never_stalls, no_closed_walk};
