@@ -8,3 +8,4 @@ pub mod Repeats
 pub mod RingRounds
 pub mod Trails
 pub mod Turns
+pub mod Uniting

@@ -5,5 +5,6 @@ pub mod Grouped
 pub mod Groups
 pub mod Never
 pub mod Ranks
+pub mod Relabelled
 pub mod Rooted
 pub mod Trees
