@@ -1,11 +1,14 @@
 pub mod Alike
+pub mod Backwards
 pub mod EdgeEnds
 pub mod Ends
 pub mod Examples
 pub mod Leaves
 pub mod NoRounds
+pub mod Passing
 pub mod Repeats
 pub mod RingRounds
+pub mod ThinNexts
 pub mod Trails
 pub mod Turns
 pub mod Uniting

@@ -8,3 +8,4 @@ pub mod Ranks
 pub mod Relabelled
 pub mod Rooted
 pub mod Trees
+pub mod WalksBack
