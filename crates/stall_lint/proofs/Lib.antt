@@ -1,5 +1,6 @@
 pub mod Alike
 pub mod AllGrown
+pub mod Backwards
 pub mod Branches
 pub mod Closing
 pub mod EdgeEnds
@@ -7,12 +8,15 @@ pub mod Ends
 pub mod Examples
 pub mod FedRounds
 pub mod Leaves
-pub mod LookingBack
 pub mod Listing
+pub mod LookingBack
 pub mod NoRounds
+pub mod Passing
 pub mod Places
 pub mod Repeats
 pub mod RingRounds
 pub mod Telling
+pub mod ThinNexts
 pub mod Trails
 pub mod Turns
+pub mod Uniting

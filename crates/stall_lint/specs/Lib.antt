@@ -3,10 +3,12 @@ pub mod Circles
 pub mod ClosedWalks
 pub mod Grouped
 pub mod Groups
-pub mod LooksBack
 pub mod Growing
 pub mod Listed
+pub mod LooksBack
 pub mod Never
 pub mod Ranks
+pub mod Relabelled
 pub mod Rooted
 pub mod Trees
+pub mod WalksBack
