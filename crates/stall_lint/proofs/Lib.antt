@@ -1,4 +1,5 @@
 pub mod Alike
+pub mod Circuits
 pub mod Edges
 pub mod Ends
 pub mod Examples

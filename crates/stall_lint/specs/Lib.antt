@@ -1,4 +1,5 @@
 pub mod Answer
+pub mod Around
 pub mod Begun
 pub mod Circles
 pub mod ClosedWalks
