@@ -4,6 +4,8 @@ pub mod Backwards
 pub mod Branches
 pub mod Closing
 pub mod EdgeEnds
+pub mod Circuits
+pub mod Edges
 pub mod Ends
 pub mod Examples
 pub mod FedRounds

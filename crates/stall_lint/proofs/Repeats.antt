@@ -1,5 +1,5 @@
 -- A way from group to group that never goes back comes to a group again, and what lies between is a closed walk.
-use Rattle.std.proofs.Common.{◌≡◌, ◌⊎◌, inl, inr, ℕ, zero, suc, ◌+◌, ◌-◌, ◌<◌, ◌≤◌, List, [], ◌∷◌, length, map, refl, sym, ◌∙◌, ap, subst, arith, Some, slice_get}
+use Rattle.std.proofs.Common.{◌≡◌, ◌⊎◌, inl, inr, ℕ, zero, suc, ◌+◌, ◌-◌, ◌<◌, ◌≤◌, List, length, map, sym, ◌∙◌, ap, subst, arith, Some, slice_get}
 use Rattle.std.specs.List.{range_with_len}
 use Rattle.std.proofs.lemmas.List.FromFn.{length-map-range_with_len, get_or-map-range_with_len}
 use Rattle.std.proofs.lemmas.Option.{slice_get_within, unwrap_or-slice_get}
@@ -15,8 +15,7 @@ use Rattle.stall_lint.specs.ClosedWalks.Way.{ByLink, Within}
 use Rattle.stall_lint.specs.Groups.{InOneGroup, IsInner}
 use Rattle.stall_lint.specs.Groups.InOneGroup.{alone}
 use Rattle.stall_lint.specs.Circles.{AreEnds}
-use Rattle.stall_lint.proofs.Trails.{Built, before, closed, group_back, group_on, widen}
-use Rattle.stall_lint.proofs.Trails.Trail.{last}
+use Rattle.stall_lint.proofs.Trails.{Built, before, closed, group_back, group_on, single, widen}
 
 -- from the group of a strand over an edge to another strand
 pub record Hop (net : Net) (s : Who) : Type 0 where
@@ -193,41 +192,13 @@ module _ (net : Net) (entry : ℕ → Who) (way : IsEndless net entry) (one_or_t
 
     -- the way round from a place on
     way_round : (d t : ℕ) → t + d ≡ r.j → r.i < t → Way_round t
+    unfolding goes_over
     way_round zero t is later =
         let end : t ≡ r.j = omega (arith, is) in
         let chain : InOneGroup net (entry t) (exit r.i) =
         group_on net (entry t) (entry r.i) (exit r.i) (subst (λ z. InOneGroup net (entry z) (entry r.i)) (sym end) (group_back net (entry r.i) (entry r.j) r.same)) (group_back net (exit r.i) (entry r.i) (way.hop r.i).in_group) in
-        enters t (exit r.i) (omega (arith, end)) chain (λ x. ⊥) (λ n. n ≡ number r.i) (λ never. never) (λ x never. absurd never) (λ n it. inl it) only
-      where
-        strands : (k : ℕ) (x : Who) → slice_get (exit r.i ∷ []) k ≡ Some x → (x ≡ exit r.i) ⊎ ⊥
-        strands zero x at = inl cc
-        strands (suc k) x at = cc
-
-        numbers : (k n : ℕ) → slice_get (ByLink (number r.i) ∷ []) k ≡ Some (ByLink n) → n ≡ number r.i
-        numbers zero n at = cc
-        numbers (suc k) n at = cc
-
-        once : (j k : ℕ) (x : Who) → slice_get (exit r.i ∷ []) j ≡ Some x → slice_get (exit r.i ∷ []) k ≡ Some x → j ≡ k
-        once zero zero x a b = refl
-        once zero (suc k) x a b = cc
-        once (suc j) k x a b = cc
-
-        no_twice : (j k n : ℕ) → slice_get (ByLink (number r.i) ∷ []) j ≡ Some (ByLink n) → slice_get (ByLink (number r.i) ∷ []) k ≡ Some (ByLink n) → j ≡ k
-        no_twice zero zero n a b = refl
-        no_twice zero (suc k) n a b = cc
-        no_twice (suc j) k n a b = cc
-
-        only : Built net (entry (suc r.i)) (λ x. (x ≡ exit r.i) ⊎ ⊥) (λ n. n ≡ number r.i) (exit r.i)
-        only = record {
-          walk = exit r.i ∷ [];
-          ways = ByLink (number r.i) ∷ [];
-          trail = last (goes_over r.i);
-          strands = strands;
-          numbers = numbers;
-          once = once;
-          no_twice = no_twice;
-          uses = record { place = 0; number = number r.i; link = (way.hop r.i).link; way = refl; at = (way.hop r.i).at; edge = (way.hop r.i).edge };
-        }
+        enters t (exit r.i) (omega (arith, end)) chain (λ x. ⊥) (λ n. n ≡ number r.i) (λ never. never) (λ x never. absurd never) (λ n it. inl it)
+        (let over = goes_over r.i in single net (entry (suc r.i)) (exit r.i) (number r.i) over.0 over.1 (way.hop r.i).edge over.2)
     way_round (suc d) t is later =
         let lt : t < r.j = omega (arith, is) in
         let chain : InOneGroup net (entry t) (exit t) = group_back net (exit t) (entry t) (way.hop t).in_group in
@@ -254,4 +225,5 @@ module _ (net : Net) (entry : ℕ → Who) (way : IsEndless net entry) (one_or_t
   round =
       let r = repeat in
       let less = r.less in
-      closed net (InTrail r (suc r.i)) (Numbers r (suc r.i)) (entry (suc r.i)) (way_round r (r.j - suc r.i) (suc r.i) (omega (arith, less)) (omega arith))
+      let built = way_round r (r.j - suc r.i) (suc r.i) (omega (arith, less)) (omega arith) in
+      (built.walk, closed net (InTrail r (suc r.i)) (Numbers r (suc r.i)) (entry (suc r.i)) built)

@@ -2,11 +2,13 @@
 use Rattle.std.proofs.Common.{◌≡◌, ◌⊎◌, inl, inr, ℕ, zero, suc, ◌<◌, List, [], ◌∷◌, length, refl, sym, ◌∙◌, ap, subst, arith, Some, slice_get}
 use Rattle.std.proofs.lemmas.Option.{slice_get_within}
 use Rattle.pipe_model.specs.declared.net.Net.{Net}
+use Rattle.pipe_model.specs.declared.net.Link.{Link}
 use Rattle.pipe_model.specs.State.{Who}
 use Rattle.pipe_model.proofs.Numbers.{equal_or_not}
+use Rattle.stall_lint.specs.Circles.{AreEnds}
 use Rattle.stall_lint.specs.ClosedWalks.{Goes, IsRound, IsStep, UsesEdge, Way}
 use Rattle.stall_lint.specs.ClosedWalks.Way.{ByLink}
-use Rattle.stall_lint.specs.Groups.{InOneGroup}
+use Rattle.stall_lint.specs.Groups.{InOneGroup, IsInner}
 use Rattle.stall_lint.specs.Groups.InOneGroup.{alone, down, up}
 use Rattle.stall_lint.proofs.NoRounds.{behind_last, behind_other}
 
@@ -87,7 +89,7 @@ pub record Built (net : Net) (goal : Who) (Of : Who → Type 0) (By : ℕ → Ty
 
 module _ (net : Net) (goal : Who) where
   -- of a wider kind
-  pub widen : (Of Of' : Who → Type 0) (By By' : ℕ → Type 0) (s : Who) → ((x : Who) → Of x → Of' x) → ((n : ℕ) → By n → By' n) → Built net goal Of By s → Built net goal Of' By' s
+  unfoldable pub widen : (Of Of' : Who → Type 0) (By By' : ℕ → Type 0) (s : Who) → ((x : Who) → Of x → Of' x) → ((n : ℕ) → By n → By' n) → Built net goal Of By s → Built net goal Of' By' s
   widen Of Of' By By' s wide wider built = record {
     walk = built.walk;
     ways = built.ways;
@@ -99,8 +101,39 @@ module _ (net : Net) (goal : Who) where
     uses = built.uses;
   }
 
+  -- one step over an edge
+  unfoldable pub single : (s : Who) (number : ℕ) (link : Link) → slice_get net.links number ≡ Some link → (IsInner net link → ⊥) → AreEnds link s goal → Built net goal (λ x. (x ≡ s) ⊎ ⊥) (λ n. n ≡ number) s
+  single s number link at edge ends = record {
+    walk = s ∷ [];
+    ways = ByLink number ∷ [];
+    trail = last (link, at, ends);
+    strands = strands;
+    numbers = numbers;
+    once = once;
+    no_twice = no_twice;
+    uses = record { place = 0; number = number; link = link; way = refl; at = at; edge = edge };
+  }
+    where
+      strands : (k : ℕ) (x : Who) → slice_get (s ∷ []) k ≡ Some x → (x ≡ s) ⊎ ⊥
+      strands zero x here = inl cc
+      strands (suc k) x here = cc
+
+      numbers : (k n : ℕ) → slice_get (ByLink number ∷ []) k ≡ Some (ByLink n) → n ≡ number
+      numbers zero n here = cc
+      numbers (suc k) n here = cc
+
+      once : (j k : ℕ) (x : Who) → slice_get (s ∷ []) j ≡ Some x → slice_get (s ∷ []) k ≡ Some x → j ≡ k
+      once zero zero x a b = refl
+      once zero (suc k) x a b = cc
+      once (suc j) k x a b = cc
+
+      no_twice : (j k n : ℕ) → slice_get (ByLink number ∷ []) j ≡ Some (ByLink n) → slice_get (ByLink number ∷ []) k ≡ Some (ByLink n) → j ≡ k
+      no_twice zero zero n a b = refl
+      no_twice zero (suc k) n a b = cc
+      no_twice (suc j) k n a b = cc
+
   -- with one step more before it, from a strand and over a link that are new
-  pub before : (Of : Who → Type 0) (By : ℕ → Type 0) (By' : ℕ → Type 0) (s u : Who) (way : Way) → Goes net s way u → (Of s → ⊥) → ((n : ℕ) → By n → By' n) → ((n : ℕ) → way ≡ ByLink n → By' n) → ((n : ℕ) → way ≡ ByLink n → By n → ⊥) →
+  unfoldable pub before : (Of : Who → Type 0) (By : ℕ → Type 0) (By' : ℕ → Type 0) (s u : Who) (way : Way) → Goes net s way u → (Of s → ⊥) → ((n : ℕ) → By n → By' n) → ((n : ℕ) → way ≡ ByLink n → By' n) → ((n : ℕ) → way ≡ ByLink n → By n → ⊥) →
       Built net goal Of By u → Built net goal (λ x. (x ≡ s) ⊎ Of x) By' s
   before Of By By' s u way goes new wide by_new link_new built = record {
     walk = s ∷ built.walk;
@@ -134,19 +167,16 @@ module _ (net : Net) (goal : Who) where
       no_twice (suc j) (suc k) n a b = ap suc (built.no_twice j k n a b)
 
 -- a trail that comes back to where it began is a round
-pub closed : (net : Net) (Of : Who → Type 0) (By : ℕ → Type 0) (s : Who) → Built net s Of By s → (walk : List Who) × IsRound net walk
-closed net Of By s built = (
-  built.walk,
-  record {
-    some = trail_some net s s built.walk built.ways built.trail;
-    once = built.once;
-    ways = built.ways;
-    count = trail_count net s s built.walk built.ways built.trail;
-    goes = goes;
-    no_twice = built.no_twice;
-    closes = inl built.uses;
-  },
-)
+pub closed : (net : Net) (Of : Who → Type 0) (By : ℕ → Type 0) (s : Who) → (built : Built net s Of By s) → IsRound net built.walk
+closed net Of By s built = record {
+  some = trail_some net s s built.walk built.ways built.trail;
+  once = built.once;
+  ways = built.ways;
+  count = trail_count net s s built.walk built.ways built.trail;
+  goes = goes;
+  no_twice = built.no_twice;
+  closes = inl built.uses;
+}
   where
     goes : (k : ℕ) (way : Way) (x y : Who) → slice_get built.ways k ≡ Some way → IsStep built.walk k x y → Goes net x way y
     goes k way x y at step = trail_goes net s s built.walk built.ways built.trail k way x y at step.here (elim (equal_or_not (suc k) (length built.walk)) [

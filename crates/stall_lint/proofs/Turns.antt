@@ -1,14 +1,17 @@
 -- Each round, begun elsewhere and turned, is a closed walk.
-use Rattle.std.proofs.Common.{◌≡◌, ◌≢◌, ◌⊎◌, inl, inr, ℕ, zero, suc, ◌+◌, ◌-◌, ◌<◌, ◌≤◌, ◌==◌, cond, List, [], ◌∷◌, length, map, get_or, refl, sym, ◌∙◌, ap, arith, Option, Some, None, slice_get, eq-eqb}
+use Rattle.std.proofs.Common.{◌≡◌, ◌≢◌, ◌⊎◌, inl, inr, ℕ, zero, suc, ◌+◌, ◌-◌, ◌<◌, ◌≤◌, ◌==◌, cond, List, [], ◌∷◌, length, map, get_or, refl, sym, ◌∙◌, ap, arith, Some, ◌++◌, reverse, slice_get, subst, append-nil, eq-eqb}
 use Rattle.std.specs.Prelude.{nat_lt, unwrap_or}
-use Rattle.std.specs.List.{range_with_len}
-use Rattle.std.proofs.lemmas.Bool.{cases_lt, le-ltb, lt-ltb, ne_eqb}
-use Rattle.std.proofs.lemmas.List.FromFn.{length-map-range_with_len, get_or-map-range_with_len}
-use Rattle.std.proofs.lemmas.Option.{slice_get_within, unwrap_or-slice_get}
+use Rattle.std.specs.List.{IsFirstBest, RotatedLeft, range_with_len}
+use Rattle.std.proofs.lemmas.Bool.{cases_lt, le-ltb, lt-ltb, ltb-false, ne_eqb}
+use Rattle.std.proofs.lemmas.List.{drop_all, get_or-reverse, length-reverse, take_all}
+use Rattle.std.proofs.lemmas.List.FromFn.{fill_by_all, length-map-range_with_len, get_or-map-range_with_len}
+use Rattle.std.proofs.lemmas.Option.{get_or_from_slice_get, slice_get-get_or, slice_get_within, unwrap_or-slice_get}
+use borrow.Rule.Slice.PartMut.{mid_of, put_mid}
 use Rattle.pipe_model.specs.declared.net.Net.{Net}
 use Rattle.pipe_model.specs.State.{Who}
 use Rattle.pipe_model.proofs.Lists.{at_some}
 use Rattle.pipe_model.proofs.Numbers.{equal_or_not}
+use Rattle.stall_lint.specs.Begun.{BeginsLeast}
 use Rattle.stall_lint.specs.ClosedWalks.{EachFeeds, EachIsFed, Goes, IsClosedWalk, IsRound, IsStep, UsesEdge, Way, behind}
 use Rattle.stall_lint.specs.ClosedWalks.Way.{ByLink, Within}
 use Rattle.stall_lint.proofs.Trails.{group_back}
@@ -276,99 +279,142 @@ module _ (n : ℕ) where
     steps = inr (λ k lt. (flipped_way k lt, flipped_next k lt));
   }
 
+-- The lists as they are made
+
+-- moved so far to the left
+moved_left : (xs ys : List ℕ) (m : ℕ) → length ys ≡ length xs → RotatedLeft xs ys (length xs) m → ys ≡ placed 0 (onward (length xs) m) (length xs) xs
+moved_left xs ys m long moved = fill_by_all (λ k. get_or xs (onward (length xs) m k) 0) ys (length xs) 0 long (λ k lt. elim (onward_is (length xs) m k) [
+  | inl is ↦ moved.0 k 0 is.0 ∙ ap (λ p. get_or xs p 0) (sym is.1)
+  | inr is ↦ (let le = is.0 in let e = is.1 in moved.1 k 0 le lt ∙ ap (λ p. get_or xs p 0) (omega (arith, le, e)))
+])
+
+-- all but the first turned
+others_turned : (x : ℕ) (xs : List ℕ) → x ∷ reverse xs ≡ placed 0 (flipped (length (x ∷ xs))) (length (x ∷ xs)) (x ∷ xs)
+others_turned x xs = fill_by_all (λ k. get_or (x ∷ xs) (flipped (length (x ∷ xs)) k) 0) (x ∷ reverse xs) (length (x ∷ xs)) 0 (ap suc (length-reverse xs)) at
+  where
+    at : (k : ℕ) → k < length (x ∷ xs) → get_or (x ∷ reverse xs) k 0 ≡ get_or (x ∷ xs) (flipped (length (x ∷ xs)) k) 0
+    at zero lt = refl
+    at (suc k) lt =
+        let less : k < length xs = omega (arith, lt) in
+        let place : suc (length xs - 1 - k) ≡ flipped (length (x ∷ xs)) (suc k) = elim (flipped_is (length (x ∷ xs)) (suc k)) [
+          | inl is ↦ (let no = is.0 in absurd (omega (arith, no)))
+          | inr is ↦ (let e = is.1 in omega (arith, e, less))
+        ] in
+        get_or-reverse xs k 0 less ∙ ap (λ p. get_or (x ∷ xs) p 0) place
+
+put_turned : (x : ℕ) (xs ys : List ℕ) (k : ℕ) → k ≡ length xs → ys ≡ reverse (mid_of 1 k (x ∷ xs)) → put_mid 1 k (x ∷ xs) ys ≡ x ∷ reverse xs
+put_turned x xs ys k all made = (let le : length xs ≤ k = omega (arith, all) in ap (λ l. x ∷ l) (ap (λ l. ys ++ l) (drop_all k xs le) ∙ append-nil ys ∙ made ∙ ap reverse (take_all k xs le)))
+
 -- Turned as it is told
 
--- the place of the least
-least_place : (xs : List ℕ) → 0 < length xs → (m : ℕ) × (x : ℕ) × (slice_get xs m ≡ Some x) × ((k y : ℕ) → slice_get xs k ≡ Some y → x ≤ y)
-least_place [] some = absurd (omega (arith, some))
-least_place (x ∷ []) some = (0, x, refl, only)
+-- the least of the list stands at this place
+record IsLeastAt (xs : List ℕ) (m : ℕ) : Type 0 where
+  least : ℕ
+  at : slice_get xs m ≡ Some least
+  below : (k y : ℕ) → slice_get xs k ≡ Some y → least ≤ y
+
+least_at : (xs : List ℕ) → 0 < length xs → (m : ℕ) × IsLeastAt xs m
+least_at [] some = absurd (omega (arith, some))
+least_at (x ∷ []) some = (0, record { least = x; at = refl; below = only })
   where
     only : (k y : ℕ) → slice_get (x ∷ []) k ≡ Some y → x ≤ y
     only zero y at = (let e : x ≡ y = cc in omega (arith, e))
     only (suc k) y at = cc
-least_place (x ∷ x' ∷ xs) some = by (least_place (x' ∷ xs) (omega arith))
+least_at (x ∷ x' ∷ xs) some = by (least_at (x' ∷ xs) (omega arith))
   where
-    by : (m : ℕ) × (y : ℕ) × (slice_get (x' ∷ xs) m ≡ Some y) × ((k z : ℕ) → slice_get (x' ∷ xs) k ≡ Some z → y ≤ z) → (m : ℕ) × (y : ℕ) × (slice_get (x ∷ x' ∷ xs) m ≡ Some y) × ((k z : ℕ) → slice_get (x ∷ x' ∷ xs) k ≡ Some z → y ≤ z)
-    by rest = elim (cases_lt x rest.1) [ inl lt ↦ (0, x, refl, first lt) | inr le ↦ (suc rest.0, rest.1, rest.2, later le) ]
+    by : (m : ℕ) × IsLeastAt (x' ∷ xs) m → (m : ℕ) × IsLeastAt (x ∷ x' ∷ xs) m
+    by (m, rest) = elim (cases_lt x rest.least) [ inl lt ↦ (0, record { least = x; at = refl; below = first lt }) | inr le ↦ (suc m, record { least = rest.least; at = rest.at; below = later le }) ]
       where
-        first : x < rest.1 → (k z : ℕ) → slice_get (x ∷ x' ∷ xs) k ≡ Some z → x ≤ z
+        first : x < rest.least → (k z : ℕ) → slice_get (x ∷ x' ∷ xs) k ≡ Some z → x ≤ z
         first lt zero z at = (let e : x ≡ z = cc in omega (arith, e))
-        first lt (suc k) z at = (let less = rest.3 k z at in omega (arith, lt, less))
+        first lt (suc k) z at = (let less = rest.below k z at in omega (arith, lt, less))
 
-        later : rest.1 ≤ x → (k z : ℕ) → slice_get (x ∷ x' ∷ xs) k ≡ Some z → rest.1 ≤ z
+        later : rest.least ≤ x → (k z : ℕ) → slice_get (x ∷ x' ∷ xs) k ≡ Some z → rest.least ≤ z
         later le zero z at = (let e : x ≡ z = cc in omega (arith, le, e))
-        later le (suc k) z at = rest.3 k z at
+        later le (suc k) z at = rest.below k z at
 
--- the first is the least
-abbrev BeginsLeast : List Who → Type 0
-BeginsLeast walk = (k : ℕ) (first s : Who) → slice_get walk 0 ≡ Some first → slice_get walk k ≡ Some s → first ≤ s
+best_is_least : (xs : List ℕ) (m : ℕ) → IsFirstBest nat_lt xs (length xs) m → IsLeastAt xs m
+best_is_least xs m best = record {
+  least = get_or xs m 0;
+  at = slice_get-get_or xs m 0 best.0;
+  below = λ k y at.
+      let le = ltb-false (get_or xs k 0) (get_or xs m 0) (best.1 k 0 (slice_get_within xs k y at)) in
+      let is = get_or_from_slice_get xs k y 0 at in
+      omega (arith, le, is);
+}
 
 module _ (net : Net) where
-  from_least : (walk : List Who) → IsRound net walk → (other : List Who) × IsRound net other × BeginsLeast other
-  from_least walk round =
-      let least = least_place walk round.some in
-      let less = slice_get_within walk least.0 least.1 least.2 in
-      let turning = rotation (length walk) least.0 less in (
-        placed 0 (onward (length walk) least.0) (length walk) walk,
-        turned_round net walk round (onward (length walk) least.0) (onward (length walk) least.0) turning,
+  from_least : (walk : List Who) (m : ℕ) → IsRound net walk → IsLeastAt walk m → IsRound net (placed 0 (onward (length walk) m) (length walk) walk) × BeginsLeast (placed 0 (onward (length walk) m) (length walk) walk)
+  from_least walk m round least =
+      let less = slice_get_within walk m least.least least.at in
+      let turning = rotation (length walk) m less in (
+        turned_round net walk round (onward (length walk) m) (onward (length walk) m) turning,
         λ k first s at_first at.
-            let a = placed_at 0 (onward (length walk) least.0) walk turning.strand_within 0 first at_first in
-            let b = placed_at 0 (onward (length walk) least.0) walk turning.strand_within k s at in
-            let start : onward (length walk) least.0 0 ≡ least.0 = elim (onward_is (length walk) least.0 0) [ inl is ↦ (let x = is.1 in omega (arith, x)) | inr is ↦ (let x = is.0 in absurd (omega (arith, x, less))) ] in
-            let one : Some least.1 ≡ Some first = sym least.2 ∙ ap (slice_get walk) (sym start) ∙ a.1 in
-            let it : least.1 ≡ first = cc in
-            let lower = least.3 (onward (length walk) least.0 k) s b.1 in
+            let a = placed_at 0 (onward (length walk) m) walk turning.strand_within 0 first at_first in
+            let b = placed_at 0 (onward (length walk) m) walk turning.strand_within k s at in
+            let start : onward (length walk) m 0 ≡ m = elim (onward_is (length walk) m 0) [ inl is ↦ (let x = is.1 in omega (arith, x)) | inr is ↦ (let x = is.0 in absurd (omega (arith, x, less))) ] in
+            let one : Some least.least ≡ Some first = sym least.at ∙ ap (slice_get walk) (sym start) ∙ a.1 in
+            let it : least.least ≡ first = cc in
+            let lower = least.below (onward (length walk) m k) s b.1 in
             omega (arith, it, lower),
       )
 
-  -- the lesser neighbour second
-  lesser_second : (walk : List Who) → IsRound net walk → BeginsLeast walk → (other : List Who) × IsClosedWalk net other
-  lesser_second walk round least = by (slice_get walk 1) refl (slice_get walk (length walk - 1)) refl
-    where
-      as_it_is : ((second last : Who) → slice_get walk 1 ≡ Some second → slice_get walk (length walk - 1) ≡ Some last → second ≤ last) → (other : List Who) × IsClosedWalk net other
-      as_it_is lesser = (walk, (round, record { least = least; lesser = lesser }))
+  pub begun_least : (walk new : List Who) (m : ℕ) → IsFirstBest nat_lt walk (length walk) m → length new ≡ length walk → RotatedLeft walk new (length walk) m → IsRound net walk → IsRound net new × BeginsLeast new
+  begun_least walk new m best long moved round = subst (λ l. IsRound net l × BeginsLeast l) (sym (moved_left walk new m long moved)) (from_least walk m round (best_is_least walk m best))
 
+  -- a walk whose second strand isn't above its last one stays
+  pub stays : (walk : List Who) → (length walk ≤ 1) ⊎ (get_or walk 1 0 ≤ get_or walk (length walk - 1) 0) → IsRound net walk → BeginsLeast walk → IsClosedWalk net walk
+  stays walk why round least = (
+    round,
+    record {
+      least = least;
+      lesser = λ second last at_second at_last.
+          let two = slice_get_within walk 1 second at_second in
+          let p = get_or_from_slice_get walk 1 second 0 at_second in
+          let q = get_or_from_slice_get walk (length walk - 1) last 0 at_last in
+          elim why [ inl one ↦ absurd (omega (arith, one, two)) | inr le ↦ omega (arith, p, q, le) ];
+    },
+  )
+
+  -- one whose second strand is above its last one is turned
+  from_end : (walk : List Who) → 1 < length walk → get_or walk (length walk - 1) 0 < get_or walk 1 0 → IsRound net walk → BeginsLeast walk → IsClosedWalk net (placed 0 (flipped (length walk)) (length walk) walk)
+  from_end walk two less round least = (
+    turned_round net walk round (flipped (length walk)) (λ k. length walk - suc k) turning,
+    record {
+      least = λ k first s at_first at.
+          let a = placed_at 0 (flipped (length walk)) walk turning.strand_within 0 first at_first in
+          let b = placed_at 0 (flipped (length walk)) walk turning.strand_within k s at in
+          least (flipped (length walk) k) first s a.1 b.1;
+      lesser = λ x y at_x at_y.
+          let long = placed_long 0 (flipped (length walk)) walk turning.strand_within in
+          let a = placed_at 0 (flipped (length walk)) walk turning.strand_within 1 x at_x in
+          let b = placed_at 0 (flipped (length walk)) walk turning.strand_within (length (placed 0 (flipped (length walk)) (length walk) walk) - 1) y at_y in
+          let place : flipped (length walk) (length (placed 0 (flipped (length walk)) (length walk) walk) - 1) ≡ 1 =
+          ap (λ n. flipped (length walk) (n - 1)) long ∙ elim (flipped_is (length walk) (length walk - 1)) [ inl is ↦ (let z = is.0 in absurd (omega (arith, z, two))) | inr is ↦ (let z = is.1 in omega (arith, z, two)) ] in
+          let p = get_or_from_slice_get walk (length walk - 1) x 0 a.1 in
+          let q = get_or_from_slice_get walk 1 y 0 (ap (slice_get walk) (sym place) ∙ b.1) in
+          omega (arith, p, q, less);
+    },
+  )
+    where
       turning : IsTurning (length walk) (flipped (length walk)) (λ k. length walk - suc k)
       turning = reversal (length walk)
 
-      from_end : (second last : Who) → slice_get walk 1 ≡ Some second → slice_get walk (length walk - 1) ≡ Some last → last < second → (other : List Who) × IsClosedWalk net other
-      from_end second last at_second at_last less = (
-        placed 0 (flipped (length walk)) (length walk) walk,
-        (
-          turned_round net walk round (flipped (length walk)) (λ k. length walk - suc k) turning,
-          record {
-            least = λ k first s at_first at.
-                let a = placed_at 0 (flipped (length walk)) walk turning.strand_within 0 first at_first in
-                let b = placed_at 0 (flipped (length walk)) walk turning.strand_within k s at in
-                least (flipped (length walk) k) first s a.1 b.1;
-            lesser = λ x y at_x at_y.
-                let two = slice_get_within walk 1 second at_second in
-                let long = placed_long 0 (flipped (length walk)) walk turning.strand_within in
-                let a = placed_at 0 (flipped (length walk)) walk turning.strand_within 1 x at_x in
-                let b = placed_at 0 (flipped (length walk)) walk turning.strand_within (length (placed 0 (flipped (length walk)) (length walk) walk) - 1) y at_y in
-                let to_last : Some x ≡ Some last = sym a.1 ∙ at_last in
-                let place : flipped (length walk) (length (placed 0 (flipped (length walk)) (length walk) walk) - 1) ≡ 1 =
-                ap (λ n. flipped (length walk) (n - 1)) long ∙ elim (flipped_is (length walk) (length walk - 1)) [ inl is ↦ (let z = is.0 in absurd (omega (arith, z, two))) | inr is ↦ (let z = is.1 in omega (arith, z, two)) ] in
-                let to_second : Some y ≡ Some second = sym b.1 ∙ ap (slice_get walk) place ∙ at_second in
-                let p : x ≡ last = cc in
-                let q : y ≡ second = cc in
-                omega (arith, p, q, less);
-          },
-        ),
-      )
+  pub reads_from_end : (walk ys : List Who) → 1 < length walk → get_or walk (length walk - 1) 0 < get_or walk 1 0 → ys ≡ reverse (mid_of 1 (length walk - 1) walk) → IsRound net walk → BeginsLeast walk → IsClosedWalk net (put_mid 1 (length walk - 1) walk ys)
+  reads_from_end [] ys two less made round least = absurd (omega (arith, two))
+  reads_from_end (x ∷ xs) ys two less made round least = subst (IsClosedWalk net) (sym (put_turned x xs ys (length (x ∷ xs) - 1) (omega arith) made ∙ others_turned x xs)) (from_end (x ∷ xs) two less round least)
 
-      by : (a : Option Who) → slice_get walk 1 ≡ a → (b : Option Who) → slice_get walk (length walk - 1) ≡ b → (other : List Who) × IsClosedWalk net other
-      by None at_second b at_last = as_it_is (λ x y at_x at_y. (let e : None ≡ Some x = sym at_second ∙ at_x in cc))
-      by (Some second) at_second None at_last = as_it_is (λ x y at_x at_y. (let e : None ≡ Some y = sym at_last ∙ at_y in cc))
-      by (Some second) at_second (Some last) at_last = elim (cases_lt last second) [
-        | inl less ↦ from_end second last at_second at_last less
-        | inr le ↦ as_it_is (λ x y at_x at_y.
-            let a : Some second ≡ Some x = sym at_second ∙ at_x in
-            let b : Some last ≡ Some y = sym at_last ∙ at_y in
-            let p : second ≡ x = cc in
-            let q : last ≡ y = cc in
-            omega (arith, p, q, le))
-      ]
+  lesser_second : (walk : List Who) → IsRound net walk → BeginsLeast walk → (other : List Who) × IsClosedWalk net other
+  lesser_second walk round least = elim (cases_lt 1 (length walk)) [
+    | inl two ↦ elim (cases_lt (get_or walk (length walk - 1) 0) (get_or walk 1 0)) [
+      | inl less ↦ (placed 0 (flipped (length walk)) (length walk) walk, from_end walk two less round least)
+      | inr le ↦ (walk, stays walk (inr le) round least)
+    ]
+    | inr one ↦ (walk, stays walk (inl one) round least)
+  ]
 
   pub closed_walk : (walk : List Who) → IsRound net walk → (other : List Who) × IsClosedWalk net other
-  closed_walk walk round = (let first = from_least walk round in lesser_second first.0 first.1 first.2)
+  closed_walk walk round =
+      let first = least_at walk round.some in
+      let begun = from_least walk first.0 round first.1 in
+      lesser_second (placed 0 (onward (length walk) first.0) (length walk) walk) begun.0 begun.1

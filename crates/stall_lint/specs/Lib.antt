@@ -1,4 +1,6 @@
 pub mod Answer
+pub mod Around
+pub mod Begun
 pub mod Circles
 pub mod ClosedWalks
 pub mod Grouped

@@ -1,5 +1,7 @@
-ghost use Rattle.std.specs.Prelude.{IfOk};
+ghost use Rattle.std.specs.Prelude.{◌<◌, length, nat_lt, IfOk};
+ghost use Rattle.std.specs.List.{IsFirstBest};
 ghost use Rattle.pipe_model.specs.declared.net.Net.{Net};
+ghost use Rattle.stall_lint.specs.Begun.{BeginsLeast};
 ghost use Rattle.stall_lint.specs.ClosedWalks.{IsClosedWalk, IsRound};
 
 use pipe_model::NoMemory;
@@ -9,30 +11,26 @@ use std::alloc::Global;
 pub(crate) fn turned(alloc: Global, walk: &[u32]) -> Result<Vec<u32>, NoMemory>
     ensures { (net : Net) → IsRound net walk.now → IfOk result (λ turned. IsClosedWalk net turned.items) }
 {
-    let count = walk.len();
-    let mut turned = Vec::new(alloc);
-    if count == 0 {
-        return Ok(turned);
-    }
-    let start = least_place(walk);
-    let next = walk[if start + 1 == count { 0 } else { start + 1 }];
-    let last = walk[if start == 0 { count - 1 } else { start - 1 }];
-    for k in 0..count {
-        let place = if last < next {
-            // backwards
-            if k <= start { start - k } else { start + count - k }
-        } else if start + k < count {
-            start + k
-        } else {
-            start + k - count
-        };
-        turned.push(walk[place])?;
-    }
+    let mut turned = Vec::from_slice(alloc, walk)?;
+    begin_least(&mut turned);
+    turn(&mut turned);
     Ok(turned)
 }
 
+// Begins a walk at its least strand.
+fn begin_least(walk: &mut [u32])
+    ensures { (net : Net) → IsRound net walk.old → IsRound net walk.new × BeginsLeast walk.new }
+{
+    if !walk.is_empty() {
+        walk.rotate_left(least_place(walk));
+    }
+}
+
 // The place of the least of these numbers.
-fn least_place(walk: &[u32]) -> usize {
+fn least_place(walk: &[u32]) -> usize
+    requires { 0 < length walk.now }
+    ensures { IsFirstBest nat_lt walk.now (length walk.now) result }
+{
     let mut least = 0;
     for k in 1..walk.len() {
         if walk[k] < walk[least] {
@@ -40,4 +38,14 @@ fn least_place(walk: &[u32]) -> usize {
         }
     }
     least
+}
+
+// Leaves the first strand of a walk and reads the others from the last one, if that is less than the second.
+fn turn(walk: &mut [u32])
+    ensures { (net : Net) → IsRound net walk.old → BeginsLeast walk.old → IsClosedWalk net walk.new }
+{
+    let count = walk.len();
+    if count > 1 && walk[count - 1] < walk[1] {
+        walk[1..].reverse();
+    }
 }
