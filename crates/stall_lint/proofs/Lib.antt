@@ -2,9 +2,9 @@ pub mod Alike
 pub mod AllGrown
 pub mod Backwards
 pub mod Branches
+pub mod Circuits
 pub mod Closing
 pub mod EdgeEnds
-pub mod Circuits
 pub mod Edges
 pub mod Ends
 pub mod Examples

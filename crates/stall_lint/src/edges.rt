@@ -42,7 +42,6 @@ impl Edges {
 }
 
 // For each label the edges that have an end in its group.
-<<<<<<< HEAD
 pub(crate) fn edges_of(alloc: Global, net: &Net, groups: &Groups) -> Result<Vec<Edges>, NoMemory>
     requires formed { IsWellFormed net.now }
     requires groups { AreGroups net.now groups.now }
@@ -60,9 +59,6 @@ fn none(alloc: Global, count: usize) -> Result<Vec<Edges>, NoMemory>
     ensures count { IfOk result (λ edges. length edges.items ≡ count) }
     ensures none { IfOk result (λ edges. (g : ℕ) → edges_at edges.items g ≡ []) }
 {
-=======
-pub(crate) fn edges_of(alloc: Global, net: &Net, groups: &Groups) -> Result<Vec<Edges>, NoMemory> {
->>>>>>> 1d0d918194bde4f0b9382f3d9323444de6063d71
     let mut edges = Vec::new(alloc);
     for _ in 0..count {
         edges.push(Edges {

@@ -63,11 +63,7 @@ pub(crate) fn ring(alloc: Global, net: &Net) -> Result<Option<Vec<u32>>, NoMemor
     ensures { IfOk result (λ found. IsRanked net.now (option_map (λ found. found.items) found)) }
 {
     let count = net.strands.as_slice().len();
-<<<<<<< HEAD
     let mut waiting = all_waiting(alloc, net)?;
-=======
-    let mut producers = producers_of(alloc, net)?;
->>>>>>> 1d0d918194bde4f0b9382f3d9323444de6063d71
     let mut looks = vec![in alloc; Look::New; count]?;
     for start in 0..count {
         if let Look::New = looks[start] {
@@ -92,7 +88,6 @@ fn all_waiting(alloc: Global, net: &Net) -> Result<Vec<Waiting>, NoMemory>
     Ok(waiting)
 }
 
-<<<<<<< HEAD
 // For each of so many strands no link yet.
 fn none_waiting(alloc: Global, count: usize) -> Result<Vec<Waiting>, NoMemory>
     ensures { IfOk result (λ waiting. waiting.items ≡ replicate count []) }
@@ -101,14 +96,6 @@ fn none_waiting(alloc: Global, count: usize) -> Result<Vec<Waiting>, NoMemory>
     for _ in 0..count {
         waiting.push(Waiting {
             links: Vec::new(alloc),
-=======
-// The producers of all strands.
-fn producers_of(alloc: Global, net: &Net) -> Result<Vec<Producers>, NoMemory> {
-    let mut producers = Vec::new(alloc);
-    for _ in 0..net.strands.as_slice().len() {
-        producers.push(Producers {
-            strands: Vec::new(alloc),
->>>>>>> 1d0d918194bde4f0b9382f3d9323444de6063d71
         })?;
     }
     Ok(waiting)
