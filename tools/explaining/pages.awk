@@ -1,13 +1,14 @@
 # What the pages say: their tables, and of a stage its syntax, its streams and an example.
 
 # The tables of the pages, and the heads of what to do about a stall: wrong, argued and when by number, with what to do about it in remedy,
-# mending and help; does and page by name of stage.
+# mending and help; does and page by name of stage; lint_says and lint_help by the word of a line.
 function read_pages() {
     head["| n | what is wrong | the place | what to do |"] = "refusals"
     head["| k | what is wrong with an argument | what to do |"] = "arguments"
     head["| status | text | when | what to do |"] = "statuses"
     head["| stage | what it does | its page |"] = "stages"
     head["| it waits for | that is |"] = "waits"
+    head["| the line | what it says | what to do |"] = "lints"
     read_page("GUIDE.md")
     read_page("stalls.md")
 }
@@ -59,6 +60,10 @@ function read_row(table, key, first, second, third) {
         gsub(/`/, "", key)
         sub(/^[A-Z][^:]*: /, "", first)
         waited[key] = first
+    } else if (table == "lints") {
+        gsub(/`/, "", key)
+        lint_says[lint_key(key)] = plain(first)
+        lint_help[lint_key(key)] = plain(second)
     }
 }
 
