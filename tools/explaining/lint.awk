@@ -48,6 +48,8 @@ function explain_lint(line,   key, count, k) {
 
 # Whether a line can be of this specification, as its first numbers in walk are.
 function is_of_spec(key, count,   k) {
+    if (specs && refused)
+        return 0
     for (k = 1; k <= count; k++)
         if (!(walk[k] in owner))
             return 0
