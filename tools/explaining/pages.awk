@@ -13,8 +13,10 @@ function read_pages() {
     read_page("stalls.md")
 }
 
-function read_page(name,   line, row, table) {
+function read_page(name,   line, row, table, part_name) {
     while ((getline line <(docs "/" name)) > 0) {
+        if (line ~ /^## /)
+            part_name = substr(line, 4)
         if (line in head)
             table = head[line]
         else if (line !~ /^\|/)
@@ -23,7 +25,7 @@ function read_page(name,   line, row, table) {
             split(line, row, /\|/)
             read_row(table, trim(row[2]), trim(row[3]), trim(row[4]), trim(row[5]))
         }
-        if (name == "stalls.md" && match(line, /^\*\*[^*]*\*\*/))
+        if (name == "stalls.md" && part_name == "What to do" && match(line, /^\*\*[^*]*\*\*/))
             read_advice(substr(line, 3, RLENGTH - 4))
     }
     close(docs "/" name)
