@@ -135,7 +135,7 @@ function tell_meeting(k, count, first, second, said,   name, text) {
         judge_way(k, count, 1, second)
     text = "Ways of the ring meet at " numbered_text(walk[k]) ". "
     if (places == "") {
-        say(said ? "" : "What to do:", text "Where one of them has to wait a stage takes all that comes: " holders ". So who writes there goes on. The line of `--lint` stays, as it does not say what a stage holds.")
+        say(said ? "" : "What to do:", text "Where one of them has to wait a stage takes all that comes: " holders ". So who writes there goes on. The line of `--lint` stays, as it does not say what a stage holds; and where there are other rings it need not tell them.")
         return
     }
     say(said ? "" : "What to do:", text advice["ELASTIC"] " Then who writes there goes on: " places ".")
