@@ -4,7 +4,7 @@
 _pipe_stages='< > between block buffer change chop collate console copy count dam deal deblock drop duplicate elastic fanin
     faninany fanout fblock find frlabel gate gather hole inside join juxtapose literal locate lookup merge nfind nlocate overlay
     pad reverse sort specs split strip synchronise take tolabel unique xlate'
-_pipe_options='--steps --workers --trace --check --sample'
+_pipe_options='--steps --workers --trace --check --lint --sample'
 
 # _pipe_files TEXT BYTES: the files whose names begin so, and folders with a slash behind them, but for those that have a blank or one of these bytes: a
 # specification can't hold their names as they are.
@@ -69,7 +69,7 @@ _pipe() {
     local word=${COMP_WORDS[COMP_CWORD]} before=$3 tool=${1##*/} options=$_pipe_options front found=() quote='' earlier
     COMPREPLY=()
     case $tool in
-    pipe-draw) options='--names --list --strands --dot' ;;
+    pipe-draw) options='--names --list --strands --dot --walk' ;;
     pipe-explain) options="--run --look --stage $options" ;;
     pipe-file) options="--print $options" ;;
     pipe-journal) options=--check ;;
@@ -80,7 +80,7 @@ _pipe() {
         _pipe_any_file "$2"
         return
         ;;
-    *,--steps | *,--workers | *,--sample) return ;;
+    *,--steps | *,--workers | *,--sample | *,--walk) return ;;
     pipe-explain,--stage)
         mapfile -t COMPREPLY < <(compgen -W "$_pipe_stages" -- "${word,,}")
         return

@@ -52,7 +52,7 @@ function explain(   line, count, k, found, status, is_stall) {
             read_wait(line)
         else if (is_stall && line == "code -4095")
             ending = line
-        else if (found == "" && (line ~ /^spec [0-9]+(\.[0-9]+)? at [0-9]+$/ || status_of(line) != ""))
+        else if (found == "" && (line ~ /^spec [0-9]+(\.[0-9]+)? at [0-9]+$/ || status_of(line) != "" || is_lint(line)))
             found = line
         else
             print line
@@ -66,6 +66,8 @@ function explain(   line, count, k, found, status, is_stall) {
         split(found, place_words, " ")
         return explain_refusal(found, place_words[2], k, place_words[4] + 0)
     }
+    if (is_lint(found))
+        return explain_lint(found)
     if (found != "")
         return explain_status(found, status_of(found))
     if (running && ending_status + 0 in when)

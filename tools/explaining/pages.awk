@@ -1,19 +1,22 @@
 # What the pages say: their tables, and of a stage its syntax, its streams and an example.
 
 # The tables of the pages, and the heads of what to do about a stall: wrong, argued and when by number, with what to do about it in remedy,
-# mending and help; does and page by name of stage.
+# mending and help; does and page by name of stage; lint_says and lint_help by the word of a line.
 function read_pages() {
     head["| n | what is wrong | the place | what to do |"] = "refusals"
     head["| k | what is wrong with an argument | what to do |"] = "arguments"
     head["| status | text | when | what to do |"] = "statuses"
     head["| stage | what it does | its page |"] = "stages"
     head["| it waits for | that is |"] = "waits"
+    head["| the line | what it says | what to do |"] = "lints"
     read_page("GUIDE.md")
     read_page("stalls.md")
 }
 
-function read_page(name,   line, row, table) {
+function read_page(name,   line, row, table, part_name) {
     while ((getline line <(docs "/" name)) > 0) {
+        if (line ~ /^## /)
+            part_name = substr(line, 4)
         if (line in head)
             table = head[line]
         else if (line !~ /^\|/)
@@ -22,7 +25,7 @@ function read_page(name,   line, row, table) {
             split(line, row, /\|/)
             read_row(table, trim(row[2]), trim(row[3]), trim(row[4]), trim(row[5]))
         }
-        if (name == "stalls.md" && match(line, /^\*\*[^*]*\*\*/))
+        if (name == "stalls.md" && part_name == "What to do" && match(line, /^\*\*[^*]*\*\*/))
             read_advice(substr(line, 3, RLENGTH - 4))
     }
     close(docs "/" name)
@@ -59,6 +62,10 @@ function read_row(table, key, first, second, third) {
         gsub(/`/, "", key)
         sub(/^[A-Z][^:]*: /, "", first)
         waited[key] = first
+    } else if (table == "lints") {
+        gsub(/`/, "", key)
+        lint_says[lint_key(key)] = plain(first)
+        lint_help[lint_key(key)] = plain(second)
     }
 }
 

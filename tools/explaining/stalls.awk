@@ -167,7 +167,7 @@ function tell_rings(   k, j, i, first, next_one, color, rings) {
 }
 
 # What is said of a ring that begins with a line, and what to do.
-function tell_ring(start,   j, other, text, writes, others, held, all, piece) {
+function tell_ring(start,   j, other, text, writes, others, held, piece) {
     j = start
     text = ""
     writes = others = held = 0
@@ -186,21 +186,32 @@ function tell_ring(start,   j, other, text, writes, others, held, all, piece) {
     print ""
     say("The ring:", text ".")
     if (!writes || !others) {
-        say("What to do:", advice["back"] " Here records are led back to where they came from. What goes round needs a stage that ends by itself, as `take` does, and a `copy` for each record that is under way beside the first, or one `elastic` for any number of them.")
+        say("What to do:", back_help())
         if (!writes)
             say("", "All of them wait to read, so no stage that holds records helps: what nobody has written no queue has.")
     } else if ((strand_of[held], stream_in[held]) in left_of) {
         piece = left_of[strand_of[held], stream_in[held]]
         other = name_of(stage_at[piece + 1])
-        all = " " separator " "
-        text = quoted(text_of(piece)) all "elastic" all quoted(text_of(piece + 1))
-        gsub(/`/, "", text)
-        gsub(/ /, "\001", text)
-        say("What to do:", advice["ELASTIC"] " Then who writes there goes on: `" text "`.")
+        say("What to do:", advice["ELASTIC"] " Then who writes there goes on: " with_elastic(piece) ".")
         say("", advice["BUFFER"] " `buffer` at the same place serves too, where the records that come there have an end and are wanted only after it.")
         if (other ~ /^(merge|collate|overlay|synchroni[sz]e)$/)
             say("", advice["each"] " `" other "` looks at a record of each input before it takes one: `buffer` on each way lets it go on.")
         if (other ~ /^(fanin|gather)$/)
-            say("", advice["order"] " Where it does not matter that the records of `" other "` come in its order, `faninany` in its place takes what is there.")
+            say("", order_help(other))
     }
+}
+
+function back_help() {
+    return advice["back"] " Here records are led back to where they came from. What goes round needs a stage that ends by itself, as `take` does, and a `copy` for each record that is under way beside the first, or one `elastic` for any number of them."
+}
+
+function order_help(name) {
+    return advice["order"] " Where it does not matter that the records of `" name "` come in its order, `faninany` in its place takes what is there."
+}
+
+# A piece and the next one, with an ELASTIC between.
+function with_elastic(piece,   text) {
+    text = quoted(text_of(piece)) " " separator " elastic " separator " " quoted(text_of(piece + 1))
+    gsub(/`/, "", text)
+    return "`" kept_together(text) "`"
 }

@@ -21,12 +21,17 @@ function read_words(count,   k, word, option, value, ended, seen, has) {
         has = index(word, "=")
         if (has)
             option = substr(word, 1, has - 1)
-        if (option !~ /^--(workers|steps|trace|check|sample)$/) {
+        if (option !~ /^--(workers|steps|trace|check|lint|sample)$/) {
             blame(quoted(word) " is no option.")
             continue
         }
         if (seen[option]++)
             blame("`" option "` stands twice.")
+        if (option == "--lint") {
+            if (has)
+                blame("`--lint` takes no value.")
+            continue
+        }
         if (!has && (k + 1 >= count || ARGV[k + 1] ~ /^-./)) {
             blame("`" option "` has no value.")
             continue
@@ -41,8 +46,10 @@ function read_words(count,   k, word, option, value, ended, seen, has) {
         blame("There are " specs " words where one specification should be: " listed ". Quotes around the whole make one word of it.")
     if (!specs && !sampled)
         blame("There is no specification.")
-    if (seen["--check"] && (sampled || seen["--trace"] || seen["--steps"] || seen["--workers"]))
+    if (seen["--check"] && (sampled || seen["--lint"] || seen["--trace"] || seen["--steps"] || seen["--workers"]))
         blame("`--check` stands without other options.")
+    else if (seen["--lint"] && (sampled || seen["--trace"] || seen["--steps"] || seen["--workers"]))
+        blame("`--lint` stands without other options.")
     if (sampled && seen["--trace"])
         blame("`--sample` stands without `--trace`.")
     if (specs && sampled)
