@@ -14,7 +14,7 @@ use Rattle.call_meaning.specs.Effects.{Before, Effect}
 use Rattle.call_meaning.specs.Status.{status_of}
 use Rattle.call_meaning.specs.Devices.{Outside, AllSteady, NoneFailed, Steady, Failed, IsDone}
 use Rattle.call_meaning.specs.Meaning.{CheckMeans, ComesTo, IsTooLarge, Means, RunMeans, fed_size, input_limit, net_on}
-use Rattle.call_meaning.specs.Meaning.ComesTo.{ran, checked, sampled}
+use Rattle.call_meaning.specs.Meaning.ComesTo.{ran, checked, linted, sampled}
 use Rattle.call_meaning.specs.Meaning.Means.{unrun as means_unrun, unchecked as means_unchecked, too_large as means_large, came as means_came}
 use Rattle.call_meaning.specs.Answer.{HasCause, HasDone, HasUsed, IsTold, IsTorn, IsUsed, Decides, Reports, Answers}
 use Rattle.call_meaning.specs.Answer.HasCause.{unrun, unchecked, too_large, came, fetch_failed, read_failed, write_failed, no_memory}
@@ -33,7 +33,7 @@ module _ (words : List (List ℕ)) (old new : Outside) (given : Before) (effect 
   unfailed_cause (fetch_failed name fetching unread is done input output failed) = absurd (no_shelf name is)
   unfailed_cause (read_failed reading is done failed output shelf) = absurd (no_read is)
   unfailed_cause (write_failed written is input failed shelf) = absurd (no_write is)
-  unfailed_cause (no_memory is done steady) = steady
+  unfailed_cause (no_memory is done read steady) = steady
 
   unfailed_torn : (name : List ℕ) → IsTorn old new name decided → new.shelf.faults ≡ old.shelf.faults
   unfailed_torn name (torn_failed is failed) = absurd (no_shelf name is)
@@ -108,6 +108,7 @@ module _ (words : List (List ℕ)) (old new : Outside) where
       fits = unread_fits d.given c.net leaves all c.fits;
       means = subst (λ net. CheckMeans net c.journal decided d.effect) (unread_same d.given c.net leaves all) c.means;
     }))
+    come_meant (linted l) used = at_some old.input.bytes (λ all. means_came (linted l))
     come_meant (sampled s) used = at_some old.input.bytes (λ all. means_came (sampled s))
 
     large_meant : IsTooLarge words d.given → (all : List ℕ) → length d.given.input ≤ length all → IsTooLarge words (on_all d.given all)
@@ -124,7 +125,7 @@ module _ (words : List (List ℕ)) (old new : Outside) where
       all_meant_by (fetch_failed name fetching unread is done input output failed) = absurd (none.shelf failed)
       all_meant_by (read_failed reading is done failed output shelf) = absurd (none.input failed)
       all_meant_by (write_failed written is input failed shelf) = absurd (none.output failed)
-      all_meant_by (no_memory is done steady) = absurd (some is)
+      all_meant_by (no_memory is done read steady) = absurd (some is)
 
       -- and for what they mean on what it gave
       given_meant_by : HasCause words old new d.given d.effect decided → Means words d.given decided d.effect
@@ -135,7 +136,7 @@ module _ (words : List (List ℕ)) (old new : Outside) where
       given_meant_by (fetch_failed name fetching unread is done input output failed) = absurd (none.shelf failed)
       given_meant_by (read_failed reading is done failed output shelf) = absurd (none.input failed)
       given_meant_by (write_failed written is input failed shelf) = absurd (none.output failed)
-      given_meant_by (no_memory is done steady) = absurd (some is)
+      given_meant_by (no_memory is done read steady) = absurd (some is)
 
       -- so all of it was done
       whole_of : HasDone words old new d.given d.effect decided → IsDone d.effect old new × HasCause words old new d.given d.effect decided

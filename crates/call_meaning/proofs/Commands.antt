@@ -3,9 +3,9 @@ use Rattle.std.proofs.Common.{◌≡◌, ◌∙◌, inl, inr, ℕ, List, Option,
 use Rattle.pipe_model.specs.declared.net.Net.{Net}
 use Rattle.call_meaning.specs.declared.status.Outcome.{Outcome}
 use Rattle.call_words.specs.declared.command.Command.{Command}
-use Rattle.call_words.specs.declared.command.Command.TheVariants.{Run, Sample}
+use Rattle.call_words.specs.declared.command.Command.TheVariants.{Lint, Run, Sample}
 use Rattle.call_words.specs.Command.{command_of}
-use Rattle.call_meaning.specs.Meaning.{IsNetOf, RunsNet, SamplesNet, spec_of}
+use Rattle.call_meaning.specs.Meaning.{IsNetOf, LintsNet, RunsNet, SamplesNet, spec_of}
 use Rattle.call_meaning.specs.Meaning.IsUnrun.{refused}
 use Rattle.call_meaning.specs.Refusals.{IsTextOutcome}
 use Rattle.call_meaning.specs.Calls.{IsCall, StopsWords}
@@ -26,6 +26,10 @@ module _ (words : List (List ℕ)) (command : Command) (net : Net) (call : IsCal
     run = record { workers = workers; command = call.command_is ∙ ap Some is };
     net_of = net_is (Run spec workers steps trace) is;
   }
+
+  -- a lint
+  abbrev pub call_lints : (spec : List ℕ) → command ≡ Lint spec → LintsNet words net
+  call_lints spec is = record { spec = spec; command = call.command_is ∙ ap Some is; net_of = net_is (Lint spec) is }
 
   -- the sample
   abbrev pub call_samples : (count workers steps : ℕ) → command ≡ Sample count workers steps → SamplesNet words net count steps

@@ -16,21 +16,26 @@ use Rattle.confluence_laws.proofs.Readings.{plain_reading}
 use Rattle.confluence_laws.proofs.WaitLines.{ended_none, none_ended, some_unended, unended_some}
 use Rattle.net_graph.specs.Fed.{with_input}
 use Rattle.net_graph.proofs.Feeds.{fed_formed}
+use Rattle.stall_lint.specs.declared.told.Lint.{Lint as Answer}
+use Rattle.stall_lint.specs.declared.told.Lint.TheVariants as Answers
+use Rattle.stall_lint.specs.Answer.{Lints}
+use Rattle.stall_lint.specs.Never.{NeverStalls}
+use Rattle.stall_lint.proofs.Ends.{never_stalls}
 use Rattle.call_words.specs.Command.{command_of}
-use Rattle.call_words.specs.declared.command.Command.TheVariants.{Run, Sample}
+use Rattle.call_words.specs.declared.command.Command.TheVariants.{Lint, Run, Sample}
 use Rattle.call_meaning.specs.declared.status.Outcome.{Outcome}
 use Rattle.call_meaning.specs.declared.status.Outcome.TheVariants.{Done, Spent}
-use Rattle.call_meaning.specs.Effects.{Before, Effect, effect_of, no_effect, traced}
+use Rattle.call_meaning.specs.Effects.{Before, Effect, effect_of, no_effect, output_of, traced}
 use Rattle.call_meaning.specs.Headline.{HasOneSummary, Headline, IsEnded, IsHeadline, IsOneReading, IsReplyOf, IsStall}
 use Rattle.call_meaning.specs.Headline.HasOneAnswer.{reads, spends}
 use Rattle.call_meaning.specs.Headline.HasOneSummary.{sums_up as one_sum, falls_short}
-use Rattle.call_meaning.specs.Meaning.{Exhausts, Finishes, IsCommittedFirst, IsNetOf, Means, RunMeans, RunsNet, SampleMeans, fed_size, input_limit, net_on, outcome_by, outcome_of, summed_up}
+use Rattle.call_meaning.specs.Meaning.{Exhausts, Finishes, IsCommittedFirst, IsNetOf, LintsNet, Means, RunMeans, RunsNet, SampleMeans, fed_size, input_limit, lint_line, net_on, outcome_by, outcome_of, summed_up}
 use Rattle.call_meaning.specs.Meaning.RunMeans.{finishes, exhausts}
 use Rattle.call_meaning.specs.Meaning.SampleMeans.{sums_up, spends as sample_spends}
 use Rattle.call_meaning.specs.Sample.{sample_spec, sample_text}
 use Rattle.call_meaning.proofs.Journals.{goes_further}
 use Rattle.call_meaning.proofs.Lists.{some_lists}
-use Rattle.call_meaning.proofs.Meanings.{IfFits, meaning_at, run_called}
+use Rattle.call_meaning.proofs.Meanings.{IfFits, lint_called, meaning_at, run_called}
 use Rattle.call_meaning.proofs.OneTexts.{net_formed}
 use Rattle.call_meaning.proofs.SampleNets.{sample_has_net, sample_net}
 use Rattle.call_meaning.proofs.SampleRuns.{fed_code, fed_ends, fed_plain, fed_whole}
@@ -184,6 +189,19 @@ module _ (net : Net) (steps workers : ℕ) (formed : IsWellFormed net) (settled 
           ∙ ap (summed_up count (reply net (play net done.journal)).console (length done.journal)) is_done)
       summary_net (sample_spends spent outcome_is effect_is) = falls_short (none_short spent outcome_is) outcome_is effect_is
 
+-- A lint
+
+-- the line of a net that never stalls is no other
+is_never : (answer : Answer) → output_of (lint_line answer) ≡ output_of (lint_line Answers.Never) → answer ≡ Answers.Never
+is_never (Answers.Loose s) same = (let line : lint_line (Answers.Loose s) ≡ lint_line Answers.Never = ap (λ (e : Effect). e.output) same in cc)
+is_never (Answers.Issuer s) same = (let line : lint_line (Answers.Issuer s) ≡ lint_line Answers.Never = ap (λ (e : Effect). e.output) same in cc)
+is_never (Answers.Latch s) same = (let line : lint_line (Answers.Latch s) ≡ lint_line Answers.Never = ap (λ (e : Effect). e.output) same in cc)
+is_never (Answers.Walk walk) same = (let line : lint_line (Answers.Walk walk) ≡ lint_line Answers.Never = ap (λ (e : Effect). e.output) same in cc)
+is_never Answers.Never same = refl
+
+pub never_by : (net : Net) → IsWellFormed net → (answer : Answer) → Lints net answer → answer ≡ Answers.Never → NeverStalls net
+never_by net formed answer told is = (let never = subst (Lints net) is told in never_stalls net formed never.0.0 never.0.1 never.0.2 never.1)
+
 -- A call
 
 module _ (words : List (List ℕ)) (given : Before) (outcome : Outcome) (effect : Effect) (means : Means words given outcome effect) where
@@ -194,6 +212,11 @@ module _ (words : List (List ℕ)) (given : Before) (outcome : Outcome) (effect 
       by : IfFits given net outcome effect (RunMeans (net_on given net) steps runs.run.workers trace outcome effect) → IsHeadline (net_on given net) steps runs.run.workers trace outcome effect
       by (inl large) = (let past = large.0 in absurd (omega (arith, fits, past)))
       by (inr run) = headline_net (net_on given net) steps runs.run.workers (fed_formed given.input given.files net (net_formed runs.spec net runs.net_of)) settled trace outcome effect run.1
+
+  by_lint : (net : Net) → LintsNet words net → effect ≡ output_of (lint_line Answers.Never) → NeverStalls net
+  by_lint net lints never =
+      let meant = meaning_at words given (Lint lints.spec) net (lint_called words net lints) outcome effect means in
+      never_by net (net_formed lints.spec net lints.net_of) meant.answer meant.told (is_never meant.answer (sym meant.effect_is ∙ never))
 
   by_sample : (count workers steps : ℕ) → command_of words ≡ Some (Sample count workers steps) →
       (net : Net) × IsNetOf sample_spec net × HasOneSummary (with_input (sample_text count) net) count steps outcome effect
@@ -208,4 +231,4 @@ module _ (words : List (List ℕ)) (given : Before) (outcome : Outcome) (effect 
       )
 
   pub headline : Headline words given outcome effect
-  headline = record { runs = by_run; samples = by_sample }
+  headline = record { runs = by_run; lints = by_lint; samples = by_sample }

@@ -7,6 +7,7 @@ pub mod LineMeanings
 pub mod LinePlain
 pub mod LineReply
 pub mod LineStrands
+pub mod LintAnswers
 pub mod Lists
 pub mod Meanings
 pub mod OneRuns

@@ -12,13 +12,15 @@ use Rattle.journal_file.specs.Text.{IsJournal, journal_text}
 use Rattle.journal_file.proofs.OneFronts.{faults_same, journal_faultless, journals_same}
 use Rattle.journal_file.proofs.OneJudgement.{one_judgement}
 use Rattle.call_words.specs.declared.command.Command.{Command}
-use Rattle.call_words.specs.declared.command.Command.TheVariants.{Run, Check, Sample}
+use Rattle.stall_lint.proofs.OneLine.{one_line}
+use Rattle.call_words.specs.declared.command.Command.TheVariants.{Run, Check, Lint, Sample}
 use Rattle.call_meaning.specs.declared.status.Outcome.{Outcome}
 use Rattle.call_meaning.specs.declared.status.Outcome.TheVariants.{SpecRefused, InputTooLarge, JournalAbsent, JournalEntry, JournalLine}
 use Rattle.call_meaning.specs.Effects.{Before, Effect, no_effect, output_of, untraced}
-use Rattle.call_meaning.specs.Meaning.{CheckMeans, ChecksNet, FeedsNet, IsNetOf, IsSpecRefused, IsUnrun, Means, RunMeans, RunsNet, SampleMeans, SamplesNet, fed_size, input_limit, legal_line, net_on, spec_of}
+use Rattle.call_meaning.specs.Meaning.{AreOneEffect, CheckMeans, ChecksNet, FeedsNet, IsNetOf, IsSpecRefused, IsUnrun, LintMeans, LintsNet, Means, RunMeans, RunsNet, SampleMeans, SamplesNet, fed_size, input_limit, legal_line, net_on, spec_of}
+use Rattle.call_meaning.specs.Meaning.AreOneEffect.{one_done, one_told}
 use Rattle.call_meaning.specs.Meaning.CheckMeans.{legal, illegal}
-use Rattle.call_meaning.specs.Meaning.ComesTo.{ran, checked, sampled}
+use Rattle.call_meaning.specs.Meaning.ComesTo.{ran, checked, linted, sampled}
 use Rattle.call_meaning.specs.Meaning.FeedsNet.{of_run, of_check}
 use Rattle.call_meaning.specs.Meaning.IsUnchecked.{absent, unread}
 use Rattle.call_meaning.specs.Meaning.IsUnrun.{no_command, refused}
@@ -46,6 +48,7 @@ pub data ChecksOut (before : Before) (name : List ℕ) (net : Net) (outcome : Ou
 abbrev pub CarriesOut : Before → Command → Net → Outcome → Effect → Type 0
 CarriesOut before (Run spec workers steps trace) net outcome effect = IfFits before net outcome effect (RunMeans (net_on before net) steps workers trace outcome effect)
 CarriesOut before (Check spec name) net outcome effect = ChecksOut before name net outcome effect
+CarriesOut before (Lint spec) net outcome effect = LintMeans net outcome effect
 CarriesOut before (Sample count workers steps) net outcome effect = SampleMeans count (with_input (sample_text count) net) steps workers outcome effect
 
 -- the words are this command, of this net, which comes to this
@@ -56,12 +59,15 @@ pub record IsCarriedOut (words : List (List ℕ)) (before : Before) (outcome : O
   pub comes : CarriesOut before command net outcome effect
 
 module _ (words : List (List ℕ)) where
-  -- a run is a command, and so are a check and the sample
+  -- a run is a command, and so are a check, a lint and the sample
   pub run_called : (net : Net) (steps : ℕ) (trace : Option (List ℕ)) (runs : RunsNet words net steps trace) → IsCall words (Run runs.spec runs.run.workers steps trace) net
   run_called net steps trace runs = record { command_is = runs.run.command; net_of = runs.net_of }
 
   check_called : (net : Net) (name : List ℕ) (checks : ChecksNet words net name) → IsCall words (Check checks.spec name) net
   check_called net name checks = record { command_is = checks.command; net_of = checks.net_of }
+
+  pub lint_called : (net : Net) (lints : LintsNet words net) → IsCall words (Lint lints.spec) net
+  lint_called net lints = record { command_is = lints.command; net_of = lints.net_of }
 
   sample_called : (net : Net) (count steps : ℕ) (samples : SamplesNet words net count steps) → IsCall words (Sample count samples.workers steps) net
   sample_called net count steps samples = record { command_is = samples.command; net_of = samples.net_of }
@@ -112,6 +118,7 @@ module _ (words : List (List ℕ)) where
     carried outcome effect (came (checked c)) =
         let j = c.checks in
         inr (record { command = Check j.checks.spec j.name; net = c.net; call = check_called c.net j.name j.checks; comes = has_journal c.journal j.stored j.is_journal (inr (c.fits, c.means)) })
+    carried outcome effect (came (linted l)) = inr (record { command = Lint l.lints.spec; net = l.net; call = lint_called l.net l.lints; comes = l.means })
     carried outcome effect (came (sampled s)) =
         inr (record { command = Sample s.count s.samples.workers s.steps; net = s.net; call = sample_called s.net s.count s.steps s.samples; comes = s.means })
 
@@ -181,20 +188,27 @@ module _ (words : List (List ℕ)) where
           one_fitting net (one_check (net_on before net) journal') (subst (λ j. IfFits before net a x (CheckMeans (net_on before net) j a x)) same fed) fed'
 
       module _ (settled : (net : Net) (steps : ℕ) (trace : Option (List ℕ)) → RunsNet words net steps trace → IsSettled (net_on before net)) where
-        one_command : (command : Command) (net : Net) → IsCall words command net → CarriesOut before command net a x → CarriesOut before command net b y → AreOne
+        as_done : AreOne → (a ≡ b) × AreOneEffect words x y
+        as_done one = (one.0, one_done one.1)
+
+        one_command : (command : Command) (net : Net) → IsCall words command net → CarriesOut before command net a x → CarriesOut before command net b y → (a ≡ b) × AreOneEffect words x y
         one_command (Run spec workers steps trace) net call first second =
             let runs : RunsNet words net steps trace = record { spec = spec; run = record { workers = workers; command = call.command_is }; net_of = call.net_of } in
-            one_fitting net (one_run (net_on before net) steps workers (fed_formed before.input before.files net (net_formed spec net call.net_of)) (settled net steps trace runs) trace a b x y) first second
-        one_command (Check spec name) net call first second = one_checked name net first second
+            as_done (one_fitting net (one_run (net_on before net) steps workers (fed_formed before.input before.files net (net_formed spec net call.net_of)) (settled net steps trace runs) trace a b x y) first second)
+        one_command (Check spec name) net call first second = as_done (one_checked name net first second)
+        one_command (Lint spec) net call first second = (
+          first.outcome_is ∙ sym second.outcome_is,
+          one_told net first.answer second.answer (record { spec = spec; command = call.command_is; net_of = call.net_of }) first.told second.told (one_line net first.answer second.answer first.told second.told) first.effect_is second.effect_is,
+        )
         one_command (Sample count workers steps) net call first second =
             let one = one_sample (with_input (sample_text count) net) steps workers (fed_whole (sample_text count) net call.net_of) (fed_plain (sample_text count) net call.net_of).settled count a b x y first second in
-            (one.0, ap untraced one.1)
+            (one.0, one_done (ap untraced one.1))
 
-        pub one_of_each : Means words before a x → Means words before b y → AreOne
+        pub one_of_each : Means words before a x → Means words before b y → (a ≡ b) × AreOneEffect words x y
         one_of_each first second = by (carried a x first) (carried b y second)
           where
-            by : (IsUnrun words a × (x ≡ no_effect)) ⊎ IsCarriedOut words before a x → (IsUnrun words b × (y ≡ no_effect)) ⊎ IsCarriedOut words before b y → AreOne
-            by (inl p) (inl q) = none_done (one_unrun a b p.0 q.0) p.1 q.1
+            by : (IsUnrun words a × (x ≡ no_effect)) ⊎ IsCarriedOut words before a x → (IsUnrun words b × (y ≡ no_effect)) ⊎ IsCarriedOut words before b y → (a ≡ b) × AreOneEffect words x y
+            by (inl p) (inl q) = as_done (none_done (one_unrun a b p.0 q.0) p.1 q.1)
             by (inl p) (inr is) = absurd (called_or_not is.command is.net a is.call p.0)
             by (inr is) (inl q) = absurd (called_or_not is.command is.net b is.call q.0)
             by (inr is) (inr other) = one_command is.command is.net is.call is.comes (carried_at is.command is.net is.call b y other)

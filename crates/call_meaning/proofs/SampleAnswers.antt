@@ -65,7 +65,7 @@ module _ (words : List (List ℕ)) (count workers steps : ℕ) (command : comman
     by_cause (fetch_failed name fetching unread is done input output failed) = absurd (nothing_fetched given.files name fetching)
     by_cause (read_failed reading is done failed output shelf) = absurd (nothing_fed given.files reading.net reading.feeds)
     by_cause (write_failed written is input failed shelf) = inr (inl (ap status_of is))
-    by_cause (no_memory is done steady) = inr (inr (ap status_of is))
+    by_cause (no_memory is done read steady) = inr (inr (ap status_of is))
 
     by_end : HasDone words old new given effect decided → MayAnswer (status_of decided)
     by_end (whole done cause) = by_cause cause

@@ -16,7 +16,7 @@ use Rattle.call_meaning.specs.Status.{status_of, text_of}
 use Rattle.call_meaning.specs.Devices.{Outside, Steady, Failed, IsRead, AllSteady, NoneFailed, IsDone, IsPartDone}
 use Rattle.call_meaning.specs.Headline.{Headline}
 use Rattle.call_meaning.specs.Meaning.{ChecksNet, ComesTo, FeedsNet, HasRun, IsNextFile, IsTooLarge, IsUnchecked, IsUnrun, fed_size, input_limit}
-use Rattle.call_meaning.specs.Meaning.ComesTo.{ran, checked, sampled}
+use Rattle.call_meaning.specs.Meaning.ComesTo.{ran, checked, linted, sampled}
 
 -- the bytes are the front of these and not all of them
 pub record IsCutShort (front whole : List ℕ) : Type 0 where
@@ -43,10 +43,16 @@ pub record IsReading (words : List (List ℕ)) (given : Before) : Type 0 where
   pub reads : reads_any net ≡ true
   pub fits : fed_size given net ≤ input_limit
 
+-- where the input was read, the words feed a net that reads it
+pub data MayRead (words : List (List ℕ)) (given : Before) : Type 0 where
+  nothing_read : given.input ≡ [] → MayRead words given
+  of_net : (net : Net) → FeedsNet words given.files net → reads_any net ≡ true → MayRead words given
+
 -- where the net that is carried out reads the input it was read to its end, and else not at all
 abbrev pub HasUsed : (words : List (List ℕ)) (given : Before) (outcome : Outcome) (effect : Effect) → ComesTo words given outcome effect → Device → Type 0
 HasUsed words given outcome effect (ran run) input = IsUsed run.net given input
 HasUsed words given outcome effect (checked check) input = IsUsed check.net given input
+HasUsed words given outcome effect (linted lint) input = given.input ≡ []
 HasUsed words given outcome effect (sampled sample) input = given.input ≡ []
 
 -- the words come to an outcome and an effect, of whose output not all was written, and of which nothing else was done
@@ -84,7 +90,7 @@ pub data HasCause (words : List (List ℕ)) (old new : Outside) (given : Before)
   write_failed : IsHalfWritten words given new.input effect → decided ≡ WriteFault → Steady old.input new.input → Failed old.output new.output → new.shelf.faults ≡ old.shelf.faults →
       HasCause words old new given effect decided
   -- memory was wanted: nothing is done
-  no_memory : decided ≡ NoMemory → effect ≡ no_effect → AllSteady old new → HasCause words old new given effect decided
+  no_memory : decided ≡ NoMemory → effect ≡ no_effect → MayRead words given → AllSteady old new → HasCause words old new given effect decided
 
 -- a run has an outcome and an effect, of whose files those before the one of this name were replaced
 pub record IsHalfReplaced (words : List (List ℕ)) (old new : Outside) (given : Before) (effect : Effect) (decided : Outcome) : Type 0 where

@@ -15,12 +15,14 @@ use Rattle.pipe_model.specs.Play.{play, HasEnded, IsComplete, IsLegal}
 use Rattle.pipe_model.specs.Reply.{FileText, reply}
 use Rattle.pipe_model.specs.Settled.{IsSettled}
 use Rattle.pipe_model.specs.State.{State}
+use Rattle.stall_lint.specs.declared.told.Lint.TheVariants.{Never}
+use Rattle.stall_lint.specs.Never.{NeverStalls}
 use Rattle.call_words.specs.Command.{command_of}
 use Rattle.call_words.specs.declared.command.Command.TheVariants.{Sample}
 use Rattle.call_meaning.specs.declared.status.Outcome.{Outcome}
 use Rattle.call_meaning.specs.declared.status.Outcome.TheVariants.{Done, Coded, Stalled, Spent}
 use Rattle.call_meaning.specs.Effects.{Before, Effect, effect_of, no_effect, output_of, untraced}
-use Rattle.call_meaning.specs.Meaning.{AreLeast, IsCommittedFirst, IsNetOf, RunsNet, fed_size, input_limit, net_on, outcome_of}
+use Rattle.call_meaning.specs.Meaning.{AreLeast, IsCommittedFirst, IsNetOf, LintsNet, RunsNet, fed_size, input_limit, lint_line, net_on, outcome_of}
 use Rattle.call_meaning.specs.Sample.{sample_spec, sample_text, summary}
 use Rattle.net_graph.specs.Fed.{with_input}
 
@@ -85,6 +87,8 @@ pub data HasOneSummary (net : Net) (count steps : ℕ) (outcome : Outcome) (effe
 pub record Headline (words : List (List ℕ)) (given : Before) (outcome : Outcome) (effect : Effect) : Type 0 where
   pub runs : (net : Net) (steps : ℕ) (trace : Option (List ℕ)) (runs : RunsNet words net steps trace) → IsSettled (net_on given net) → fed_size given net ≤ input_limit →
       IsHeadline (net_on given net) steps runs.run.workers trace outcome effect
+  -- what is told never to stall doesn't, whatever its stages are fed and whatever the order of steps
+  pub lints : (net : Net) → LintsNet words net → effect ≡ output_of (lint_line Never) → NeverStalls net
   -- the sample owes no condition: its net is settled, and never stalls
   pub samples : (count workers steps : ℕ) → command_of words ≡ Some (Sample count workers steps) →
       (net : Net) × IsNetOf sample_spec net × HasOneSummary (with_input (sample_text count) net) count steps outcome effect

@@ -7,3 +7,4 @@ pub mod Meaning
 pub mod Refusals
 pub mod Sample
 pub mod Status
+pub mod Untouched

@@ -26,10 +26,13 @@ use Rattle.journal_file.specs.declared.checking.Checked.TheVariants.{Legal, Ille
 use Rattle.journal_file.specs.Faults.{IsFirstFault}
 use Rattle.journal_file.specs.Judged.{Judges}
 use Rattle.journal_file.specs.Text.{IsJournal, journal_text}
+use Rattle.stall_lint.specs.declared.told.Lint.{Lint as Answer}
+use Rattle.stall_lint.specs.declared.told.Lint.TheVariants.{Loose, Issuer, Latch, Walk, Never}
+use Rattle.stall_lint.specs.Answer.{IsOneLine, Lints}
 use Rattle.stall_report.specs.Waits.{wait_lines}
 use Rattle.stall_report.specs.Words.{wait_text}
 use Rattle.call_words.specs.declared.command.Command.{Command}
-use Rattle.call_words.specs.declared.command.Command.TheVariants.{Run, Check, Sample}
+use Rattle.call_words.specs.declared.command.Command.TheVariants.{Run, Check, Lint, Sample}
 use Rattle.call_meaning.specs.declared.status.Outcome.{Outcome}
 use Rattle.call_meaning.specs.declared.status.Outcome.TheVariants.{Done, Coded, SpecRefused, Stalled, Spent, Usage, InputTooLarge, JournalAbsent, JournalLine, JournalEntry}
 use Rattle.call_words.specs.Command.{command_of}
@@ -46,10 +49,11 @@ pub record IsNetOf (spec : List ℕ) (net : Net) : Type 0 where
   pub reads : Reads spec pipelines
   pub graph : IsGraph pipelines net
 
--- the specification that a command runs, or checks a journal of
+-- the specification that a command runs, checks a journal of, or tells of whether it may stall
 abbrev pub spec_of : Command → List ℕ
 spec_of (Run spec workers steps trace) = spec
 spec_of (Check spec name) = spec
+spec_of (Lint spec) = spec
 spec_of (Sample lines workers steps) = sample_spec
 
 -- the words are a run of a specification, in so many steps at most, whose journal goes to the file of this name, if one is named
@@ -67,6 +71,12 @@ pub record RunsNet (words : List (List ℕ)) (net : Net) (steps : ℕ) (trace : 
 pub record ChecksNet (words : List (List ℕ)) (net : Net) (name : List ℕ) : Type 0 where
   pub spec : List ℕ
   pub command : command_of words ≡ Some (Check spec name)
+  pub net_of : IsNetOf spec net
+
+-- the words are the lint of a specification with this net
+pub record LintsNet (words : List (List ℕ)) (net : Net) : Type 0 where
+  pub spec : List ℕ
+  pub command : command_of words ≡ Some (Lint spec)
   pub net_of : IsNetOf spec net
 
 -- the words are the sample of so many lines, in so many steps at most, and its specification has this net
@@ -205,6 +215,28 @@ pub data CheckMeans (net : Net) (journal : List Entry) (outcome : Outcome) (effe
   -- or this entry is the first that isn't
   illegal : (place : ℕ) → Judges net journal (Illegal place) → outcome ≡ JournalEntry place → effect ≡ no_effect → CheckMeans net journal outcome effect
 
+-- ---- a lint
+
+-- strands by their numbers, a blank before each
+abbrev pub after_blanks : List ℕ → List ℕ
+after_blanks [] = []
+after_blanks (s ∷ walk) = 32 ∷ decimal s ++ after_blanks walk
+
+-- the line that tells whether a net may stall
+abbrev pub lint_line : Answer → List ℕ
+lint_line (Loose s) = line (codes "may stall: loose " ++ decimal s)
+lint_line (Issuer s) = line (codes "may stall: issuer " ++ decimal s)
+lint_line (Latch s) = line (codes "may stall: latch " ++ decimal s)
+lint_line (Walk walk) = line (codes "may stall: walk" ++ after_blanks walk)
+lint_line Never = line (codes "never stalls")
+
+-- what a lint of a net comes to, which isn't fed
+pub record LintMeans (net : Net) (outcome : Outcome) (effect : Effect) : Type 0 where
+  pub answer : Answer
+  pub told : Lints net answer
+  pub outcome_is : outcome ≡ Done
+  pub effect_is : effect ≡ output_of (lint_line answer)
+
 -- ---- the sample
 
 -- what is written of the sample of so many lines: its summary where the outcome is `Done`
@@ -244,6 +276,12 @@ pub record HasChecked (words : List (List ℕ)) (before : Before) (outcome : Out
   pub fits : fed_size before net ≤ input_limit
   pub means : CheckMeans (net_on before net) journal outcome effect
 
+-- the words tell whether a net may stall, which comes to this
+pub record HasLinted (words : List (List ℕ)) (outcome : Outcome) (effect : Effect) : Type 0 where
+  pub net : Net
+  pub lints : LintsNet words net
+  pub means : LintMeans net outcome effect
+
 -- the words are the sample, which comes to this
 pub record HasSampled (words : List (List ℕ)) (outcome : Outcome) (effect : Effect) : Type 0 where
   pub net : Net
@@ -256,6 +294,7 @@ pub record HasSampled (words : List (List ℕ)) (outcome : Outcome) (effect : Ef
 pub data ComesTo (words : List (List ℕ)) (before : Before) (outcome : Outcome) (effect : Effect) : Type 0 where
   ran : HasRun words before outcome effect → ComesTo words before outcome effect
   checked : HasChecked words before outcome effect → ComesTo words before outcome effect
+  linted : HasLinted words outcome effect → ComesTo words before outcome effect
   sampled : HasSampled words outcome effect → ComesTo words before outcome effect
 
 -- the outcome and the effect that words have, by what there was before
@@ -264,6 +303,11 @@ pub data Means (words : List (List ℕ)) (before : Before) (outcome : Outcome) (
   unchecked : IsUnchecked words before.files outcome → effect ≡ no_effect → Means words before outcome effect
   too_large : IsTooLarge words before → outcome ≡ InputTooLarge → effect ≡ no_effect → Means words before outcome effect
   came : ComesTo words before outcome effect → Means words before outcome effect
+
+-- two effects of words are the same but for the file of a journal; those of a lint tell one line of the table, where of several closed walks each may be told
+pub data AreOneEffect (words : List (List ℕ)) (x y : Effect) : Type 0 where
+  one_done : untraced x ≡ untraced y → AreOneEffect words x y
+  one_told : (net : Net) (p q : Answer) → LintsNet words net → Lints net p → Lints net q → IsOneLine p q → x ≡ output_of (lint_line p) → y ≡ output_of (lint_line q) → AreOneEffect words x y
 
 -- ---- the straight line
 

@@ -33,7 +33,7 @@ fault_number number argument = decimal number ++ (if number == Faults.number_of 
 
 -- how the program is called
 abbrev pub usage : List ℕ
-usage = codes "usage: pipe SPEC [--workers N] [--steps N] [--trace NAME] [--check NAME] | pipe --sample N"
+usage = codes "usage: pipe SPEC [--workers N] [--steps N] [--trace NAME] [--check NAME] [--lint] | pipe --sample N"
 
 -- what an outcome tells: the status that is answered, and the text on standard error
 pub record Facts : Type 0 where

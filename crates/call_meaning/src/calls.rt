@@ -45,13 +45,14 @@ pub fn called(alloc: Global, words: &[String]) -> Result<Call, Outcome>
     Ok(Call { command, net })
 }
 
-// The specification that a command runs, or checks a journal of.
+// The specification that a command runs, checks a journal of, or tells of whether it may stall.
 fn spec_of(command: &Command) -> &[u8]
     ensures { result.now ≡ spec_of command.now }
 {
     match command {
         Command::Run { spec, .. } => spec.bytes(),
         Command::Check { spec, .. } => spec.bytes(),
+        Command::Lint { spec } => spec.bytes(),
         Command::Sample { .. } => SAMPLE_SPEC.as_bytes(),
     }
 }

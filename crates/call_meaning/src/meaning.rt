@@ -5,14 +5,14 @@ ghost use Rattle.pipe_model.specs.Settled.{IsSettled};
 ghost use Rattle.net_graph.specs.Line.{line_net};
 ghost use Rattle.spec_scanner.specs.Straight.{IsStraight};
 ghost use Rattle.call_meaning.specs.declared.status.Outcome.{Outcome as OutcomeIs};
-ghost use Rattle.call_meaning.specs.Effects.{Before, Effect, untraced};
-ghost use Rattle.call_meaning.specs.Meaning.{IsLineOutcome, IsRunOf, Means, RunsNet, net_on};
+ghost use Rattle.call_meaning.specs.Effects.{Before, Effect};
+ghost use Rattle.call_meaning.specs.Meaning.{AreOneEffect, IsLineOutcome, IsRunOf, Means, RunsNet, net_on};
 
 /// Words mean one outcome and one effect at most on what there was before, but for the file of a journal, where the net that they run, if
-/// they do, is settled.
+/// they do, is settled. Of a lint all effects tell one line of the table.
 pub fn one_meaning()
     ensures { (words : List (List ℕ)) (before : Before) → ((net : Net) (steps : ℕ) (trace : Option (List ℕ)) → RunsNet words net steps trace → IsSettled (net_on before net)) →
-        (a b : OutcomeIs) (x y : Effect) → Means words before a x → Means words before b y → (a ≡ b) × (untraced x ≡ untraced y) }
+        (a b : OutcomeIs) (x y : Effect) → Means words before a x → Means words before b y → (a ≡ b) × AreOneEffect words x y }
 {}
 
 /// The words of a straight line mean the text of the lines that hold every string, or too few steps or too much input, and nothing else but

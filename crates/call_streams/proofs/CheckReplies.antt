@@ -28,6 +28,7 @@ use Rattle.call_meaning.specs.Answer.{Decides, HasCause}
 use Rattle.call_meaning.specs.Answer.HasCause.{unchecked, came, fetch_failed, write_failed, no_memory}
 use Rattle.call_meaning.specs.Answer.HasDone.{whole}
 use Rattle.call_meaning.specs.Answer.IsFetching.{of_journal}
+use Rattle.call_meaning.specs.Answer.MayRead.{nothing_read}
 use Rattle.call_streams.specs.Fetched.{AreOf, HasJournal, HasNoJournal, IsGiven, IsUngiven, StopsFinding, StopsGiving, files_known}
 use Rattle.call_streams.specs.Written.{HasGiven}
 use Rattle.call_streams.specs.Feeding.{IsFed, IsFedPart}
@@ -124,7 +125,7 @@ module _ (words : List (List ℕ)) (net : Net) (name : List ℕ) (checks : Check
   unfound files JournalAbsent stops = unchecked (absent net name checks stops.0 refl) refl refl (record { input = refl; output = refl; shelf = stops.1 })
   unfound files (JournalLine number) stops =
       unchecked (unread net name stops.0.0 number checks stops.0.1 stops.0.2 refl) refl refl (record { input = refl; output = refl; shelf = stops.1 })
-  unfound files NoMemory stops = no_memory refl refl (record { input = refl; output = refl; shelf = stops })
+  unfound files NoMemory stops = no_memory refl refl (nothing_read refl) (record { input = refl; output = refl; shelf = stops })
   unfound files _ stops = absurd stops
 
   pub decides_unfound : (outcome : Outcome) → HasNoJournal name shelf middle outcome → Decides words old (outside input output middle) outcome

@@ -39,7 +39,7 @@ module _ (net : Net) (before : List Found) (input output : Device) (shelf shelf'
   stops_feeding : (files : Files) (outcome : Outcome) → StopsFetching net shelf shelf' files outcome → StopsFeeding net old (outside input output shelf') (given [] files) outcome
   stops_feeding files (ShelfFault name) stops = (stops.0, refl, refl, stops.1)
   stops_feeding files InputTooLarge stops = (more_files (reads_any net) (files_size files net) stops.0, record { input = refl; output = refl; shelf = stops.1 })
-  stops_feeding files NoMemory stops = record { input = refl; output = refl; shelf = stops }
+  stops_feeding files NoMemory stops = (inl refl, record { input = refl; output = refl; shelf = stops })
   stops_feeding files _ stops = absurd stops
 
   pub unfetched : (outcome : Outcome) → AreFetchedPart net before shelf shelf' outcome → IsFedPart net before old (outside input output shelf') outcome
@@ -71,7 +71,7 @@ module _ (net : Net) (before : List Found) (input output : Device) (shelf shelf'
         let past = stops.0 in
         let all : cond (reads_any net) (length bytes) 0 ≡ length bytes = ap (λ b. cond b (length bytes) 0) reads in
         (omega (arith, fits, past, all, size_is), record { input = stops.1; output = refl; shelf = fetched.steady })
-    stops_taking reads bytes NoMemory stops = record { input = stops; output = refl; shelf = fetched.steady }
+    stops_taking reads bytes NoMemory stops = (inr reads, record { input = stops; output = refl; shelf = fetched.steady })
     stops_taking reads bytes _ stops = absurd stops
 
     untaken : (outcome : Outcome) → IsTakenPart (input_limit - size) filed_net input input' outcome → IsFedPart net before old new outcome

@@ -3,6 +3,7 @@ pub mod FedNets
 pub mod Feds
 pub mod Feedings
 pub mod Fetches
+pub mod LintReplies
 pub mod Orders
 pub mod Replacements
 pub mod Replies

@@ -9,13 +9,17 @@ use Rattle.outside.specs.Device.{Device}
 use Rattle.outside.specs.Files.{Files}
 use Rattle.call_meaning.specs.declared.status.Outcome.{Outcome}
 use Rattle.call_meaning.specs.declared.status.Outcome.TheVariants.{NoMemory}
-use Rattle.call_meaning.specs.Effects.{no_effect, AreReplaced}
+use Rattle.call_meaning.specs.Effects.{Before, no_effect, output_of, AreReplaced}
 use Rattle.call_meaning.specs.Devices.{Outside, Store, AllSteady, outside}
-use Rattle.call_meaning.specs.Answer.{Decides}
-use Rattle.call_meaning.specs.Answer.HasCause.{unrun, no_memory}
+use Rattle.call_meaning.specs.Answer.{Decides, HasUsed}
+use Rattle.call_meaning.specs.Answer.HasCause.{came, unrun, no_memory, write_failed}
 use Rattle.call_meaning.specs.Answer.HasDone.{whole}
+use Rattle.call_meaning.specs.Answer.MayRead.{nothing_read}
+use Rattle.call_meaning.specs.Meaning.{ComesTo}
 use Rattle.call_meaning.specs.Calls.{StopsWords}
 use Rattle.call_streams.specs.Texts.{wants_memory}
+use Rattle.call_streams.specs.Written.{HasGiven}
+use Rattle.call_streams.specs.Written.HasGiven.{gave, gave_part}
 use Rattle.call_streams.proofs.Replacements.{none_replaced}
 
 -- the files that there are, or none where they aren't told
@@ -50,15 +54,38 @@ module _ (words : List (List ℕ)) (input output : Device) (shelf : Store) where
   pub decides_as : (new : Outside) (outcome told : Outcome) → told ≡ outcome → Decides words old new outcome → Decides words old new told
   decides_as new outcome told is decides = subst (λ o. Decides words old new o) (sym is) decides
 
+  -- nothing was read
+  abbrev pub unread : Before
+  unread = record { input = []; files = files_in shelf.files }
+
+  -- the text of words that read nothing was given to the output, or couldn't be whole
+  pub decides_text : (text : List ℕ) (outcome : Outcome) (comes : ComesTo words unread outcome (output_of text)) → HasUsed words unread outcome (output_of text) comes input → (output' : Device) (decided : Outcome) →
+      HasGiven text outcome output output' decided → Decides words old (outside input output' shelf) decided
+  decides_text text outcome comes used output' decided (gave wrote is) = decides_as (outside input output' shelf) outcome decided is (record {
+    given = unread;
+    effect = output_of text;
+    gave = Consumes-nil input.bytes;
+    found = found_in shelf.files;
+    done = whole (record { output = wrote.gained; files = none_replaced shelf.files }) (came comes used (record { input = refl; output = wrote.steady; shelf = refl }));
+  })
+  decides_text text outcome comes used output' decided (gave_part part) = record {
+    given = unread;
+    effect = output_of part.wrote;
+    gave = Consumes-nil input.bytes;
+    found = found_in shelf.files;
+    done = whole (record { output = part.gained; files = none_replaced shelf.files })
+        (write_failed (record { outcome = outcome; whole = output_of text; comes = comes; used = used; wrote = part.wrote; cut = part.cut; effect_is = refl }) part.fault refl part.failed refl);
+  }
+
   -- the words alone decide the outcome
   pub decides_words : (outcome : Outcome) → StopsWords words outcome → Decides words old old outcome
   decides_words outcome stops = record {
-    given = record { input = []; files = files_in shelf.files };
+    given = unread;
     effect = no_effect;
     gave = Consumes-nil input.bytes;
     found = found_in shelf.files;
     done = whole (record { output = Appends-nil output.bytes; files = none_replaced shelf.files })
-        (⊎_elim (λ memory. no_memory memory refl untouched) (λ why. unrun why refl refl untouched) stops);
+        (⊎_elim (λ memory. no_memory memory refl (nothing_read refl) untouched) (λ why. unrun why refl refl untouched) stops);
   }
     where
       untouched : AllSteady (outside input output shelf) (outside input output shelf)

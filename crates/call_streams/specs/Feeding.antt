@@ -1,5 +1,5 @@
 -- What the stages of a net were fed; it serves the inside.
-use Rattle.std.specs.Prelude.{◌≡◌, ◌<◌, ◌≤◌, true, List, []}
+use Rattle.std.specs.Prelude.{◌≡◌, ◌⊎◌, ◌<◌, ◌≤◌, true, List, []}
 use Rattle.std.specs.Option.{IfSome}
 use Rattle.pipe_model.specs.declared.net.Net.{Net}
 use Rattle.std.specs.Io.KnownBytes.{Consumes}
@@ -33,7 +33,7 @@ abbrev pub StopsFeeding : Net → Outside → Outside → Before → Outcome →
 StopsFeeding net old new given (ShelfFault name) = IsNextFile net given.files name × (given.input ≡ []) × Steady old.input new.input × Rose old.shelf.faults new.shelf.faults
 StopsFeeding net old new given ReadFault = (reads_any net ≡ true) × (fed_size given net ≤ input_limit) × Failed old.input new.input × (new.shelf.faults ≡ old.shelf.faults)
 StopsFeeding net old new given InputTooLarge = (input_limit < fed_size given net) × AllSteady old new
-StopsFeeding net old new given NoMemory = AllSteady old new
+StopsFeeding net old new given NoMemory = ((given.input ≡ []) ⊎ (reads_any net ≡ true)) × AllSteady old new
 StopsFeeding net old new given _ = ⊥
 
 pub record IsFedPart (net : Net) (before : List Found) (old new : Outside) (outcome : Outcome) : Type 0 where

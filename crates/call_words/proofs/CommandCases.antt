@@ -3,7 +3,7 @@ use Rattle.std.proofs.Common.{◌≡◌, refl, codes, [], ◌∷◌}
 use Rattle.std.specs.Prelude.{Some, None}
 use Rattle.clap.proofs.OnLiterals.{clap_on_literals}
 use Rattle.call_words.specs.Command.{command_of}
-use Rattle.call_words.specs.declared.command.Command.TheVariants.{Run, Check, Sample}
+use Rattle.call_words.specs.declared.command.Command.TheVariants.{Run, Check, Lint, Sample}
 
 only_a_spec : command_of (codes "x" ∷ []) ≡ Some (Run (codes "x") 4 4000000 None)
 unfolding clap_on_literals
@@ -92,3 +92,31 @@ a_minus_alone = refl
 an_empty_spec : command_of (codes "" ∷ []) ≡ Some (Run (codes "") 4 4000000 None)
 unfolding clap_on_literals
 an_empty_spec = refl
+
+a_lint : command_of (codes "x" ∷ codes "--lint" ∷ []) ≡ Some (Lint (codes "x"))
+unfolding clap_on_literals
+a_lint = refl
+
+a_lint_before : command_of (codes "--lint" ∷ codes "x" ∷ []) ≡ Some (Lint (codes "x"))
+unfolding clap_on_literals
+a_lint_before = refl
+
+lint_with_a_value : command_of (codes "x" ∷ codes "--lint=1" ∷ []) ≡ None
+unfolding clap_on_literals
+lint_with_a_value = refl
+
+lint_twice : command_of (codes "x" ∷ codes "--lint" ∷ codes "--lint" ∷ []) ≡ None
+unfolding clap_on_literals
+lint_twice = refl
+
+lint_and_steps : command_of (codes "x" ∷ codes "--lint" ∷ codes "--steps" ∷ codes "5" ∷ []) ≡ None
+unfolding clap_on_literals
+lint_and_steps = refl
+
+lint_and_sample : command_of (codes "--lint" ∷ codes "--sample" ∷ codes "5" ∷ []) ≡ None
+unfolding clap_on_literals
+lint_and_sample = refl
+
+lint_alone : command_of (codes "--lint" ∷ []) ≡ None
+unfolding clap_on_literals
+lint_alone = refl

@@ -38,7 +38,7 @@ none_where_faulty words faulty = by_kinds (fault_of app words) _ faulty
     by_kinds (kind ∷ kinds) command faulty = refl
 
 same_given : (f g : Text → Option Text) → ((id : Text) → f id ≡ g id) → given_by f ≡ given_by g
-same_given f g same = rw (same (codes "spec"), same (codes "workers"), same (codes "steps"), same (codes "trace"), same (codes "check"), same (codes "sample")) refl
+same_given f g same = rw (same (codes "spec"), same (codes "workers"), same (codes "steps"), same (codes "trace"), same (codes "check"), same (codes "sample"), same (codes "lint")) refl
 
 -- the command of words in which clap found these matches
 pub read_of : (words : List Text) (found : Found) → fault_of app words ≡ [] → rows_of found ≡ matches_of app words → command_of words ≡ demanded (given_by (first_value found))

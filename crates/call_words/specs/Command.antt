@@ -1,11 +1,12 @@
 -- The command that the words of a call mean.
-use Rattle.std.specs.Prelude.{◌&&◌, ◌||◌, ◌<◌, ◌≤◌, ⊤, ℕ, List, [], ◌∷◌, Option, Some, None, true, codes, if◌then◌else◌, is_some, length, nat_le, option_and_then, option_map}
-use Rattle.std.specs.Str.{all_ascii_digits}
+use Rattle.std.specs.Prelude.{◌&&◌, ◌||◌, ◌<◌, ◌≤◌, ⊤, ℕ, Bool, false, List, [], ◌∷◌, Option, Some, None, true, codes, if◌then◌else◌, is_some, length, nat_le, option_and_then, option_map}
+use Rattle.std.specs.Str.{all_ascii_digits, bytes_eq}
 use Rattle.clap.specs.Words.{App, Rule, Text, first_of, fault_of, matches_of, new_app, new_rule, with_rule}
 use Rattle.clap.specs.Kinds.{Kinds}
+use Rattle.clap.specs.declared.builder.action.ArgAction.TheVariants.{SetTrue}
 use Rattle.argument_parts.specs.Numbers.{decimal}
 use Rattle.call_words.specs.declared.command.Command.{Command}
-use Rattle.call_words.specs.declared.command.Command.TheVariants.{Run, Check, Sample}
+use Rattle.call_words.specs.declared.command.Command.TheVariants.{Run, Check, Lint, Sample}
 
 -- ---- what clap reads
 
@@ -13,7 +14,11 @@ use Rattle.call_words.specs.declared.command.Command.TheVariants.{Run, Check, Sa
 abbrev pub option : Text → Rule
 option name = record (new_rule name) { long = Some name }
 
--- one optional positional and five options, with no help flag; the words are those after the program's name
+-- an option of this name, without a value
+abbrev pub flag : Text → Rule
+flag name = record (new_rule name) { long = Some name; action = Some SetTrue }
+
+-- one optional positional, five options and a flag, with no help flag; the words are those after the program's name
 abbrev pub app : App
 app =
     let named = new_app (codes "pipe") in
@@ -23,7 +28,8 @@ app =
     let steps = with_rule workers (option (codes "steps")) in
     let trace = with_rule steps (option (codes "trace")) in
     let check = with_rule trace (option (codes "check")) in
-    with_rule check (option (codes "sample"))
+    let sample = with_rule check (option (codes "sample")) in
+    with_rule sample (flag (codes "lint"))
 
 -- the positional and the options' values, where they are given
 pub record Given : Type 0 where
@@ -33,6 +39,7 @@ pub record Given : Type 0 where
   pub trace : Option Text
   pub check : Option Text
   pub sample : Option Text
+  pub lint : Option Text
 
 -- each by its id
 abbrev pub given_by : (Text → Option Text) → Given
@@ -43,6 +50,7 @@ given_by value = record {
   trace = value (codes "trace");
   check = value (codes "check");
   sample = value (codes "sample");
+  lint = value (codes "lint");
 }
 
 -- ---- numbers and names
@@ -75,6 +83,11 @@ abbrev pub name_if : Option Text → Option (Option Text)
 name_if None = Some None
 name_if (Some word) = option_map Some (name_in word)
 
+-- the flag is given: the parser says so by a word
+abbrev pub is_on : Option Text → Bool
+is_on None = false
+is_on (Some word) = bytes_eq word (codes "true")
+
 -- ---- what is demanded
 
 -- a run: --workers, --steps and --trace may stand with SPEC
@@ -100,7 +113,13 @@ sample_of lines given =
     option_map (Sample lines workers)
     (steps_in given.steps)) (workers_in given.workers)) (number_in 1 200000 lines)
 
--- by SPEC, --check and --sample: SPEC is there exactly where --sample isn't, and --check doesn't stand with --sample
+-- the lint of a specification: no option stands with --lint
+abbrev pub lint_of : Given → Option Command
+lint_of given =
+    if is_some given.workers || is_some given.steps || is_some given.trace || is_some given.check || is_some given.sample then None
+    else option_map Lint given.spec
+
+-- by SPEC, --check and --sample, where --lint isn't there: SPEC is there exactly where --sample isn't, and --check doesn't stand with --sample
 abbrev pub form_of : Option Text → Option Text → Option Text → Given → Option Command
 form_of (Some spec) None None given = run_of spec given
 form_of (Some spec) (Some name) None given = check_of spec name given
@@ -108,7 +127,7 @@ form_of None None (Some lines) given = sample_of lines given
 form_of _ _ _ given = None
 
 abbrev pub demanded : Given → Option Command
-demanded given = form_of given.spec given.check given.sample given
+demanded given = if is_on given.lint then lint_of given else form_of given.spec given.check given.sample given
 
 -- clap finds a fault
 abbrev pub IsFaulty : Kinds → Type 0
@@ -128,4 +147,5 @@ command_of words = unless_faulty (fault_of app words) (demanded (given_by (λ id
 abbrev pub IsWithinRanges : Command → Type 0
 IsWithinRanges (Run spec workers steps trace) = (0 < workers) × (workers ≤ 64) × (steps ≤ 50000000)
 IsWithinRanges (Check spec name) = ⊤
+IsWithinRanges (Lint spec) = ⊤
 IsWithinRanges (Sample lines workers steps) = (0 < workers) × (workers ≤ 64) × (steps ≤ 50000000)

@@ -16,6 +16,10 @@ pub enum Command {
         spec: Rec,
         name: Rec,
     },
+    /// To tell whether a specification may stall, without a run.
+    Lint {
+        spec: Rec,
+    },
     /// To run the sample on an input of so many lines, 1 to 200,000.
     Sample {
         lines: u32,

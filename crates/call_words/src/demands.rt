@@ -1,10 +1,10 @@
 ghost use Rattle.std.specs.Prelude.{IfOk};
 ghost use Rattle.clap.specs.Words.{first_value, found_of};
-ghost use Rattle.call_words.specs.Command.{IsWithinRanges, check_of, demanded, given_by, run_of, sample_of};
+ghost use Rattle.call_words.specs.Command.{IsWithinRanges, check_of, demanded, given_by, lint_of, run_of, sample_of};
 ghost use Rattle.call_words.specs.Gives.{Gives};
 
 use crate::command::{Command, WordsFault};
-use crate::values::{lines_in, name_if, name_in, steps_in, workers_in};
+use crate::values::{is_on, lines_in, name_if, name_in, steps_in, workers_in};
 use clap::ArgMatches;
 use pipe_model::Rec;
 use std::alloc::Global;
@@ -14,6 +14,9 @@ pub fn demanded(alloc: Global, matches: &ArgMatches<'_>) -> Result<Command, Word
     ensures command { Gives (demanded (given_by (first_value (found_of matches.now)))) result }
     ensures few { IfOk result IsWithinRanges }
 {
+    if is_on(matches.get_str("lint")) {
+        return lint(alloc, matches);
+    }
     match (
         matches.get_str("spec"),
         matches.get_str("check"),
@@ -62,6 +65,24 @@ fn check(
     let name = name_in(alloc, name)?;
     let spec = Rec::from_slice(alloc, spec.as_bytes())?;
     Ok(Command::Check { spec, name })
+}
+
+// The lint of a specification.
+fn lint(alloc: Global, matches: &ArgMatches<'_>) -> Result<Command, WordsFault>
+    ensures command { Gives (lint_of (given_by (first_value (found_of matches.now)))) result }
+    ensures few { IfOk result IsWithinRanges }
+{
+    if matches.get_str("workers").is_some()
+        || matches.get_str("steps").is_some()
+        || matches.get_str("trace").is_some()
+        || matches.get_str("check").is_some()
+        || matches.get_str("sample").is_some()
+    {
+        return Err(WordsFault::Usage);
+    }
+    let spec = matches.get_str("spec").ok_or(WordsFault::Usage)?;
+    let spec = Rec::from_slice(alloc, spec.as_bytes())?;
+    Ok(Command::Lint { spec })
 }
 
 // The sample of so many lines.

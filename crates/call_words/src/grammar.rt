@@ -1,11 +1,11 @@
 ghost use Rattle.std.specs.Prelude.{◌≡◌, ◌≢◌, false, IfErr, IfOk, [], map};
 ghost use Rattle.std.specs.String.{string_bytes};
 ghost use Rattle.clap.specs.Words.{app_of, fault_of, found_of, matches_of, rows_of, rule_of};
-ghost use Rattle.call_words.specs.Command.{app, IsFaulty, option};
+ghost use Rattle.call_words.specs.Command.{app, flag, IsFaulty, option};
 
 use crate::command::WordsFault;
 use clap::error::ErrorKind;
-use clap::{Arg, ArgMatches, Command};
+use clap::{Arg, ArgAction, ArgMatches, Command};
 use pipe_model::NoMemory;
 use std::alloc::Global;
 
@@ -33,7 +33,7 @@ fn fault_of_kind(kind: ErrorKind) -> WordsFault
     }
 }
 
-// The program's command line: one optional positional, and five options.
+// The program's command line: one optional positional, five options and a flag.
 fn command<'a>(alloc: Global) -> Result<Command<'a>, NoMemory>
     ensures { IfOk result (λ command. app_of command ≡ app) }
 {
@@ -45,7 +45,8 @@ fn command<'a>(alloc: Global) -> Result<Command<'a>, NoMemory>
     let steps = workers.arg(option(alloc, "steps"))?;
     let trace = steps.arg(option(alloc, "trace"))?;
     let check = trace.arg(option(alloc, "check"))?;
-    Ok(check.arg(option(alloc, "sample"))?)
+    let sample = check.arg(option(alloc, "sample"))?;
+    Ok(sample.arg(flag(alloc, "lint"))?)
 }
 
 // An option of this name, with one value.
@@ -54,4 +55,12 @@ fn option<'a>(alloc: Global, name: &'a str) -> Arg<'a>
     ensures own { result.global ≡ false }
 {
     Arg::new(alloc, name).long(name)
+}
+
+// An option of this name, without a value.
+fn flag<'a>(alloc: Global, name: &'a str) -> Arg<'a>
+    ensures rule { rule_of result ≡ flag name.entry.now }
+    ensures own { result.global ≡ false }
+{
+    Arg::new(alloc, name).long(name).action(ArgAction::SetTrue)
 }

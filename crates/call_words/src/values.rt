@@ -1,5 +1,5 @@
 ghost use Rattle.std.specs.Prelude.{◌≡◌, ◌<◌, ◌≤◌, IfSome, option_map};
-ghost use Rattle.call_words.specs.Command.{name_if, name_in, number_in, number_or, steps_in, workers_in};
+ghost use Rattle.call_words.specs.Command.{is_on, name_if, name_in, number_in, number_or, steps_in, workers_in};
 ghost use Rattle.call_words.specs.Gives.{Gives};
 
 use crate::command::WordsFault;
@@ -76,5 +76,15 @@ pub fn name_if(alloc: Global, word: Option<&str>) -> Result<Option<Rec>, WordsFa
     match word {
         None => Ok(None),
         Some(word) => Ok(Some(name_in(alloc, word)?)),
+    }
+}
+
+// Whether a flag is given, by its word.
+pub fn is_on(word: Option<&str>) -> bool
+    ensures { result ≡ is_on (option_map (λ word. word.now) word.entry) }
+{
+    match word {
+        None => false,
+        Some(word) => word == "true",
     }
 }

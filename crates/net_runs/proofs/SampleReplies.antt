@@ -1,6 +1,5 @@
 -- From what the run of the sample's net did to what the call decides.
 use Rattle.std.proofs.Common.{◌≡◌, ◌≢◌, ℕ, List, [], length, refl, sym, ◌∙◌, ap}
-use Rattle.std.proofs.KnownBytes.{Consumes-nil}
 use Rattle.outside.specs.Device.{Device}
 use Rattle.pipe_model.specs.declared.net.Net.{Net}
 use Rattle.pipe_model.specs.Reply.{console_from, reply}
@@ -9,21 +8,17 @@ use Rattle.core_machine.specs.Machine.{Machine, state_of}
 use Rattle.call_meaning.specs.declared.status.Outcome.{Outcome}
 use Rattle.call_meaning.specs.declared.status.Outcome.TheVariants.{Done}
 use Rattle.call_meaning.specs.Answer.{Decides}
-use Rattle.call_meaning.specs.Answer.HasCause.{came, write_failed}
-use Rattle.call_meaning.specs.Answer.HasDone.{whole}
-use Rattle.call_meaning.specs.Devices.{Outside, Store, outside}
-use Rattle.call_meaning.specs.Effects.{Before, Effect, no_effect, output_of}
-use Rattle.call_meaning.specs.Meaning.{ComesTo, SampleMeans, SamplesNet, outcome_of, summed_up}
+use Rattle.call_meaning.specs.Devices.{Store, outside}
+use Rattle.call_meaning.specs.Effects.{Effect, no_effect, output_of}
+use Rattle.call_meaning.specs.Meaning.{SampleMeans, SamplesNet, outcome_of, summed_up}
 use Rattle.call_meaning.specs.Meaning.ComesTo.{sampled}
 use Rattle.call_meaning.specs.Meaning.SampleMeans.{sums_up, spends as sample_spends}
 use Rattle.call_meaning.specs.Sample.{sample_text}
 use Rattle.net_runs.specs.Ran.{EndsAs, IsRun}
 use Rattle.call_streams.specs.Written.{HasGiven}
 use Rattle.net_runs.specs.Ran.EndsAs.{completes, spends}
-use Rattle.call_streams.specs.Written.HasGiven.{gave, gave_part}
 use Rattle.net_runs.proofs.Finishes.{exhausted, finished}
-use Rattle.call_streams.proofs.Replacements.{none_replaced}
-use Rattle.call_streams.proofs.Replies.{decides_as, files_in, found_in}
+use Rattle.call_streams.proofs.Replies.{decides_text}
 use Rattle.net_runs.proofs.Runs.{reply_console}
 
 -- nothing is written but where the outcome is `Done`
@@ -46,33 +41,7 @@ sample_means count on steps workers core outcome run effect is = by run.ends
         (is ∙ ap (summed_up count (console_from (state_of core) 0 core.net.strands) (length core.journal)) same)
 
 module _ (words : List (List ℕ)) (input output output' : Device) (shelf : Store) (net : Net) (count steps : ℕ) (samples : SamplesNet words net count steps) where
-  abbrev old : Outside
-  old = outside input output shelf
-
-  abbrev new : Outside
-  new = outside input output' shelf
-
-  abbrev given : Before
-  given = record { input = []; files = files_in shelf.files }
-
   module _ (text : List ℕ) (outcome : Outcome) (means : SampleMeans count (with_input (sample_text count) net) steps samples.workers outcome (output_of text)) where
-    abbrev comes : ComesTo words given outcome (output_of text)
-    comes = sampled (record { net = net; count = count; steps = steps; samples = samples; means = means })
-
     -- the summary was written, or couldn't be whole
-    pub decides_sample : (decided : Outcome) → HasGiven text outcome output output' decided → Decides words old new decided
-    decides_sample decided (gave wrote is) = decides_as words input output shelf new outcome decided is (record {
-      given = given;
-      effect = output_of text;
-      gave = Consumes-nil input.bytes;
-      found = found_in shelf.files;
-      done = whole (record { output = wrote.gained; files = none_replaced shelf.files }) (came comes refl (record { input = refl; output = wrote.steady; shelf = refl }));
-    })
-    decides_sample decided (gave_part part) = record {
-      given = given;
-      effect = output_of part.wrote;
-      gave = Consumes-nil input.bytes;
-      found = found_in shelf.files;
-      done = whole (record { output = part.gained; files = none_replaced shelf.files })
-          (write_failed (record { outcome = outcome; whole = output_of text; comes = comes; used = refl; wrote = part.wrote; cut = part.cut; effect_is = refl }) part.fault refl part.failed refl);
-    }
+    pub decides_sample : (decided : Outcome) → HasGiven text outcome output output' decided → Decides words (outside input output shelf) (outside input output' shelf) decided
+    decides_sample = decides_text words input output shelf text outcome (sampled (record { net = net; count = count; steps = steps; samples = samples; means = means })) refl output'

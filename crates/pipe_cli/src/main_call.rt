@@ -6,6 +6,7 @@ ghost use Rattle.call_meaning.specs.Answer.{Answers, Decides, Reports};
 ghost use Rattle.call_streams.specs.Texts.{IsTelling};
 
 use crate::check_call::check_call;
+use crate::lint_call::lint_call;
 use crate::run_call::run_call;
 use crate::sample_call::sample_call;
 use call_meaning::{Call, Status, called};
@@ -22,8 +23,8 @@ use std::thread::Threads;
 /// where a file is named for it, the one of its journal. It reads its words first, then the specification, then the files in the order of
 /// their stages, then the input, where a CONSOLE reads it, runs, makes all texts, then writes the output, replaces the files in the order of
 /// the bytes of their names and the journal's last, and tells the status. After a fault of the output no file is replaced; after one of the
-/// shelf the files before are. A check fetches the journal before the files, plays it instead of a run, and writes what it is. The sample
-/// reads nothing. A gate that isn't always open is entered before the work on each record that a stage saw.
+/// shelf the files before are. A check fetches the journal before the files, plays it instead of a run, and writes what it is. A lint and
+/// the sample read nothing. A gate that isn't always open is entered before the work on each record that a stage saw.
 pub fn pipe_main<Rt: Threads + Wait + Sync, I: Source, O: Sink, E: Sink, F: Shelf, G: Gate + Sync>(
     rt: &Rt,
     alloc: Global,
@@ -74,6 +75,7 @@ fn run<Rt: Threads + Wait + Sync, I: Source, O: Sink, F: Shelf, G: Gate + Sync>(
             rt, alloc, net, steps, workers, trace, input, output, shelf, gate,
         ),
         Command::Check { name, .. } => check_call(alloc, net, name, input, output, shelf),
+        Command::Lint { .. } => lint_call(alloc, &net, output),
         Command::Sample {
             lines,
             workers,
