@@ -14,22 +14,13 @@ use Rattle.stall_lint.specs.ClosedWalks.Way.{ByLink, Within}
 use Rattle.stall_lint.specs.Groups.{InOneGroup}
 use Rattle.stall_lint.specs.Groups.InOneGroup.{alone}
 use Rattle.stall_lint.specs.declared.hops.Hop.{Hop}
-use Rattle.stall_lint.proofs.Trails.{Built, before, closed, group_back, group_on, single, widen}
+use Rattle.stall_lint.proofs.Trails.{Built, after_is, before, closed, group_back, group_on, single, widen}
 
--- The next hop
-
-abbrev EndsOrGoesOn : List Hop → ℕ → Type 0
-EndsOrGoesOn hops k = ((suc k ≡ length hops) × (next_hop hops k ≡ 0)) ⊎ ((suc k ≢ length hops) × (next_hop hops k ≡ suc k))
-
-next_is : (hops : List Hop) (k : ℕ) → EndsOrGoesOn hops k
-next_is hops k = elim (equal_or_not (suc k) (length hops)) [
-  | inl last ↦ inl (last, ap (λ b. cond b 0 (suc k)) (eq-eqb (suc k) (length hops) last))
-  | inr other ↦ inr (other, ap (λ b. cond b 0 (suc k)) (ne_eqb (suc k) (length hops) other))
-]
+-- The walk as it is made
 
 -- behind the hops so far stands the next one, or the first
 next_left : (hops : List Hop) (first next : Hop) (k : ℕ) → slice_get hops 0 ≡ Some first → slice_get hops (next_hop hops k) ≡ Some next → next_of first (drop (k + 1) hops) ≡ next
-next_left hops first next k at_first at_next = elim (next_is hops k) [
+next_left hops first next k at_first at_next = elim (after_is (length hops) k) [
   | inl last ↦
       let e : Some first ≡ Some next = sym at_first ∙ ap (slice_get hops) (sym last.1) ∙ at_next in
       let it : first ≡ next = cc in
@@ -40,8 +31,6 @@ next_left hops first next k at_first at_next = elim (next_is hops k) [
       let there : slice_get hops (k + 1) ≡ Some next = ap (slice_get hops) (sym (other.1 ∙ one)) ∙ at_next in
       at_drop_more (next_of first) hops (k + 1) first (slice_get_within hops (k + 1) next there) ∙ get_or_from_slice_get hops (k + 1) next first there
 ]
-
--- The walk as it is made
 
 -- this walk and the strands that the hops from a place on pass are those that all pass
 abbrev pub IsPassing : List Hop → ℕ → List Who → Type 0
@@ -175,17 +164,20 @@ module _ (net : Net) (behind : Hop) where
   chain_of : (hops : List Hop) → IsCircle net (behind ∷ hops) → IsChain (behind ∷ hops)
   chain_of hops circle = record {
     each = circle.each;
-    joined = λ k hop next at to. circle.joined k hop next at (there k next to (next_is (behind ∷ hops) k));
+    joined = λ k hop next at to. circle.joined k hop next at (there k next to);
     apart = circle.apart;
     once = circle.once;
     new = λ k hop at one. (let e = circle.once (suc k) 0 hop behind at refl one in absurd (omega (arith, e)));
   }
     where
-      there : (k : ℕ) (next : Hop) → (slice_get (behind ∷ hops) (suc k) ≡ Some next) ⊎ ((suc k ≡ length (behind ∷ hops)) × (next ≡ behind)) → EndsOrGoesOn (behind ∷ hops) k → slice_get (behind ∷ hops) (next_hop (behind ∷ hops) k) ≡ Some next
-      there k next (inl at) (inl last) = (let lt = slice_get_within (behind ∷ hops) (suc k) next at in let end = last.0 in absurd (omega (arith, lt, end)))
-      there k next (inl at) (inr other) = ap (slice_get (behind ∷ hops)) other.1 ∙ at
-      there k next (inr end) (inl last) = ap (slice_get (behind ∷ hops)) last.1 ∙ ap Some (sym end.1)
-      there k next (inr end) (inr other) = absurd (other.0 end.0)
+      there : (k : ℕ) (next : Hop) → (slice_get (behind ∷ hops) (suc k) ≡ Some next) ⊎ ((suc k ≡ length (behind ∷ hops)) × (next ≡ behind)) → slice_get (behind ∷ hops) (next_hop (behind ∷ hops) k) ≡ Some next
+      there k next to = elim (after_is (length (behind ∷ hops)) k) [
+        | inl last ↦ ap (slice_get (behind ∷ hops)) last.1 ∙ elim to [
+          | inl at ↦ (let lt = slice_get_within (behind ∷ hops) (suc k) next at in let end = last.0 in absurd (omega (arith, lt, end)))
+          | inr end ↦ ap Some (sym end.1)
+        ]
+        | inr other ↦ ap (slice_get (behind ∷ hops)) other.1 ∙ elim to [ inl at ↦ at | inr end ↦ absurd (other.0 end.0) ]
+      ]
 
 pub circle_round : (net : Net) (hops : List Hop) (first : Hop) → slice_get hops 0 ≡ Some first → IsCircle net hops → IsRound net (around first hops)
 circle_round net [] first at circle = cc

@@ -1,5 +1,6 @@
 -- Where the way from group to group goes on for ever and never goes back over an edge, it closes a walk.
-use Rattle.std.proofs.Common.{◌≡◌, ◌⊎◌, inl, inr, ℕ, zero, suc, ◌<◌, List, [], ◌∷◌, length, refl, sym, ◌∙◌, ap, subst, arith, Some, slice_get}
+use Rattle.std.proofs.Common.{◌≡◌, ◌≢◌, ◌⊎◌, inl, inr, ℕ, zero, suc, ◌<◌, ◌==◌, cond, List, [], ◌∷◌, length, refl, sym, ◌∙◌, ap, subst, arith, Some, slice_get, eq-eqb}
+use Rattle.std.proofs.lemmas.Bool.{ne_eqb}
 use Rattle.std.proofs.lemmas.Option.{slice_get_within}
 use Rattle.pipe_model.specs.declared.net.Net.{Net}
 use Rattle.pipe_model.specs.declared.net.Link.{Link}
@@ -10,7 +11,18 @@ use Rattle.stall_lint.specs.ClosedWalks.{Goes, IsRound, IsStep, UsesEdge, Way}
 use Rattle.stall_lint.specs.ClosedWalks.Way.{ByLink}
 use Rattle.stall_lint.specs.Groups.{InOneGroup, IsInner}
 use Rattle.stall_lint.specs.Groups.InOneGroup.{alone, down, up}
-use Rattle.stall_lint.proofs.NoRounds.{behind_last, behind_other}
+
+-- Places round
+
+-- the place behind one of n, round
+abbrev pub after : ℕ → ℕ → ℕ
+after n k = cond (suc k == n) 0 (suc k)
+
+pub after_is : (n k : ℕ) → ((suc k ≡ n) × (after n k ≡ 0)) ⊎ ((suc k ≢ n) × (after n k ≡ suc k))
+after_is n k = elim (equal_or_not (suc k) n) [
+  | inl last ↦ inl (last, ap (λ b. cond b 0 (suc k)) (eq-eqb (suc k) n last))
+  | inr other ↦ inr (other, ap (λ b. cond b 0 (suc k)) (ne_eqb (suc k) n other))
+]
 
 -- Groups
 
@@ -179,9 +191,9 @@ closed net Of By s built = record {
 }
   where
     goes : (k : ℕ) (way : Way) (x y : Who) → slice_get built.ways k ≡ Some way → IsStep built.walk k x y → Goes net x way y
-    goes k way x y at step = trail_goes net s s built.walk built.ways built.trail k way x y at step.here (elim (equal_or_not (suc k) (length built.walk)) [
+    goes k way x y at step = trail_goes net s s built.walk built.ways built.trail k way x y at step.here (elim (after_is (length built.walk) k) [
       | inl end ↦
-          let back : Some s ≡ Some y = sym (trail_first net s s built.walk built.ways built.trail) ∙ ap (slice_get built.walk) (sym (behind_last built.walk k end)) ∙ step.next in
-          inr (end, (let z : y ≡ s = cc in z))
-      | inr other ↦ inl (ap (slice_get built.walk) (sym (behind_other built.walk k other)) ∙ step.next)
+          let back : Some s ≡ Some y = sym (trail_first net s s built.walk built.ways built.trail) ∙ ap (slice_get built.walk) (sym end.1) ∙ step.next in
+          inr (end.0, (let z : y ≡ s = cc in z))
+      | inr other ↦ inl (ap (slice_get built.walk) (sym other.1) ∙ step.next)
     ])

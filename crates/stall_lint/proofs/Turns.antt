@@ -1,5 +1,5 @@
 -- Each round, begun elsewhere and turned, is a closed walk.
-use Rattle.std.proofs.Common.{◌≡◌, ◌≢◌, ◌⊎◌, inl, inr, ℕ, zero, suc, ◌+◌, ◌-◌, ◌<◌, ◌≤◌, ◌==◌, cond, List, [], ◌∷◌, length, map, get_or, refl, sym, ◌∙◌, ap, arith, Some, ◌++◌, reverse, slice_get, subst, append-nil, eq-eqb}
+use Rattle.std.proofs.Common.{◌≡◌, ◌≢◌, ◌⊎◌, inl, inr, ℕ, zero, suc, ◌+◌, ◌-◌, ◌<◌, ◌≤◌, ◌==◌, cond, List, [], ◌∷◌, length, map, get_or, refl, sym, ◌∙◌, ap, arith, Some, ◌++◌, reverse, slice_get, subst, append-nil}
 use Rattle.std.specs.Prelude.{nat_lt, unwrap_or}
 use Rattle.std.specs.List.{IsFirstBest, RotatedLeft, range_with_len}
 use Rattle.std.proofs.lemmas.Bool.{cases_lt, le-ltb, lt-ltb, ltb-false, ne_eqb}
@@ -10,11 +10,10 @@ use borrow.Rule.Slice.PartMut.{mid_of, put_mid}
 use Rattle.pipe_model.specs.declared.net.Net.{Net}
 use Rattle.pipe_model.specs.State.{Who}
 use Rattle.pipe_model.proofs.Lists.{at_some}
-use Rattle.pipe_model.proofs.Numbers.{equal_or_not}
 use Rattle.stall_lint.specs.Begun.{BeginsLeast}
 use Rattle.stall_lint.specs.ClosedWalks.{EachFeeds, EachIsFed, Goes, IsClosedWalk, IsRound, IsStep, UsesEdge, Way, behind}
 use Rattle.stall_lint.specs.ClosedWalks.Way.{ByLink, Within}
-use Rattle.stall_lint.proofs.Trails.{group_back}
+use Rattle.stall_lint.proofs.Trails.{after, after_is, group_back}
 
 -- A list whose places are changed
 
@@ -46,10 +45,6 @@ module _ {A : Type 0} (d : A) (from : ℕ → ℕ) (xs : List A) (within : (k : 
       y.1 ∙ e
 
 -- Places changed so that neighbours stay neighbours
-
--- the next place of n, round
-abbrev after : ℕ → ℕ → ℕ
-after n k = cond (suc k == n) 0 (suc k)
 
 -- the strand at place k comes from `strand k`, the way from `way k`
 record IsTurning (n : ℕ) (strand way : ℕ → ℕ) : Type 0 where
@@ -149,12 +144,6 @@ module _ (net : Net) (walk : List Who) (round : IsRound net walk) (strand way : 
       closes = elim round.closes [ inl uses ↦ inl (edge uses) | inr feeds ↦ inr (ring feeds) ]
 
 -- Begun at another place
-
-after_is : (n k : ℕ) → ((suc k ≡ n) × (after n k ≡ 0)) ⊎ ((suc k ≢ n) × (after n k ≡ suc k))
-after_is n k = elim (equal_or_not (suc k) n) [
-  | inl last ↦ inl (last, ap (λ b. cond b 0 (suc k)) (eq-eqb (suc k) n last))
-  | inr other ↦ inr (other, ap (λ b. cond b 0 (suc k)) (ne_eqb (suc k) n other))
-]
 
 -- the place that stands m places on
 abbrev onward : ℕ → ℕ → ℕ → ℕ
