@@ -5,7 +5,6 @@ pub mod Branches
 pub mod Circuits
 pub mod Closing
 pub mod EdgeEnds
-pub mod Edges
 pub mod Ends
 pub mod Examples
 pub mod FedRounds
