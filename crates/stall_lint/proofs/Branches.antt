@@ -8,6 +8,7 @@ use Rattle.pipe_model.specs.declared.net.Link.{Link}
 use Rattle.pipe_model.specs.Members.{has}
 use Rattle.pipe_model.proofs.Lists.{few_by_keys, get_seam, length_more}
 use Rattle.pipe_model.proofs.Numbers.{equal_or_not}
+use Rattle.braid_check.proofs.Producing.{get_before}
 use Rattle.stall_lint.specs.declared.hops.Hop.{Hop}
 use Rattle.stall_lint.specs.declared.trees.Place.{Place}
 use Rattle.stall_lint.specs.Circles.{AreEnds}
@@ -52,17 +53,12 @@ module _ (net : Net) (labels : List ℕ) (j g : ℕ) (has_end : HasEnd net label
         by (inl ends) = absurd (other (read_is g ends.0))
         by (inr ends) = (has_end.0, record { over = record { link = l; at = at; edge = edge; ends = inr (refl, refl) }; link = refl; exit = ends.1; entry = ends.0 })
 
--- what a longer list holds
+-- a place of a list with one thing more is one of the list, or the last
 pub split_last : {A : Type 0} (xs : List A) (y : A) (k : ℕ) (x : A) → slice_get (xs ++ y ∷ []) k ≡ Some x → (slice_get xs k ≡ Some x) ⊎ ((k ≡ length xs) × (y ≡ x))
 split_last [] y zero x at = inr (refl, cc)
 split_last [] y (suc k) x at = cc
 split_last (z ∷ zs) y zero x at = inl at
 split_last (z ∷ zs) y (suc k) x at = elim (split_last zs y k x at) [ inl before ↦ inl before | inr last ↦ inr (ap suc last.0, last.1) ]
-
-get_front : {A : Type 0} (xs ys : List A) (k : ℕ) (x : A) → slice_get xs k ≡ Some x → slice_get (xs ++ ys) k ≡ Some x
-get_front [] ys k x at = cc
-get_front (z ∷ zs) ys zero x at = at
-get_front (z ∷ zs) ys (suc k) x at = get_front zs ys k x at
 
 module _ (net : Net) (labels : List ℕ) (are : AreLabels net labels) where
   -- a way is no longer than there are strands, for its hops come to groups of different depths
@@ -401,7 +397,7 @@ module _ (net : Net) (labels : List ℕ) (are : AreLabels net labels) where
           where
             on : (k : ℕ) (x : Hop) → slice_get rest k ≡ Some x → IsOn net labels ended k x
             on k x at_k =
-                let old = growing.walk.on k x (ap (λ z. slice_get z k) was ∙ get_front rest (hop ∷ []) k x at_k) in
+                let old = growing.walk.on k x (ap (λ z. slice_get z k) was ∙ get_before rest (hop ∷ []) k x at_k) in
                 let lt = slice_get_within rest k x at_k in
                 on_else places at (Some finished.place) finished.here end net labels k x old (shallow old.from k (omega (arith, lt, long)) old.before) (shallow old.to (suc k) (omega (arith, lt, long)) old.after) kept_ended
 

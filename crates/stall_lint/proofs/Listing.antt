@@ -1,5 +1,6 @@
 -- The edges of each group: one link more is listed, or the last of a group is taken.
-use Rattle.std.proofs.Common.{◌≡◌, ◌≢◌, ◌⊎◌, inl, inr, ℕ, ◌+◌, ◌<◌, true, List, [], ◌∷◌, ◌++◌, length, length-set, sym, ◌∙◌, ap, subst, arith, Option, Some, None, slice_get, get_or-set_same, get_or-set_other}
+use Rattle.std.proofs.Common.{◌≡◌, ◌≢◌, ◌⊎◌, inl, inr, ℕ, ◌+◌, ◌<◌, true, false, List, [], ◌∷◌, ◌++◌, length, length-set, sym, ◌∙◌, ap, subst, arith, Option, Some, None, slice_get, slice_index_or, get_or-set_same, get_or-set_other}
+use Rattle.std.proofs.lemmas.Option.{slice_get-get_or}
 use Rattle.pipe_model.specs.declared.net.Net.{Net}
 use Rattle.pipe_model.specs.declared.net.Link.{Link}
 use Rattle.pipe_model.specs.Members.{has}
@@ -43,6 +44,14 @@ module _ (net : Net) (labels : List ℕ) where
   -- from one of the two it leads to one other
   pub joins_other : (j g h b : ℕ) → Joins net labels j g h → Joins net labels j g b → h ≡ b
   joins_other j g h b one two = elim (joins_two j g h g b one two) [ inl same ↦ same.1 | inr turned ↦ turned.1 ∙ turned.0 ]
+
+-- The link that was read at a place
+
+abbrev pub no_link : Link
+no_link = record { from = 0; output = 0; to = 0; input = 0; queue = false }
+
+pub link_at : (shown links : List Link) (j : ℕ) → shown ≡ links → j < length links → slice_get links j ≡ Some (slice_index_or shown j no_link)
+link_at shown links j same lt = let long = ap length same in ap (λ xs. slice_get xs j) (sym same) ∙ slice_get-get_or shown j no_link (omega (arith, lt, long))
 
 -- One edge more for a group
 

@@ -1,16 +1,12 @@
 -- A link that isn't inner is listed for the groups of both its ends.
 use Rattle.std.proofs.Common.{◌≡◌, false, true, length, refl, sym, ◌∙◌, ◌+◌, ap, subst, arith, inl, Some, slice_get, slice_index_or}
-use Rattle.std.proofs.lemmas.Option.{slice_get-get_or, slice_get_read, slice_get_within}
+use Rattle.std.proofs.lemmas.Option.{slice_get_read, slice_get_within}
 use Rattle.std.proofs.lemmas.Result.{IfOk-weaker}
-use Rattle.pipe_model.specs.declared.net.Link.{Link}
 use Rattle.pipe_model.proofs.FewLinks.{few_links}
 use Rattle.pipe_model.proofs.Lists.{at_some}
 use Rattle.stall_lint.specs.Listed.{AreListed, Joins, with_edge}
-use Rattle.stall_lint.proofs.Listing.{added_count, edge_listed, inner_listed}
+use Rattle.stall_lint.proofs.Listing.{link_at, no_link, added_count, edge_listed, inner_listed}
 use Rattle.stall_lint.proofs.edges.list.Goals as goal
-
-abbrev no_link : Link
-no_link = record { from = 0; output = 0; to = 0; input = 0; queue = false }
 
 pub returns-then-index : goal.returns-then-index
 returns-then-index c =
@@ -33,7 +29,7 @@ index-requires-2 c =
     let net = c.args.net.now in
     let j = c.args.number in
     let l = slice_index_or c.as_slice.result.now j no_link in
-    let at : slice_get net.links j ≡ Some l = subst (λ xs. slice_get xs j ≡ Some l) c.as_slice.ensures (slice_get-get_or c.as_slice.result.now j no_link (let lt = c.requires.within in let same = ap length c.as_slice.ensures in omega (arith, lt, same))) in
+    let at = link_at c.as_slice.result.now net.links j c.as_slice.ensures c.requires.within in
     let joined = c.requires.formed.joined j l at in
     let lt = slice_get_within net.strands l.from joined.producer joined.from_strand in
     let count = c.requires.groups.labels.count in
@@ -44,7 +40,7 @@ index-requires-3 c =
     let net = c.args.net.now in
     let j = c.args.number in
     let l = slice_index_or c.as_slice.result.now j no_link in
-    let at : slice_get net.links j ≡ Some l = subst (λ xs. slice_get xs j ≡ Some l) c.as_slice.ensures (slice_get-get_or c.as_slice.result.now j no_link (let lt = c.requires.within in let same = ap length c.as_slice.ensures in omega (arith, lt, same))) in
+    let at = link_at c.as_slice.result.now net.links j c.as_slice.ensures c.requires.within in
     let joined = c.requires.formed.joined j l at in
     let lt = slice_get_within net.strands l.to joined.consumer joined.to_strand in
     let count = c.requires.groups.labels.count in
@@ -56,7 +52,7 @@ list_for-requires c =
     let labels = c.args.groups.now.labels.items in
     let j = c.args.number in
     let l = slice_index_or c.as_slice.result.now j no_link in
-    let at : slice_get net.links j ≡ Some l = subst (λ xs. slice_get xs j ≡ Some l) c.as_slice.ensures (slice_get-get_or c.as_slice.result.now j no_link (let lt = c.requires.within in let same = ap length c.as_slice.ensures in omega (arith, lt, same))) in
+    let at = link_at c.as_slice.result.now net.links j c.as_slice.ensures c.requires.within in
     let joined = c.requires.formed.joined j l at in
     let lt = slice_get_within net.strands l.from joined.producer joined.from_strand in
     let count = c.requires.groups.labels.count in
@@ -72,7 +68,7 @@ list_for-requires-2 c =
     let edges = c.args.edges.now.items in
     let j = c.args.number in
     let l = slice_index_or c.as_slice.result.now j no_link in
-    let at : slice_get net.links j ≡ Some l = subst (λ xs. slice_get xs j ≡ Some l) c.as_slice.ensures (slice_get-get_or c.as_slice.result.now j no_link (let lt = c.requires.within in let same = ap length c.as_slice.ensures in omega (arith, lt, same))) in
+    let at = link_at c.as_slice.result.now net.links j c.as_slice.ensures c.requires.within in
     let joined = c.requires.formed.joined j l at in
     let lt = slice_get_within net.strands l.to joined.consumer joined.to_strand in
     let count = c.requires.groups.labels.count in
@@ -90,7 +86,7 @@ returns c =
     let edges = c.args.edges.now.items in
     let j = c.args.number in
     let l = slice_index_or c.as_slice.result.now j no_link in
-    let at : slice_get net.links j ≡ Some l = subst (λ xs. slice_get xs j ≡ Some l) c.as_slice.ensures (slice_get-get_or c.as_slice.result.now j no_link (let lt = c.requires.within in let same = ap length c.as_slice.ensures in omega (arith, lt, same))) in
+    let at = link_at c.as_slice.result.now net.links j c.as_slice.ensures c.requires.within in
     let joined = c.requires.formed.joined j l at in
     let from_lt = slice_get_within net.strands l.from joined.producer joined.from_strand in
     let to_lt = slice_get_within net.strands l.to joined.consumer joined.to_strand in

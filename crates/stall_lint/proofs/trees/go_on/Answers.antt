@@ -1,5 +1,6 @@
 -- An edge is taken, and leads to a group that wasn't reached, or is a way up, or closes a circle; or all edges of the group were followed.
 use Rattle.std.proofs.Common.{◌≡◌, ℕ, ◌++◌, ◌∷◌, false, List, [], drop, length, refl, sym, ◌∙◌, ap, subst, arith, Some, None, slice_get, slice_index_or, slice_set, suc, ◌<◌}
+use Rattle.std.proofs.lemmas.List.{nil_from_length}
 use Rattle.std.proofs.lemmas.Option.{slice_get_read, slice_get_within}
 use Rattle.pipe_model.proofs.Lists.{length_more}
 use Rattle.stall_lint.specs.Circles.{IsCircle}
@@ -10,10 +11,6 @@ use Rattle.stall_lint.proofs.Closing.{closes}
 use Rattle.stall_lint.proofs.Places.{all_kept}
 use Rattle.stall_lint.proofs.trees.go_on.Goals as goal
 use Rattle.stall_lint.proofs.trees.go_on.Goals.{then-place-via-then-place, then-place-via-else-place+then-is_up}
-
-empty : {A : Type 0} (xs : List A) → length xs ≡ 0 → xs ≡ []
-empty [] e = refl
-empty (x ∷ xs) e = absurd (omega (arith, e))
 
 read : {A : Type 0} (xs : List A) (k : ℕ) (x : A) → k < length xs → x ≡ slice_index_or xs k x → slice_get xs k ≡ Some x
 read xs k x lt is = slice_get_read xs (length xs) k x refl lt is
@@ -28,7 +25,7 @@ returns-in_default-pop c =
     let way = c.args.way.now.items in
     let at = c.args.at in
     let none = c.in_default-pop.ensures.cases in (
-      ended_grown net labels are edges places way at c.requires.growing c.take.result c.take.new.edges.items c.take.ensures c.in_default.is c.finish.new.places.items c.finish.ensures (empty way (omega (arith, none.0, c.args.way.now.ok.0))),
+      ended_grown net labels are edges places way at c.requires.growing c.take.result c.take.new.edges.items c.take.ensures c.in_default.is c.finish.new.places.items c.finish.ensures (nil_from_length way (omega (arith, none.0, c.args.way.now.ok.0))),
       finished_kept net labels are edges places way at c.requires.growing c.take.result c.take.new.edges.items c.take.ensures c.in_default.is c.finish.new.places.items c.finish.ensures,
     )
 
