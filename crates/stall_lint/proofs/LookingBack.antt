@@ -1,5 +1,5 @@
 -- The search for a ring back along the links, step by step.
-use Rattle.std.proofs.Common.{◌≡◌, ◌≢◌, ◌⊎◌, inl, inr, ℕ, false, zero, suc, ◌+◌, ◌-◌, ◌<◌, ◌≤◌, ◌==◌, cond, List, [], ◌∷◌, ◌++◌, length, replicate, drop, take, refl, sym, ◌∙◌, ap, subst, arith, Some, slice_get, slice_set, length-set, length-drop, get_or, zero-add, eq-eqb}
+use Rattle.std.proofs.Common.{◌≡◌, ◌≢◌, ◌⊎◌, inl, inr, ℕ, false, zero, suc, ◌+◌, ◌-◌, ◌<◌, ◌≤◌, ◌==◌, cond, List, [], ◌∷◌, ◌++◌, length, replicate, drop, take, refl, sym, ◌∙◌, ap, subst, arith, Some, slice_get, slice_set, length-set, length-drop, get_or, zero-add}
 use Rattle.std.specs.List.{sum_by}
 use Rattle.std.proofs.lemmas.Bool.{ne_eqb}
 use Rattle.std.proofs.lemmas.List.{length-replicate}
@@ -14,8 +14,8 @@ use Rattle.pipe_model.proofs.Lists.{at_some, get_copy, get_seam, get_set_same, g
 use Rattle.pipe_model.proofs.Numbers.{equal_or_not, test_same}
 use Rattle.braid_check.proofs.Producing.{get_before}
 use Rattle.net_graph.proofs.FormedLists.{get_more}
-use Rattle.stall_lint.specs.ClosedWalks.{IsRound, IsStep, behind}
-use Rattle.stall_lint.specs.LooksBack.{AllWait, ClosesAt, GoesOn, IsDone, IsFed, IsLooking, IsSearch, NoneIsNew, Waits, steps_left, work}
+use Rattle.stall_lint.specs.ClosedWalks.{IsStep}
+use Rattle.stall_lint.specs.LooksBack.{AllWait, ClosesAt, GoesOn, IsDone, IsFed, IsLooking, IsSearch, NoneIsNew, Waits, steps_left}
 use Rattle.stall_lint.specs.Never.{HasNoDam}
 use Rattle.stall_lint.specs.declared.rings.Look.{Look}
 use Rattle.stall_lint.specs.declared.rings.Look.TheVariants.{New, On, Done}
@@ -270,9 +270,9 @@ module _ (net : Net) (waiting : List (List ℕ)) (looks : List Look) (way : List
           let lt = r.0 in
           let on = search.stands k t r.1 in
           get_set_other looks s t Done (λ it. (
-              let e : Some (On (length way - 1)) ≡ Some (On k) = sym is_on ∙ ap (slice_get looks) (sym it) ∙ on in
-              let same : length way - 1 ≡ k = cc in
-              omega (arith, same, lt))) ∙ on
+          let e : Some (On (length way - 1)) ≡ Some (On k) = sym is_on ∙ ap (slice_get looks) (sym it) ∙ on in
+          let same : length way - 1 ≡ k = cc in
+          omega (arith, same, lt))) ∙ on
 
       on_left : (k : ℕ) (t : Who) → slice_get left t ≡ Some (On k) → slice_get (take (length way - 1) way) k ≡ Some t
       on_left k t on = elim (written looks s t (On (length way - 1)) Done (On k) is_on on) [
@@ -307,12 +307,12 @@ module _ (net : Net) (waiting : List (List ℕ)) (looks : List Look) (way : List
         known = λ j l at. elim (search.known j l at) [
           | inl waits ↦ inl waits
           | inr p ↦ inr (
-              get_set_other looks s l.from Done (other_done l.from p.0) ∙ p.0,
-              λ done. elim (written looks s l.to (On (length way - 1)) Done Done is_on done) [
-                | inl q ↦ (let e = ap rank_left q.0 ∙ rank_same in let from = rank_other l.from (other_done l.from p.0) in let less = search.below l.from p.0 in omega (arith, e, from, less))
-                | inr q ↦ (let e = rank_other l.to q.0 in let from = rank_other l.from (other_done l.from p.0) in let less = p.1 q.1 in omega (arith, e, from, less))
-              ],
-            )
+            get_set_other looks s l.from Done (other_done l.from p.0) ∙ p.0,
+            λ done. elim (written looks s l.to (On (length way - 1)) Done Done is_on done) [
+              | inl q ↦ (let e = ap rank_left q.0 ∙ rank_same in let from = rank_other l.from (other_done l.from p.0) in let less = search.below l.from p.0 in omega (arith, e, from, less))
+              | inr q ↦ (let e = rank_other l.to q.0 in let from = rank_other l.from (other_done l.from p.0) in let less = p.1 q.1 in omega (arith, e, from, less))
+            ],
+          )
         ];
       }
 
@@ -461,11 +461,11 @@ module _ (net : Net) (waiting : List (List ℕ)) (looks : List Look) (way : List
                 within = omega (arith, within);
                 ring = fed_round net walk (omega (arith, within, long))
                     (λ j k t at_j at_k. (
-                        let a = search.stands (place + j) t (in_walk j t at_j) in
-                        let b = search.stands (place + k) t (in_walk k t at_k) in
-                        let e : Some (On (place + j)) ≡ Some (On (place + k)) = sym a ∙ b in
-                        let one : place + j ≡ place + k = cc in
-                        omega (arith, one)))
+                    let a = search.stands (place + j) t (in_walk j t at_j) in
+                    let b = search.stands (place + k) t (in_walk k t at_k) in
+                    let e : Some (On (place + j)) ≡ Some (On (place + k)) = sym a ∙ b in
+                    let one : place + j ≡ place + k = cc in
+                    omega (arith, one)))
                     steps;
               }
 

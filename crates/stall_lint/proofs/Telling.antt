@@ -1,20 +1,19 @@
 -- What is told of a net: the least strands, and that two answers are of one line.
-use Rattle.std.proofs.Common.{◌≡◌, ◌≢◌, inl, inr, ℕ, ◌+◌, ◌<◌, ◌≤◌, true, false, List, length, refl, sym, ◌∙◌, ap, subst, arith, Option, Some, None, slice_get}
+use Rattle.std.proofs.Common.{◌≡◌, ◌≢◌, inl, inr, ℕ, ◌+◌, ◌<◌, ◌≤◌, true, false, List, length, refl, sym, ◌∙◌, ap, subst, arith, Some, None, slice_get}
 use Rattle.std.proofs.lemmas.Bool.{cases_lt}
 use Rattle.std.proofs.lemmas.Option.{slice_get_within}
 use Rattle.pipe_model.specs.declared.net.Net.{Net}
 use Rattle.pipe_model.specs.declared.net.Strand.{Strand}
-use Rattle.pipe_model.specs.Form.{Parting, parting_by}
+use Rattle.pipe_model.specs.Form.{Parting}
 use Rattle.pipe_model.specs.Form.Parting.{Whole, Queued, Streamed}
 use Rattle.pipe_model.specs.Plain.{IsAcyclic, IssuesNothing}
 use Rattle.pipe_model.specs.Settled.{IsSettled, Meets}
 use Rattle.pipe_model.specs.State.{Who, strand_in}
-use Rattle.pipe_model.specs.Table.{form, line_of}
+use Rattle.pipe_model.specs.Table.{form}
 use Rattle.pipe_model.specs.WellFormed.{IsWellFormed}
 use Rattle.pipe_model.proofs.Numbers.{equal_or_not}
 use Rattle.braid_check.specs.Answer.{IsLeastLoose}
-use Rattle.stall_lint.specs.Answer.{IsCalm, IsFirstDam, IsLeastDam, IsLeastIssuer, IsOneLine, Lints, is_streamed}
-use Rattle.stall_lint.specs.ClosedWalks.{IsClosedWalk}
+use Rattle.stall_lint.specs.Answer.{IsFirstDam, IsLeastDam, IsLeastIssuer, IsOneLine, Lints, is_streamed}
 use Rattle.stall_lint.specs.Never.{HasNoDam, NeverStalls}
 use Rattle.stall_lint.specs.Rooted.{IsRooted}
 use Rattle.stall_lint.specs.declared.told.Lint.{Lint}

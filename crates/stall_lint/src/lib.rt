@@ -16,5 +16,5 @@ mod trees;
 mod turn;
 
 pub use answer::lint;
-pub use told::{Lint, Strands};
 pub use never::{never_stalls, no_closed_walk, one_line};
+pub use told::{Lint, Strands};

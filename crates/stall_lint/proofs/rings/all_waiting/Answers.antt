@@ -1,5 +1,5 @@
 -- One link more waits with its consumer.
-use Rattle.std.proofs.Common.{arith, false, ◌≡◌, ◌<◌, length, sym, ◌∙◌, ap, subst, Some, slice_get, slice_get, slice_index_or, lit<}
+use Rattle.std.proofs.Common.{arith, false, ◌≡◌, length, sym, ◌∙◌, ap, Some, slice_get, slice_get, slice_index_or}
 use Rattle.std.proofs.lemmas.Option.{slice_get-get_or, slice_get_within}
 use Rattle.pipe_model.specs.declared.net.Link.{Link}
 use Rattle.pipe_model.proofs.FewLinks.{few_links}

@@ -1,5 +1,5 @@
 -- A new strand is entered, or the last one is left, or a link needn't be followed, or a ring closes.
-use Rattle.std.proofs.Common.{arith, false, ◌≡◌, ℕ, ◌-◌, ◌<◌, List, length, sym, ◌∙◌, ap, subst, Some, slice_get, slice_index_or, slice_set, take, vec_len}
+use Rattle.std.proofs.Common.{arith, false, ◌≡◌, ℕ, ◌-◌, List, length, sym, ◌∙◌, ap, subst, Some, slice_get, slice_index_or, slice_set, take}
 use Rattle.std.proofs.lemmas.Option.{slice_get-get_or, slice_get_within}
 use Rattle.pipe_model.specs.declared.net.Link.{Link}
 use Rattle.stall_lint.specs.LooksBack.{GoesOn}
