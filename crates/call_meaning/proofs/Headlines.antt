@@ -18,9 +18,8 @@ use Rattle.net_graph.specs.Fed.{with_input}
 use Rattle.net_graph.proofs.Feeds.{fed_formed}
 use Rattle.stall_lint.specs.declared.told.Lint.{Lint as Answer}
 use Rattle.stall_lint.specs.declared.told.Lint.TheVariants as Answers
-use Rattle.stall_lint.specs.Answer.{Lints}
 use Rattle.stall_lint.specs.Never.{NeverStalls}
-use Rattle.stall_lint.proofs.Ends.{never_stalls}
+use Rattle.stall_lint.proofs.Telling.{never_told}
 use Rattle.call_words.specs.Command.{command_of}
 use Rattle.call_words.specs.declared.command.Command.TheVariants.{Lint, Run, Sample}
 use Rattle.call_meaning.specs.declared.status.Outcome.{Outcome}
@@ -199,9 +198,6 @@ is_never (Answers.Latch s) same = (let line : lint_line (Answers.Latch s) ≡ li
 is_never (Answers.Walk walk) same = (let line : lint_line (Answers.Walk walk) ≡ lint_line Answers.Never = ap (λ (e : Effect). e.output) same in cc)
 is_never Answers.Never same = refl
 
-pub never_by : (net : Net) → IsWellFormed net → (answer : Answer) → Lints net answer → answer ≡ Answers.Never → NeverStalls net
-never_by net formed answer told is = (let never = subst (Lints net) is told in never_stalls net formed never.0.0 never.0.1 never.0.2 never.1)
-
 -- A call
 
 module _ (words : List (List ℕ)) (given : Before) (outcome : Outcome) (effect : Effect) (means : Means words given outcome effect) where
@@ -216,7 +212,7 @@ module _ (words : List (List ℕ)) (given : Before) (outcome : Outcome) (effect 
   by_lint : (net : Net) → LintsNet words net → effect ≡ output_of (lint_line Answers.Never) → NeverStalls net
   by_lint net lints never =
       let meant = meaning_at words given (Lint lints.spec) net (lint_called words net lints) outcome effect means in
-      never_by net (net_formed lints.spec net lints.net_of) meant.answer meant.told (is_never meant.answer (sym meant.effect_is ∙ never))
+      never_told net (net_formed lints.spec net lints.net_of) meant.answer meant.told (is_never meant.answer (sym meant.effect_is ∙ never))
 
   by_sample : (count workers steps : ℕ) → command_of words ≡ Some (Sample count workers steps) →
       (net : Net) × IsNetOf sample_spec net × HasOneSummary (with_input (sample_text count) net) count steps outcome effect

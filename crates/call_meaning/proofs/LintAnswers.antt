@@ -8,6 +8,7 @@ use Rattle.stall_lint.specs.declared.told.Lint.{Lint as Answer}
 use Rattle.stall_lint.specs.declared.told.Lint.TheVariants.{Never}
 use Rattle.stall_lint.specs.Answer.{Lints}
 use Rattle.stall_lint.specs.Never.{NeverStalls}
+use Rattle.stall_lint.proofs.Telling.{never_told}
 use Rattle.call_words.specs.Command.{command_of}
 use Rattle.call_words.specs.declared.command.Command.TheVariants.{Check, Lint, Run, Sample}
 use Rattle.call_meaning.specs.declared.status.Outcome.{Outcome}
@@ -28,7 +29,6 @@ use Rattle.call_meaning.specs.Meaning.IsUnchecked.{absent, unread}
 use Rattle.call_meaning.specs.Meaning.IsUnrun.{no_command, refused}
 use Rattle.call_meaning.specs.Status.{status_of}
 use Rattle.call_meaning.specs.Untouched.{IsUntouched}
-use Rattle.call_meaning.proofs.Headlines.{never_by}
 use Rattle.call_meaning.proofs.OneTexts.{net_formed}
 
 -- its line was told, or the specification is refused
@@ -168,5 +168,5 @@ module _ (words : List (List ℕ)) (spec : List ℕ) (command : command_of words
           net_is l.net l.lints,
           l.means.told,
           subst (λ (e : Effect). Appends old.output.bytes new.output.bytes e.output) l.means.effect_is done.output,
-          never_by l.net (net_formed l.lints.spec l.net l.lints.net_of) l.means.answer l.means.told,
+          never_told l.net (net_formed l.lints.spec l.net l.lints.net_of) l.means.answer l.means.told,
         )

@@ -12,7 +12,7 @@ use Rattle.journal_file.specs.Text.{IsJournal, journal_text}
 use Rattle.journal_file.proofs.OneFronts.{faults_same, journal_faultless, journals_same}
 use Rattle.journal_file.proofs.OneJudgement.{one_judgement}
 use Rattle.call_words.specs.declared.command.Command.{Command}
-use Rattle.stall_lint.proofs.OneLine.{one_line}
+use Rattle.stall_lint.proofs.Telling.{one_line}
 use Rattle.call_words.specs.declared.command.Command.TheVariants.{Run, Check, Lint, Sample}
 use Rattle.call_meaning.specs.declared.status.Outcome.{Outcome}
 use Rattle.call_meaning.specs.declared.status.Outcome.TheVariants.{SpecRefused, InputTooLarge, JournalAbsent, JournalEntry, JournalLine}
