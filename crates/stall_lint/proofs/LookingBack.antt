@@ -58,17 +58,6 @@ written xs k j old x z there at = elim (equal_or_not j k) [
 
 -- What waits
 
--- nothing waits where no list has a link
-pub none_wait : (net : Net) (waiting : List (List ℕ)) → waiting ≡ replicate (length net.strands) [] → AllWait net 0 waiting
-none_wait net waiting are = subst (AllWait net 0) (sym are) (record {
-  places = length-replicate (length net.strands) [];
-  led = λ t j waits. (
-      let blank = get_copy (length net.strands) [] waits.numbers t waits.here in
-      let at : slice_get [] waits.place ≡ Some j = subst (λ xs. slice_get xs waits.place ≡ Some j) blank waits.at in
-      cc);
-  all = λ j l lt at. absurd (omega (arith, lt));
-})
-
 -- one link more waits with its consumer
 module _ (net : Net) (n : ℕ) (waiting : List (List ℕ)) (all : AllWait net n waiting) (link : Link) (at : slice_get net.links n ≡ Some link) (numbers : List ℕ) (here : slice_get waiting link.to ≡ Some numbers) where
   abbrev more : List (List ℕ)
@@ -147,7 +136,7 @@ next_link net formed n waiting all read are lt =
 -- The search
 
 -- nothing was looked at
-pub search_begins : (net : Net) (waiting : List (List ℕ)) (looks : List Look) → AllWait net (length net.links) waiting → looks ≡ replicate (length net.strands) New → IsSearch net waiting looks []
+search_begins : (net : Net) (waiting : List (List ℕ)) (looks : List Look) → AllWait net (length net.links) waiting → looks ≡ replicate (length net.strands) New → IsSearch net waiting looks []
 search_begins net waiting looks all are = subst (λ z. IsSearch net waiting z []) (sym are) (record {
   places = all.places;
   led = all.led;
@@ -204,7 +193,7 @@ module _ (net : Net) (waiting : List (List ℕ)) (looks : List Look) (way : List
       ]
     ]
 
-    pub search_entered : IsSearch net waiting entered (way ++ s ∷ [])
+    search_entered : IsSearch net waiting entered (way ++ s ∷ [])
     search_entered = record {
       places = search.places;
       led = search.led;
@@ -222,7 +211,7 @@ module _ (net : Net) (waiting : List (List ℕ)) (looks : List Look) (way : List
       ];
     }
 
-    pub none_new_entered : NoneIsNew looks entered
+    none_new_entered : NoneIsNew looks entered
     none_new_entered t new = elim (written looks s t New (On (length way)) New fresh new) [ inl p ↦ (let e = p.1 in cc) | inr p ↦ p.1 ]
 
     entered_less : sum_by steps_left entered + 1 ≡ sum_by steps_left looks
@@ -231,7 +220,7 @@ module _ (net : Net) (waiting : List (List ℕ)) (looks : List Look) (way : List
         let was = ap steps_left (get_or_from_slice_get looks s New New fresh) in
         omega (arith, changed, was)
 
-    pub goes_on_entered : GoesOn net waiting looks waiting entered (way ++ s ∷ [])
+    goes_on_entered : GoesOn net waiting looks waiting entered (way ++ s ∷ [])
     goes_on_entered = record {
       search = search_entered;
       less = (let e = entered_less in omega (arith, e));
@@ -290,7 +279,7 @@ module _ (net : Net) (waiting : List (List ℕ)) (looks : List Look) (way : List
             ])
       ]
 
-      pub search_left : IsSearch net waiting left (take (length way - 1) way)
+      search_left : IsSearch net waiting left (take (length way - 1) way)
       search_left = record {
         places = search.places;
         led = search.led;
@@ -337,14 +326,14 @@ module _ (net : Net) (waiting : List (List ℕ)) (looks : List Look) (way : List
       waits = record { numbers = numbers; here = here; place = length numbers - 1; at = is }
 
       -- it leads to this strand
-      pub followed : (l : Link) × (slice_get net.links number ≡ Some l) × (l.to ≡ s)
+      followed : (l : Link) × (slice_get net.links number ≡ Some l) × (l.to ≡ s)
       followed = search.led s number waits
 
       module _ (link : Link) (at : slice_get net.links number ≡ Some link) where
         to_is : link.to ≡ s
         to_is = (let e : Some followed.0 ≡ Some link = sym followed.1 ∙ at in let one : followed.0 ≡ link = cc in ap (λ l. l.to) (sym one) ∙ followed.2)
 
-        pub fed_last : IsFed net s link.from
+        fed_last : IsFed net s link.from
         fed_last = (number, link, at, refl, to_is)
 
         -- from a new strand, which is entered
