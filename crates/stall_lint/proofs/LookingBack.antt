@@ -1,5 +1,5 @@
 -- The search for a ring back along the links, step by step.
-use Rattle.std.proofs.Common.{◌≡◌, ◌≢◌, ◌⊎◌, inl, inr, ℕ, false, zero, suc, ◌+◌, ◌-◌, ◌<◌, ◌≤◌, ◌==◌, cond, List, [], ◌∷◌, ◌++◌, length, replicate, drop, take, refl, sym, ◌∙◌, ap, subst, arith, Some, slice_get, slice_set, length-set, length-drop, get_or, zero-add}
+use Rattle.std.proofs.Common.{◌≡◌, ◌≢◌, ◌⊎◌, inl, inr, ℕ, false, zero, suc, ◌+◌, ◌-◌, ◌<◌, ◌≤◌, ◌==◌, cond, List, [], ◌∷◌, ◌++◌, length, replicate, drop, take, refl, sym, ◌∙◌, ap, subst, arith, Option, Some, slice_get, slice_set, length-set, length-drop, get_or, zero-add}
 use Rattle.std.specs.List.{sum_by}
 use Rattle.std.proofs.lemmas.Bool.{ne_eqb}
 use Rattle.std.proofs.lemmas.List.{length-replicate}
@@ -57,17 +57,6 @@ written xs k j old x z there at = elim (equal_or_not j k) [
 ]
 
 -- What waits
-
--- nothing waits where no list has a link
-pub none_wait : (net : Net) (waiting : List (List ℕ)) → waiting ≡ replicate (length net.strands) [] → AllWait net 0 waiting
-none_wait net waiting are = subst (AllWait net 0) (sym are) (record {
-  places = length-replicate (length net.strands) [];
-  led = λ t j waits. (
-      let blank = get_copy (length net.strands) [] waits.numbers t waits.here in
-      let at : slice_get [] waits.place ≡ Some j = subst (λ xs. slice_get xs waits.place ≡ Some j) blank waits.at in
-      cc);
-  all = λ j l lt at. absurd (omega (arith, lt));
-})
 
 -- one link more waits with its consumer
 module _ (net : Net) (n : ℕ) (waiting : List (List ℕ)) (all : AllWait net n waiting) (link : Link) (at : slice_get net.links n ≡ Some link) (numbers : List ℕ) (here : slice_get waiting link.to ≡ Some numbers) where
@@ -127,23 +116,27 @@ nothing_waits waiting s numbers here no_last j waits =
     let last = at_some numbers (length numbers - 1) (omega (arith, within)) in
     no_last last.0 last.1
 
--- what is read at a place that there is
-pub link_at : (links now : List Link) → now ≡ links → (j : ℕ) (l : Link) → slice_get links j ≡ Some l → slice_get links j ≡ Some (get_or now j (record { from = 0; output = 0; to = 0; input = 0; queue = false }))
-link_at links now are j l at =
-    let no_link : Link = record { from = 0; output = 0; to = 0; input = 0; queue = false } in
-    sym (ap (λ xs. slice_get xs j) are) ∙ slice_get-get_or now j no_link (let lt = slice_get_within links j l at in let long = ap length are in omega (arith, lt, long))
+-- The links as they are read
 
--- where a link comes from something is known
-pub from_there : (net : Net) → IsWellFormed net → (looks : List Look) → length looks ≡ length net.strands → (j : ℕ) (l : Link) → slice_get net.links j ≡ Some l → l.from < length looks
-from_there net formed looks count j l at =
-    let joined = formed.joined j l at in
-    let lt = slice_get_within net.strands l.from joined.producer joined.from_strand in
-    omega (arith, lt, count)
+abbrev pub no_link : Link
+no_link = record { from = 0; output = 0; to = 0; input = 0; queue = false }
+
+link_at : (links read : List Link) → read ≡ links → (j : ℕ) → j < length links → slice_get links j ≡ Some (get_or read j no_link)
+link_at links read are j lt = sym (ap (λ xs. slice_get xs j) are) ∙ slice_get-get_or read j no_link (let long = ap length are in omega (arith, lt, long))
+
+-- the next link may wait with its consumer
+pub next_link : (net : Net) → IsWellFormed net → (n : ℕ) (waiting : List (List ℕ)) → AllWait net n waiting → (read : List Link) → read ≡ net.links → n < length read → (slice_get net.links n ≡ Some (get_or read n no_link)) × ((get_or read n no_link).to < length waiting)
+next_link net formed n waiting all read are lt =
+    let at = link_at net.links read are n (let long = ap length are in omega (arith, lt, long)) in
+    let joined = formed.joined n (get_or read n no_link) at in
+    let there = slice_get_within net.strands (get_or read n no_link).to joined.consumer joined.to_strand in
+    let places = all.places in
+    (at, omega (arith, there, places))
 
 -- The search
 
 -- nothing was looked at
-pub search_begins : (net : Net) (waiting : List (List ℕ)) (looks : List Look) → AllWait net (length net.links) waiting → looks ≡ replicate (length net.strands) New → IsSearch net waiting looks []
+search_begins : (net : Net) (waiting : List (List ℕ)) (looks : List Look) → AllWait net (length net.links) waiting → looks ≡ replicate (length net.strands) New → IsSearch net waiting looks []
 search_begins net waiting looks all are = subst (λ z. IsSearch net waiting z []) (sym are) (record {
   places = all.places;
   led = all.led;
@@ -200,7 +193,7 @@ module _ (net : Net) (waiting : List (List ℕ)) (looks : List Look) (way : List
       ]
     ]
 
-    pub search_entered : IsSearch net waiting entered (way ++ s ∷ [])
+    search_entered : IsSearch net waiting entered (way ++ s ∷ [])
     search_entered = record {
       places = search.places;
       led = search.led;
@@ -218,7 +211,7 @@ module _ (net : Net) (waiting : List (List ℕ)) (looks : List Look) (way : List
       ];
     }
 
-    pub none_new_entered : NoneIsNew looks entered
+    none_new_entered : NoneIsNew looks entered
     none_new_entered t new = elim (written looks s t New (On (length way)) New fresh new) [ inl p ↦ (let e = p.1 in cc) | inr p ↦ p.1 ]
 
     entered_less : sum_by steps_left entered + 1 ≡ sum_by steps_left looks
@@ -227,7 +220,7 @@ module _ (net : Net) (waiting : List (List ℕ)) (looks : List Look) (way : List
         let was = ap steps_left (get_or_from_slice_get looks s New New fresh) in
         omega (arith, changed, was)
 
-    pub goes_on_entered : GoesOn net waiting looks waiting entered (way ++ s ∷ [])
+    goes_on_entered : GoesOn net waiting looks waiting entered (way ++ s ∷ [])
     goes_on_entered = record {
       search = search_entered;
       less = (let e = entered_less in omega (arith, e));
@@ -286,7 +279,7 @@ module _ (net : Net) (waiting : List (List ℕ)) (looks : List Look) (way : List
             ])
       ]
 
-      pub search_left : IsSearch net waiting left (take (length way - 1) way)
+      search_left : IsSearch net waiting left (take (length way - 1) way)
       search_left = record {
         places = search.places;
         led = search.led;
@@ -333,14 +326,14 @@ module _ (net : Net) (waiting : List (List ℕ)) (looks : List Look) (way : List
       waits = record { numbers = numbers; here = here; place = length numbers - 1; at = is }
 
       -- it leads to this strand
-      pub followed : (l : Link) × (slice_get net.links number ≡ Some l) × (l.to ≡ s)
+      followed : (l : Link) × (slice_get net.links number ≡ Some l) × (l.to ≡ s)
       followed = search.led s number waits
 
       module _ (link : Link) (at : slice_get net.links number ≡ Some link) where
         to_is : link.to ≡ s
         to_is = (let e : Some followed.0 ≡ Some link = sym followed.1 ∙ at in let one : followed.0 ≡ link = cc in ap (λ l. l.to) (sym one) ∙ followed.2)
 
-        pub fed_last : IsFed net s link.from
+        fed_last : IsFed net s link.from
         fed_last = (number, link, at, refl, to_is)
 
         -- from a new strand, which is entered
@@ -468,6 +461,35 @@ module _ (net : Net) (waiting : List (List ℕ)) (looks : List Look) (way : List
                     omega (arith, one)))
                     steps;
               }
+
+-- The last link that waits with the last strand of the way, as it is read
+
+pub record IsRead (net : Net) (waiting : List (List ℕ)) (looks : List Look) (s : Who) (numbers : List ℕ) (number : ℕ) (link : Link) : Type 0 where
+  pub here : slice_get waiting s ≡ Some numbers
+  pub is : slice_get numbers (length numbers - 1) ≡ Some number
+  pub at : slice_get net.links number ≡ Some link
+  pub from_there : link.from < length looks
+
+pub numbers_read : (net : Net) (waiting : List (List ℕ)) (looks : List Look) (way : List Who) → IsSearch net waiting looks way → (s : Who) → slice_get way (length way - 1) ≡ Some s → (read : List ℕ) → slice_get waiting s ≡ Some (get_or waiting s read)
+numbers_read net waiting looks way search s last read =
+    let there = last_there net waiting looks way search s last in
+    let places = search.places in
+    slice_get-get_or waiting s read (omega (arith, there, places))
+
+pub is_read : (net : Net) → IsWellFormed net → (waiting : List (List ℕ)) (looks : List Look) (way : List Who) → IsSearch net waiting looks way → (s : Who) → slice_get way (length way - 1) ≡ Some s → (read : List ℕ) (found : Option ℕ) → found ≡ slice_get (get_or waiting s read) (length (get_or waiting s read) - 1) → (number : ℕ) → found ≡ Some number → (links : List Link) → links ≡ net.links → IsRead net waiting looks s (get_or waiting s read) number (get_or links number no_link)
+is_read net formed waiting looks way search s last read found told number is_some links are =
+    let here = numbers_read net waiting looks way search s last read in
+    let is = sym told ∙ is_some in
+    let led = followed net waiting looks way search s last (get_or waiting s read) here number is in
+    let at = link_at net.links links are number (slice_get_within net.links number led.0 led.1) in
+    let joined = formed.joined number (get_or links number no_link) at in
+    let there = slice_get_within net.strands (get_or links number no_link).from joined.producer joined.from_strand in
+    let count = search.count in
+    record { here = here; is = is; at = at; from_there = omega (arith, there, count) }
+
+-- what is known of a strand, as it is read
+pub look_at : (looks : List Look) (s : Who) (old look : Look) → s < length looks → get_or looks s old ≡ look → slice_get looks s ≡ Some look
+look_at looks s old look lt is = slice_get-get_or looks s old lt ∙ ap Some is
 
 -- From one strand
 

@@ -1,8 +1,8 @@
-ghost use Rattle.std.specs.Prelude.{◌≡◌, ◌-◌, ◌<◌, ◌++◌, ◌∷◌, [], ℕ, None, Some, MatchOption, drop, length, option_map, replicate, slice_get, slice_index_or, slice_set, take, IfOk};
+ghost use Rattle.std.specs.Prelude.{◌≡◌, ◌-◌, ◌<◌, ◌++◌, ◌∷◌, [], length, option_map, replicate, slice_get, slice_set, take, IfOk, MatchOption};
 ghost use Rattle.pipe_model.specs.WellFormed.{IsWellFormed};
+ghost use Rattle.stall_lint.specs.ClosedWalks.{IsRound};
 ghost use Rattle.stall_lint.specs.LooksBack.{AllWait, ClosesAt, GoesOn, IsLooking, IsSearch};
 ghost use Rattle.stall_lint.specs.Never.{HasNoDam};
-ghost use Rattle.stall_lint.specs.ClosedWalks.{IsRound};
 ghost use Rattle.stall_lint.specs.Ranks.{IsRanked};
 
 use pipe_model::{Net, NoMemory};
@@ -24,6 +24,7 @@ impl Model for Waiting {
 }
 
 impl Waiting {
+    // With one more behind them.
     fn push(&mut self, link: u32) -> Result<(), NoMemory>
         ensures { IfOk result (λ done. self.new ≡ self.old ++ link ∷ []) }
     {
