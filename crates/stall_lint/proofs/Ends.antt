@@ -25,10 +25,11 @@ use Rattle.stall_lint.specs.Groups.InOneGroup.{alone, down, up}
 use Rattle.stall_lint.specs.Never.{HasNoDam, NeverStalls}
 use Rattle.stall_lint.proofs.Alike.{strand_of}
 use Rattle.stall_lint.specs.Circles.{AreEnds}
+use Rattle.stall_lint.specs.declared.hops.Hop.{Hop}
 use Rattle.stall_lint.proofs.Leaves.{IsGrouping, IsLeaving, leaves_group}
-use Rattle.stall_lint.proofs.Repeats.{Hop, IsEndless, round}
+use Rattle.stall_lint.proofs.Repeats.{IsEndless, round}
 use Rattle.stall_lint.proofs.RingRounds.{Reaches, acyclic, ends_there}
-use Rattle.stall_lint.proofs.Trails.{group_on}
+use Rattle.stall_lint.proofs.Trails.{group_back, group_on}
 use Rattle.stall_lint.proofs.Turns.{closed_walk}
 
 -- Where nothing is to be shown but that something can't be, finitely many questions may be taken as decided
@@ -105,26 +106,17 @@ module _ (net : Net) (formed : IsWellFormed net) (settled : IsSettled net) (issu
     place start zero = start
     place start (suc i) = next_place (place start i)
 
-    hop_from : (p : Place) → Hop net p.who
-    hop_from p =
-        let way = leaving p.who p.on in
-        record {
-          exit = way.at;
-          in_group = way.in_group;
-          number = way.wait.place;
-          link = way.wait.link;
-          at = way.wait.at;
-          edge = way.edge;
-          next = way.wait.other;
-          ends = wait_ends (fed input files net) whole_formed st way.at way.wait.other way.wait.link way.wait.waits;
-        }
+    hop_from : Place → Hop
+    hop_from p = (let way = leaving p.who p.on in record { exit = way.at; link = way.wait.place; entry = way.wait.other })
 
-    endless : (start : Place) → IsEndless net (λ i. (place start i).who)
+    endless : (start : Place) → IsEndless net (λ i. hop_from (place start i))
     unfolding next_place hop_from
     endless start = record {
-      within = λ i. (let p = place start i in let q = strand_of input files net st p.who p.on.strand p.on.there in slice_get_within net.strands p.who q.0 q.1);
-      hop = λ i. hop_from (place start i);
-      follows = λ i. refl;
+      each = λ i. (
+          let way = leaving (place start i).who (place start i).on in
+          record { link = way.wait.link; at = way.wait.at; edge = way.edge; ends = wait_ends (fed input files net) whole_formed st way.at way.wait.other way.wait.link way.wait.waits });
+      within = λ i. (let p = place start (suc i) in let q = strand_of input files net st p.who p.on.strand p.on.there in slice_get_within net.strands p.who q.0 q.1);
+      joined = λ i. (let p = place start (suc i) in let way = leaving p.who p.on in group_back net way.at p.who way.in_group);
       never_back = λ i exit number. back (leaving (place start i).who (place start i).on).wait (leaving (place start (suc i)).who (place start (suc i)).on).at
           (leaving (place start (suc i)).who (place start (suc i)).on).wait exit number;
     }

@@ -1,43 +1,32 @@
--- A way from group to group that never goes back comes to a group again, and what lies between is a closed walk.
-use Rattle.std.proofs.Common.{◌≡◌, ◌⊎◌, inl, inr, ℕ, zero, suc, ◌+◌, ◌-◌, ◌<◌, ◌≤◌, List, length, map, sym, ◌∙◌, ap, subst, arith, Some, slice_get}
+-- Hops that go on for ever from group to group and never go back come to a group again, and those between are a circle.
+use Rattle.std.proofs.Common.{◌≡◌, ◌⊎◌, inl, inr, ℕ, zero, suc, ◌+◌, ◌-◌, ◌<◌, ◌≤◌, List, length, map, refl, sym, ◌∙◌, ap, subst, arith, Some, slice_get}
 use Rattle.std.specs.List.{range_with_len}
 use Rattle.std.proofs.lemmas.List.FromFn.{length-map-range_with_len, get_or-map-range_with_len}
-use Rattle.std.proofs.lemmas.Option.{slice_get_within, unwrap_or-slice_get}
-use Rattle.std.proofs.lemmas.Bool.{cases_lt}
-use Rattle.std.specs.Prelude.{unwrap_or}
+use Rattle.std.proofs.lemmas.Option.{get_or_from_slice_get, slice_get_within}
+use Rattle.std.proofs.lemmas.Bool.{cases_order}
 use Rattle.pipe_model.specs.declared.net.Net.{Net}
-use Rattle.pipe_model.specs.declared.net.Link.{Link}
 use Rattle.pipe_model.specs.State.{Who}
-use Rattle.pipe_model.proofs.Lists.{few_by_keys}
+use Rattle.pipe_model.proofs.Lists.{at_some, few_by_keys}
 use Rattle.pipe_model.proofs.Numbers.{equal_or_not}
-use Rattle.stall_lint.specs.ClosedWalks.{Goes, IsRound}
-use Rattle.stall_lint.specs.ClosedWalks.Way.{ByLink, Within}
-use Rattle.stall_lint.specs.Groups.{InOneGroup, IsInner}
+use Rattle.stall_lint.specs.Around.{around}
+use Rattle.stall_lint.specs.Circles.{AreEnds, IsCircle, IsHop, next_hop}
+use Rattle.stall_lint.specs.ClosedWalks.{IsRound}
+use Rattle.stall_lint.specs.Groups.{InOneGroup}
 use Rattle.stall_lint.specs.Groups.InOneGroup.{alone}
-use Rattle.stall_lint.specs.Circles.{AreEnds}
-use Rattle.stall_lint.proofs.Trails.{Built, before, closed, group_back, group_on, single, widen}
+use Rattle.stall_lint.specs.declared.hops.Hop.{Hop}
+use Rattle.stall_lint.proofs.Circuits.{circle_round}
+use Rattle.stall_lint.proofs.Trails.{after_is, group_back, group_on}
 
--- from the group of a strand over an edge to another strand
-pub record Hop (net : Net) (s : Who) : Type 0 where
-  pub exit : Who
-  pub in_group : InOneGroup net exit s
-  pub number : ℕ
-  pub link : Link
-  pub at : slice_get net.links number ≡ Some link
-  pub edge : IsInner net link → ⊥
-  pub next : Who
-  pub ends : AreEnds link exit next
+-- hops that go on for ever from group to group, and never back over the edge by which they came
+pub record IsEndless (net : Net) (hop : ℕ → Hop) : Type 0 where
+  pub each : (i : ℕ) → IsHop net (hop i)
+  pub within : (i : ℕ) → (hop i).entry < length net.strands
+  pub joined : (i : ℕ) → InOneGroup net (hop i).entry (hop (suc i)).exit
+  pub never_back : (i : ℕ) → (hop (suc i)).exit ≡ (hop i).entry → (hop (suc i)).link ≡ (hop i).link → ⊥
 
--- a way that goes on for ever, and never back over the edge by which it came
-pub record IsEndless (net : Net) (entry : ℕ → Who) : Type 0 where
-  pub within : (i : ℕ) → entry i < length net.strands
-  pub hop : (i : ℕ) → Hop net (entry i)
-  pub follows : (i : ℕ) → (hop i).next ≡ entry (suc i)
-  pub never_back : (i : ℕ) → (hop (suc i)).exit ≡ entry (suc i) → (hop (suc i)).number ≡ (hop i).number → ⊥
-
-module _ (net : Net) (entry : ℕ → Who) (way : IsEndless net entry) (one_or_two : (s t : Who) → s < length net.strands → t < length net.strands → InOneGroup net s t ⊎ (InOneGroup net s t → ⊥)) where
+module _ (net : Net) (hop : ℕ → Hop) (way : IsEndless net hop) (one_or_two : (s t : Who) → s < length net.strands → t < length net.strands → InOneGroup net s t ⊎ (InOneGroup net s t → ⊥)) where
   abbrev Same : ℕ → ℕ → Type 0
-  Same i j = InOneGroup net (entry i) (entry j)
+  Same i j = InOneGroup net (hop i).entry (hop j).entry
 
   -- before j all groups are different, and j comes back to that of i
   record Repeat : Type 0 where
@@ -49,7 +38,7 @@ module _ (net : Net) (entry : ℕ → Who) (way : IsEndless net entry) (one_or_t
 
   some_or_none : (m k : ℕ) → ((i : ℕ) × (i < m) × Same i k) ⊎ ((i : ℕ) → i < m → Same i k → ⊥)
   some_or_none zero k = inr (λ i lt same. absurd (omega (arith, lt)))
-  some_or_none (suc m) k = elim (one_or_two (entry m) (entry k) (way.within m) (way.within k)) [
+  some_or_none (suc m) k = elim (one_or_two (hop m).entry (hop k).entry (way.within m) (way.within k)) [
     | inl same ↦ inl (m, omega arith, same)
     | inr other ↦ elim (some_or_none m k) [
       | inl some ↦ inl (some.0, (let lt = some.1 in omega (arith, lt)), some.2)
@@ -73,157 +62,115 @@ module _ (net : Net) (entry : ℕ → Who) (way : IsEndless net entry) (one_or_t
     ]
   ]
 
+  -- some hops from one on
+  abbrev hops : ℕ → ℕ → List Hop
+  hops from n = map hop (range_with_len from n)
+
+  hop_at : (from n k : ℕ) (one : Hop) → slice_get (hops from n) k ≡ Some one → (k < n) × (one ≡ hop (from + k))
+  hop_at from n k one at =
+      let count = length-map-range_with_len hop from n in
+      let place = slice_get_within (hops from n) k one at in
+      let lt : k < n = omega (arith, count, place) in
+      (lt, sym (get_or_from_slice_get (hops from n) k one one at) ∙ get_or-map-range_with_len hop from n k (from + k) one lt refl)
+
+  -- what no two of them have in common tells one from the others
+  one_place : (from n : ℕ) (Both : Hop → Hop → Type 0) → ((x y : Hop) → Both x y → Both y x) → ((a b : ℕ) → a < b → from ≤ a → b < from + n → Both (hop a) (hop b) → ⊥) →
+      (j k : ℕ) (x y : Hop) → slice_get (hops from n) j ≡ Some x → slice_get (hops from n) k ≡ Some y → Both x y → j ≡ k
+  one_place from n Both back none j k x y at_x at_y both =
+      let p = hop_at from n j x at_x in
+      let q = hop_at from n k y at_y in
+      let in_j = p.0 in
+      let in_k = q.0 in
+      let they : Both (hop (from + j)) (hop (from + k)) = subst (Both (hop (from + j))) q.1 (subst (λ z. Both z y) p.1 both) in
+      elim (cases_order j k) [
+        | inl it ↦ it
+        | inr other ↦ absurd (elim other [
+          | inl less ↦ none (from + j) (from + k) (omega (arith, less)) (omega arith) (omega (arith, in_k)) they
+          | inr more ↦ none (from + k) (from + j) (omega (arith, more)) (omega arith) (omega (arith, in_j)) (back (hop (from + j)) (hop (from + k)) they)
+        ])
+      ]
+
   -- there are no more groups than strands
   repeat : Repeat
   repeat = elim (repeat_or_none (suc (length net.strands))) [
     | inl it ↦ it
-    | inr none ↦ absurd (too_many none)
+    | inr none ↦
+        let few = few_by_keys (λ x. x.entry) (length net.strands) (hops 0 (suc (length net.strands)))
+        (one_place 0 (suc (length net.strands)) (λ x y. x.entry ≡ y.entry) (λ x y. sym) (λ a b less from to one. none a b less (omega (arith, to)) (subst (InOneGroup net (hop a).entry) one alone)))
+        (λ j x at. subst (λ z. z.entry < length net.strands) (sym (hop_at 0 (suc (length net.strands)) j x at).1) (way.within (0 + j))) in
+        let count = length-map-range_with_len hop 0 (suc (length net.strands)) in
+        absurd (omega (arith, few, count))
   ]
-    where
-      entries : List Who
-      entries = map entry (range_with_len 0 (suc (length net.strands)))
-
-      entry_at : (k : ℕ) (s : Who) → slice_get (map entry (range_with_len 0 (suc (length net.strands)))) k ≡ Some s → (k < suc (length net.strands)) × (s ≡ entry k)
-      entry_at k s at =
-          let count = length-map-range_with_len entry 0 (suc (length net.strands)) in
-          let place = slice_get_within (map entry (range_with_len 0 (suc (length net.strands)))) k s at in
-          let lt : k < suc (length net.strands) = omega (arith, count, place) in
-          (lt, ap (λ m. unwrap_or m 0) (sym at) ∙ unwrap_or-slice_get (map entry (range_with_len 0 (suc (length net.strands)))) k 0 ∙ get_or-map-range_with_len entry 0 (suc (length net.strands)) k k 0 lt (omega arith))
-
-      too_many : ((a b : ℕ) → a < b → b < suc (length net.strands) → Same a b → ⊥) → ⊥
-      too_many none =
-          let few = few_by_keys (λ s. s) (length net.strands) (map entry (range_with_len 0 (suc (length net.strands))))
-          (λ j k x y at_x at_y one. one_place none j k (entry_at j x at_x).0 (entry_at k y at_y).0 (sym (entry_at j x at_x).1 ∙ one ∙ (entry_at k y at_y).1))
-          (λ j x at. subst (λ z. z < length net.strands) (sym (entry_at j x at).1) (way.within j)) in
-          let count = length-map-range_with_len entry 0 (suc (length net.strands)) in
-          omega (arith, few, count)
-        where
-          one_place : ((a b : ℕ) → a < b → b < suc (length net.strands) → Same a b → ⊥) → (j k : ℕ) → j < suc (length net.strands) → k < suc (length net.strands) → entry j ≡ entry k → j ≡ k
-          one_place none j k in_j in_k one = elim (equal_or_not j k) [
-            | inl it ↦ it
-            | inr other ↦ absurd (elim (cases_lt j k) [
-              | inl less ↦ none j k less in_k (subst (InOneGroup net (entry j)) one alone)
-              | inr more_or_same ↦ none k j (omega (arith, other, more_or_same)) in_j (subst (InOneGroup net (entry k)) (sym one) alone)
-            ])
-          ]
 
   module _ (r : Repeat) where
-    abbrev exit : ℕ → Who
-    exit t = (way.hop t).exit
+    abbrev long : ℕ
+    long = r.j - r.i
 
-    abbrev number : ℕ → ℕ
-    number t = (way.hop t).number
+    -- the hops behind i, up to j
+    abbrev between : List Hop
+    between = hops (suc r.i) long
 
-    -- two hops on the way round go over two links
-    two_links : (a b : ℕ) → a < b → b < r.j → number a ≡ number b → ⊥
-    two_links a b less lt one = by_ends ha.ends (subst (λ z. AreEnds z hb.exit hb.next) (sym link) hb.ends)
+    -- no two come to one group
+    apart : (a b : ℕ) → a < b → suc r.i ≤ a → b < suc r.i + long → Same a b → ⊥
+    apart a b less from to same = elim (equal_or_not b r.j) [
+      | inl end ↦ r.apart r.i a (omega (arith, from)) (omega (arith, less, end)) (group_on net (hop r.i).entry (hop r.j).entry (hop a).entry r.same (group_back net (hop a).entry (hop r.j).entry (subst (Same a) end same)))
+      | inr other ↦ r.apart a b less (let fit = r.less in omega (arith, to, other, fit)) same
+    ]
+
+    -- nor goes over one link
+    two_links : (a b : ℕ) → a < b → suc r.i ≤ a → b < suc r.i + long → (hop a).link ≡ (hop b).link → ⊥
+    two_links a zero less from to one = absurd (omega (arith, less))
+    two_links a (suc b) less from to one = by_ends (way.each a).ends (subst (λ z. AreEnds z (hop (suc b)).exit (hop (suc b)).entry) (sym link) (way.each (suc b)).ends)
       where
-        ha : Hop net (entry a)
-        ha = way.hop a
+        link : (way.each a).link ≡ (way.each (suc b)).link
+        link = (let e : Some (way.each a).link ≡ Some (way.each (suc b)).link = sym (way.each a).at ∙ ap (slice_get net.links) one ∙ (way.each (suc b)).at in cc)
 
-        hb : Hop net (entry b)
-        hb = way.hop b
+        one_entry : (hop a).entry ≡ (hop (suc b)).entry → ⊥
+        one_entry it = apart a (suc b) less from to (subst (InOneGroup net (hop a).entry) it alone)
 
-        link : (way.hop a).link ≡ (way.hop b).link
-        link = (let e : Some (way.hop a).link ≡ Some (way.hop b).link = sym (way.hop a).at ∙ ap (slice_get net.links) one ∙ (way.hop b).at in cc)
+        crossed : (hop a).entry ≡ (hop (suc b)).exit → ⊥
+        crossed it = elim (equal_or_not a b) [
+          | inl next ↦ way.never_back b (sym it ∙ ap (λ z. (hop z).entry) next) (sym one ∙ ap (λ z. (hop z).link) next)
+          | inr earlier ↦ r.apart a b (omega (arith, less, earlier)) (let fit = r.less in omega (arith, to, fit)) (subst (λ z. InOneGroup net z (hop b).entry) (sym it) (group_back net (hop b).entry (hop (suc b)).exit (way.joined b)))
+        ]
 
-        one_exit : (way.hop a).exit ≡ (way.hop b).exit → ⊥
-        one_exit it = r.apart a b less lt (group_on net (entry a) (way.hop b).exit (entry b) (subst (InOneGroup net (entry a)) it (group_back net (way.hop a).exit (entry a) (way.hop a).in_group)) (way.hop b).in_group)
-
-        crossed : (way.hop a).next ≡ (way.hop b).exit → ⊥
-        crossed it =
-            let to : entry (suc a) ≡ (way.hop b).exit = sym (way.follows a) ∙ it in
-            elim (equal_or_not (suc a) b) [
-              | inl next ↦ way.never_back a
-                  (ap (λ z. (way.hop z).exit) next ∙ sym to)
-                  (ap (λ z. (way.hop z).number) next ∙ sym one)
-              | inr later ↦ r.apart (suc a) b (omega (arith, less, later)) lt (subst (λ z. InOneGroup net z (entry b)) (sym to) (way.hop b).in_group)
-            ]
-
-        by_ends : AreEnds ha.link ha.exit ha.next → AreEnds ha.link hb.exit hb.next → ⊥
-        by_ends (inl x) (inl y) = one_exit (sym x.0 ∙ y.0)
-        by_ends (inr x) (inr y) = one_exit (sym x.1 ∙ y.1)
+        by_ends : AreEnds (way.each a).link (hop a).exit (hop a).entry → AreEnds (way.each a).link (hop (suc b)).exit (hop (suc b)).entry → ⊥
+        by_ends (inl x) (inl y) = one_entry (sym x.1 ∙ y.1)
+        by_ends (inr x) (inr y) = one_entry (sym x.0 ∙ y.0)
         by_ends (inl x) (inr y) = crossed (sym x.1 ∙ y.1)
         by_ends (inr x) (inl y) = crossed (sym x.0 ∙ y.0)
 
-    -- a strand in a group that the way round comes to from place t on
-    record InTrail (t : ℕ) (s : Who) : Type 0 where
-      place : ℕ
-      from : t ≤ place
-      to : place ≤ r.j
-      in_group : InOneGroup net s (entry place)
-
-    -- the number of a link over which it goes
-    abbrev Numbers : ℕ → ℕ → Type 0
-    Numbers t n = (n ≡ number r.i) ⊎ ((u : ℕ) × (t ≤ u) × (u < r.j) × (n ≡ number u))
-
-    abbrev Way_round : ℕ → Type 0
-    Way_round t = Built net (entry (suc r.i)) (InTrail t) (Numbers t) (entry t)
-
-    -- a hop goes over its link to the next entry
-    goes_over : (t : ℕ) → Goes net (exit t) (ByLink (number t)) (entry (suc t))
-    goes_over t = ((way.hop t).link, (way.hop t).at, subst (AreEnds (way.hop t).link (way.hop t).exit) (way.follows t) (way.hop t).ends)
-
-    -- from a group's entry to the strand at which it is left
-    enters : (t : ℕ) (z : Who) → t ≤ r.j → InOneGroup net (entry t) z → (Of : Who → Type 0) (By : ℕ → Type 0) → (Of (entry t) → ⊥) → ((x : Who) → Of x → InTrail t x) → ((n : ℕ) → By n → Numbers t n) →
-        Built net (entry (suc r.i)) (λ x. (x ≡ z) ⊎ Of x) By z → Way_round t
-    enters t z le chain Of By new wide wider built = elim (equal_or_not (entry t) z) [
-      | inl it ↦ subst (Built net (entry (suc r.i)) (InTrail t) (Numbers t)) (sym it) (widen net (entry (suc r.i)) (λ x. (x ≡ z) ⊎ Of x) (InTrail t) By (Numbers t) z all wider built)
-      | inr other ↦ widen net (entry (suc r.i)) (λ x. (x ≡ entry t) ⊎ ((x ≡ z) ⊎ Of x)) (InTrail t) (Numbers t) (Numbers t) (entry t) (λ x of. elim of [ inl it ↦ own x (entry t) it alone | inr rest ↦ all x rest ]) (λ n by. by)
-          (before net (entry (suc r.i)) (λ x. (x ≡ z) ⊎ Of x) By (Numbers t) (entry t) z Within chain (λ of. elim of [ inl it ↦ other it | inr rest ↦ new rest ]) wider (λ n no. cc) (λ n no by. cc) built)
-    ]
+    circle : IsCircle net between
+    circle = record {
+      some = (let count = length-map-range_with_len hop (suc r.i) long in let less = r.less in omega (arith, count, less));
+      each = λ k one at. subst (IsHop net) (sym (hop_at (suc r.i) long k one at).1) (way.each (suc r.i + k));
+      joined = λ k one next at at_next. subst (λ z. InOneGroup net z.entry next.exit) (sym (hop_at (suc r.i) long k one at).1) (joined k next at_next);
+      apart = one_place (suc r.i) long (λ x y. InOneGroup net x.entry y.entry) (λ x y. group_back net x.entry y.entry) apart;
+      once = one_place (suc r.i) long (λ x y. x.link ≡ y.link) (λ x y. sym) two_links;
+    }
       where
-        own : (x s : Who) → x ≡ s → InOneGroup net (entry t) s → InTrail t x
-        own x s it in_it = record { place = t; from = omega arith; to = le; in_group = subst (λ y. InOneGroup net y (entry t)) (sym it) (group_back net (entry t) s in_it) }
+        joined : (k : ℕ) (next : Hop) → slice_get between (next_hop between k) ≡ Some next → InOneGroup net (hop (suc r.i + k)).entry next.exit
+        joined k next at = elim (after_is (length between) k) [
+          | inl last ↦
+              let first = hop_at (suc r.i) long 0 next (ap (slice_get between) (sym last.1) ∙ at) in
+              let start : suc r.i + 0 ≡ suc r.i = omega arith in
+              let count = length-map-range_with_len hop (suc r.i) long in
+              let less = r.less in
+              let end_of = last.0 in
+              let end : suc r.i + k ≡ r.j = omega (arith, end_of, count, less) in
+              group_on net (hop (suc r.i + k)).entry (hop r.i).entry next.exit
+              (subst (λ z. Same z r.i) (sym end) (group_back net (hop r.i).entry (hop r.j).entry r.same))
+              (subst (λ z. InOneGroup net (hop r.i).entry z.exit) (sym (first.1 ∙ ap hop start)) (way.joined r.i))
+          | inr other ↦
+              let second = hop_at (suc r.i) long (suc k) next (ap (slice_get between) (sym other.1) ∙ at) in
+              let on : suc r.i + suc k ≡ suc (suc r.i + k) = omega arith in
+              subst (λ z. InOneGroup net (hop (suc r.i + k)).entry z.exit) (sym (second.1 ∙ ap hop on)) (way.joined (suc r.i + k))
+        ]
 
-        all : (x : Who) → (x ≡ z) ⊎ Of x → InTrail t x
-        all x (inl it) = own x z it chain
-        all x (inr of) = wide x of
-
-    -- no strand of a group that it comes to stands in one that it comes to later
-    fresh : (t : ℕ) → r.i < t → t < r.j → (s : Who) → InOneGroup net (entry t) s → InTrail (suc t) s → ⊥
-    fresh t later lt s chain on = elim (equal_or_not on.place r.j) [
-      | inl end ↦ r.apart r.i t later lt (group_on net (entry r.i) (entry r.j) (entry t) r.same (group_back net (entry t) (entry r.j) (subst (Same t) end to_place)))
-      | inr other ↦ (let from = on.from in let to = on.to in r.apart t on.place (omega (arith, from)) (omega (arith, to, other)) to_place)
-    ]
-      where
-        to_place : Same t on.place
-        to_place = group_on net (entry t) s (entry on.place) chain on.in_group
-
-    -- the way round from a place on
-    way_round : (d t : ℕ) → t + d ≡ r.j → r.i < t → Way_round t
-    unfolding goes_over
-    way_round zero t is later =
-        let end : t ≡ r.j = omega (arith, is) in
-        let chain : InOneGroup net (entry t) (exit r.i) =
-        group_on net (entry t) (entry r.i) (exit r.i) (subst (λ z. InOneGroup net (entry z) (entry r.i)) (sym end) (group_back net (entry r.i) (entry r.j) r.same)) (group_back net (exit r.i) (entry r.i) (way.hop r.i).in_group) in
-        enters t (exit r.i) (omega (arith, end)) chain (λ x. ⊥) (λ n. n ≡ number r.i) (λ never. never) (λ x never. absurd never) (λ n it. inl it)
-        (let over = goes_over r.i in single net (entry (suc r.i)) (exit r.i) (number r.i) over.0 over.1 (way.hop r.i).edge over.2)
-    way_round (suc d) t is later =
-        let lt : t < r.j = omega (arith, is) in
-        let chain : InOneGroup net (entry t) (exit t) = group_back net (exit t) (entry t) (way.hop t).in_group in
-        let rest : Way_round (suc t) = way_round d (suc t) (omega (arith, is)) (omega (arith, later)) in
-        let over : Built net (entry (suc r.i)) (λ x. (x ≡ exit t) ⊎ InTrail (suc t) x) (Numbers t) (exit t) =
-        before net (entry (suc r.i)) (InTrail (suc t)) (Numbers (suc t)) (Numbers t) (exit t) (entry (suc t)) (ByLink (number t)) (goes_over t) (fresh t later lt (exit t) chain) wider (by_this lt) (not_later lt) rest in
-        enters t (exit t) (omega (arith, lt)) chain (InTrail (suc t)) (Numbers t) (fresh t later lt (entry t) alone) wide (λ n by. by) over
-      where
-        wide : (x : Who) → InTrail (suc t) x → InTrail t x
-        wide x on = (let from = on.from in record { place = on.place; from = omega (arith, from); to = on.to; in_group = on.in_group })
-
-        wider : (n : ℕ) → Numbers (suc t) n → Numbers t n
-        wider n (inl it) = inl it
-        wider n (inr some) = inr (some.0, (let from = some.1 in omega (arith, from)), some.2, some.3)
-
-        by_this : t < r.j → (n : ℕ) → ByLink (number t) ≡ ByLink n → Numbers t n
-        by_this lt n it = inr (t, omega arith, lt, cc)
-
-        not_later : t < r.j → (n : ℕ) → ByLink (number t) ≡ ByLink n → Numbers (suc t) n → ⊥
-        not_later lt n it (inl first) = two_links r.i t later lt (sym first ∙ (let z : n ≡ number t = cc in z))
-        not_later lt n it (inr some) = (let from = some.1 in two_links t some.0 (omega (arith, from)) some.2 ((let z : number t ≡ n = cc in z) ∙ some.3))
+    circuit : (walk : List Who) × IsRound net walk
+    circuit =
+        let first = at_some between 0 circle.some in
+        (around first.0 between, circle_round net between first.0 first.1 circle)
 
   pub round : (walk : List Who) × IsRound net walk
-  round =
-      let r = repeat in
-      let less = r.less in
-      let built = way_round r (r.j - suc r.i) (suc r.i) (omega (arith, less)) (omega arith) in
-      (built.walk, closed net (InTrail r (suc r.i)) (Numbers r (suc r.i)) (entry (suc r.i)) built)
+  round = circuit repeat
