@@ -1,6 +1,5 @@
 -- An edge to a group on the way closes a circle.
-use Rattle.std.proofs.Common.{◌≡◌, ◌≢◌, ◌⊎◌, inl, inr, ℕ, zero, suc, ◌+◌, ◌-◌, ◌≤◌, cond, List, [], ◌∷◌, ◌++◌, drop, length, length-drop, refl, sym, ◌∙◌, ap, subst, arith, Some, slice_get, eq-eqb}
-use Rattle.std.proofs.lemmas.Bool.{ne_eqb}
+use Rattle.std.proofs.Common.{◌≡◌, ◌≢◌, ◌⊎◌, inl, inr, ℕ, zero, suc, ◌+◌, ◌-◌, ◌≤◌, List, [], ◌∷◌, ◌++◌, drop, length, length-drop, refl, sym, ◌∙◌, ap, subst, arith, Some, slice_get}
 use Rattle.std.proofs.lemmas.Option.{slice_get_within}
 use Rattle.pipe_model.specs.declared.net.Net.{Net}
 use Rattle.pipe_model.proofs.Lists.{length_more}
@@ -14,19 +13,13 @@ use Rattle.stall_lint.specs.Listed.{Joins}
 use Rattle.stall_lint.proofs.Branches.{hop_joins, split_last}
 use Rattle.stall_lint.proofs.Listing.{joins_two}
 use Rattle.stall_lint.proofs.Places.{one_depth}
+use Rattle.stall_lint.proofs.Trails.{after_last, after_other}
 
 -- what stands behind the first of a list
 get_drop : {A : Type 0} (d : ℕ) (xs : List A) (k : ℕ) → slice_get (drop d xs) k ≡ slice_get xs (d + k)
 get_drop zero xs k = ap (slice_get xs) (omega arith)
 get_drop (suc d) [] k = refl
 get_drop (suc d) (x ∷ xs) k = get_drop d xs k ∙ ap (slice_get (x ∷ xs)) (let e : suc (d + k) ≡ suc d + k = omega arith in e)
-
--- the place behind the last is the first, and behind any other the next
-next_last : (hops : List Hop) (k : ℕ) → suc k ≡ length hops → next_hop hops k ≡ 0
-next_last hops k last = ap (λ b. cond b 0 (suc k)) (eq-eqb (suc k) (length hops) last)
-
-next_other : (hops : List Hop) (k : ℕ) → suc k ≢ length hops → next_hop hops k ≡ suc k
-next_other hops k other = ap (λ b. cond b 0 (suc k)) (ne_eqb (suc k) (length hops) other)
 
 module _ (net : Net) (labels : List ℕ) (are : AreLabels net labels) (edges : List (List ℕ)) (places : Places) (way : List Hop) (at : ℕ) (growing : IsGrowing net labels edges places way at) (closing : Hop) (number next depth : ℕ) (leads : LeadsTo net labels closing number at next) (waits : IsOpen places next depth) (fresh : ¬ IsReachedBy places at number) where
   abbrev hops : List Hop
@@ -57,7 +50,7 @@ module _ (net : Net) (labels : List ℕ) (are : AreLabels net labels) (edges : L
           let size = length-drop depth way in
           let other : suc k ≢ length hops = (λ e. omega (arith, e, long, lt, size)) in
           let on = growing.walk.on (depth + k) hop (sym (get_drop depth way k) ∙ inside) in
-          let next_is = next_other hops k other in
+          let next_is = after_other (length hops) k other in
           record {
             from = on.from;
             to = on.to;
@@ -72,7 +65,7 @@ module _ (net : Net) (labels : List ℕ) (are : AreLabels net labels) (edges : L
       the_last is =
           let size = length-drop depth way in
           let end : suc k ≡ length hops = omega (arith, is, long, size) in
-          let next_is = next_last hops k end in
+          let next_is = after_last (length hops) k end in
           record {
             from = at;
             to = next;
@@ -89,9 +82,9 @@ module _ (net : Net) (labels : List ℕ) (are : AreLabels net labels) (edges : L
     where
       by : (suc j ≡ length hops) ⊎ (suc j ≢ length hops) → (suc k ≡ length hops) ⊎ (suc k ≢ length hops) → j ≡ k
       by (inl a) (inl b) = omega (arith, a, b)
-      by (inl a) (inr b) = (let x = next_last hops j a in let y = next_other hops k b in absurd (omega (arith, x, y, same)))
-      by (inr a) (inl b) = (let x = next_other hops j a in let y = next_last hops k b in absurd (omega (arith, x, y, same)))
-      by (inr a) (inr b) = (let x = next_other hops j a in let y = next_other hops k b in omega (arith, x, y, same))
+      by (inl a) (inr b) = (let x = after_last (length hops) j a in let y = after_other (length hops) k b in absurd (omega (arith, x, y, same)))
+      by (inr a) (inl b) = (let x = after_other (length hops) j a in let y = after_last (length hops) k b in absurd (omega (arith, x, y, same)))
+      by (inr a) (inr b) = (let x = after_other (length hops) j a in let y = after_other (length hops) k b in omega (arith, x, y, same))
 
   -- the last hop's edge isn't the one over which the group was reached from which it goes
   last_fresh : (j k : ℕ) (hop other : Hop) (a : IsPlaced j hop) (b : IsPlaced k other) → hop.link ≡ other.link → a.from ≡ b.to → suc j ≡ length hops → suc k ≢ length hops → ⊥
@@ -118,7 +111,7 @@ module _ (net : Net) (labels : List ℕ) (are : AreLabels net labels) (edges : L
       by a b meets met up down (inl x) (inl y) = omega (arith, x, y)
       by a b meets met up down (inl x) (inr y) = absurd (last_fresh j k hop other a b same meets x y)
       by a b meets met up down (inr x) (inl y) = absurd (last_fresh k j other hop b a (sym same) (sym met) y x)
-      by a b meets met up down (inr x) (inr y) = (let p = next_other hops j x in let q = next_other hops k y in absurd (omega (arith, p, q, up, down)))
+      by a b meets met up down (inr x) (inr y) = (let p = after_other (length hops) j x in let q = after_other (length hops) k y in absurd (omega (arith, p, q, up, down)))
 
   pub closes : IsCircle net hops
   closes = record { some = omega (arith, long); each = each; joined = joined; apart = apart; once = once }

@@ -1,5 +1,5 @@
 -- Strands of which each is fed by the next and the last by the first.
-use Rattle.std.proofs.Common.{◌≡◌, inl, inr, ℕ, suc, ◌<◌, List, length, map, refl, sym, ◌∙◌, ap, subst, arith, Option, Some, None, slice_get}
+use Rattle.std.proofs.Common.{◌≡◌, inr, ℕ, ◌<◌, List, length, map, refl, sym, ◌∙◌, ap, subst, arith, Option, Some, None, slice_get}
 use Rattle.std.specs.List.{range_with_len}
 use Rattle.std.specs.Prelude.{unwrap_or}
 use Rattle.std.proofs.lemmas.List.FromFn.{length-map-range_with_len, get_or-map-range_with_len}
@@ -8,11 +8,10 @@ use Rattle.pipe_model.specs.declared.net.Net.{Net}
 use Rattle.pipe_model.specs.declared.net.Link.{Link}
 use Rattle.pipe_model.specs.State.{Who}
 use Rattle.pipe_model.proofs.Lists.{at_some}
-use Rattle.pipe_model.proofs.Numbers.{equal_or_not}
 use Rattle.stall_lint.specs.ClosedWalks.{Goes, IsRound, IsStep, Way, behind}
 use Rattle.stall_lint.specs.ClosedWalks.Way.{ByLink}
 use Rattle.stall_lint.specs.LooksBack.{IsFed}
-use Rattle.stall_lint.proofs.NoRounds.{behind_last, behind_other}
+use Rattle.stall_lint.proofs.Trails.{after_within}
 
 -- strands without repeats of which each is fed by the next and the last by the first are a round
 module _ (net : Net) (walk : List Who) (some : 0 < length walk) (once : (j k : ℕ) (s : Who) → slice_get walk j ≡ Some s → slice_get walk k ≡ Some s → j ≡ k) (fed : (k : ℕ) (s t : Who) → IsStep walk k s t → IsFed net s t) where
@@ -58,19 +57,13 @@ module _ (net : Net) (walk : List Who) (some : 0 < length walk) (once : (j k : �
       let lt : k < length walk = omega (arith, n, place) in
       (lt, ap (λ m. unwrap_or m (ByLink 0)) (sym at) ∙ unwrap_or-slice_get ways k (ByLink 0) ∙ get_or-map-range_with_len (λ k. ByLink (number k)) 0 (length walk) k k (ByLink 0) lt (omega arith))
 
-  behind_within : (k : ℕ) → k < length walk → behind walk k < length walk
-  behind_within k lt = elim (equal_or_not (suc k) (length walk)) [
-    | inl last ↦ (let x = behind_last walk k last in omega (arith, x, lt))
-    | inr other ↦ (let x = behind_other walk k other in omega (arith, x, lt, other))
-  ]
-
   -- a link leads to one strand
   one_place : (j k n : ℕ) → (j < length walk) × (ByLink n ≡ ByLink (number j)) → (k < length walk) × (ByLink n ≡ ByLink (number k)) → j ≡ k
   one_place j k n p q =
       let s = at_some walk j p.0 in
-      let s_next = at_some walk (behind walk j) (behind_within j p.0) in
+      let s_next = at_some walk (behind walk j) (after_within (length walk) j p.0) in
       let t = at_some walk k q.0 in
-      let t_next = at_some walk (behind walk k) (behind_within k q.0) in
+      let t_next = at_some walk (behind walk k) (after_within (length walk) k q.0) in
       let a = leads j s.0 s_next.0 (record { here = s.1; next = s_next.1 }) in
       let b = leads k t.0 t_next.0 (record { here = t.1; next = t_next.1 }) in
       let x : n ≡ number j = (let e = p.1 in cc) in

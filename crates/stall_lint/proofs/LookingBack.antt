@@ -20,7 +20,7 @@ use Rattle.stall_lint.specs.Never.{HasNoDam}
 use Rattle.stall_lint.specs.declared.rings.Look.{Look}
 use Rattle.stall_lint.specs.declared.rings.Look.TheVariants.{New, On, Done}
 use Rattle.stall_lint.proofs.FedRounds.{fed_round}
-use Rattle.stall_lint.proofs.NoRounds.{behind_last, behind_other}
+use Rattle.stall_lint.proofs.Trails.{after_last, after_other}
 use Rattle.stall_lint.proofs.RingRounds.{no_later}
 
 -- Lists
@@ -432,7 +432,7 @@ module _ (net : Net) (waiting : List (List ℕ)) (looks : List Look) (way : List
               let within = slice_get_within way place link.from begins_at in
               elim (equal_or_not (suc k) (length walk)) [
                 | inl end ↦ (
-                    let at_b = in_walk 0 b (ap (slice_get walk) (sym (behind_last walk k end)) ∙ step.next) in
+                    let at_b = in_walk 0 b (ap (slice_get walk) (sym (after_last (length walk) k end)) ∙ step.next) in
                     let first : place + 0 ≡ place = omega arith in
                     let e : Some link.from ≡ Some b = sym begins_at ∙ ap (slice_get way) (sym first) ∙ at_b in
                     let is_b : link.from ≡ b = cc in
@@ -441,7 +441,7 @@ module _ (net : Net) (waiting : List (List ℕ)) (looks : List Look) (way : List
                     let is_a : s ≡ a = cc in
                     subst (λ z. IsFed net z b) is_a (subst (IsFed net s) is_b fed_last))
                 | inr other ↦ (
-                    let at_b = in_walk (suc k) b (ap (slice_get walk) (sym (behind_other walk k other)) ∙ step.next) in
+                    let at_b = in_walk (suc k) b (ap (slice_get walk) (sym (after_other (length walk) k other)) ∙ step.next) in
                     let further : place + suc k ≡ suc (place + k) = omega arith in
                     search.fed (place + k) a b here_a (ap (slice_get way) (sym further) ∙ at_b))
               ]

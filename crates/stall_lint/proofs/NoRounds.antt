@@ -1,6 +1,5 @@
 -- In a rooted net without cycles no walk is closed.
-use Rattle.std.proofs.Common.{◌≡◌, ◌≢◌, ◌⊎◌, inl, inr, ℕ, zero, suc, ◌+◌, ◌-◌, ◌<◌, ◌≤◌, cond, List, length, refl, sym, ◌∙◌, ap, subst, arith, Some, slice_get, eq-eqb}
-use Rattle.std.proofs.lemmas.Bool.{ne_eqb}
+use Rattle.std.proofs.Common.{◌≡◌, ◌⊎◌, inl, inr, ℕ, zero, suc, ◌+◌, ◌-◌, ◌<◌, ◌≤◌, List, length, refl, sym, ◌∙◌, ap, subst, arith, Some, slice_get}
 use Rattle.std.proofs.lemmas.Option.{slice_get_within}
 use Rattle.pipe_model.specs.declared.net.Net.{Net}
 use Rattle.pipe_model.specs.declared.net.Link.{Link}
@@ -15,20 +14,7 @@ use Rattle.stall_lint.specs.Groups.{IsInner}
 use Rattle.stall_lint.specs.Rooted.{IsAbove, IsRooted}
 use Rattle.stall_lint.specs.Circles.{AreEnds}
 use Rattle.stall_lint.proofs.EdgeEnds.{IsEdge, apart, edge_ends, one_label}
-
--- the place behind the last is the first
-pub behind_last : (walk : List Who) (k : ℕ) → suc k ≡ length walk → behind walk k ≡ 0
-behind_last walk k last = ap (λ b. cond b 0 (suc k)) (eq-eqb (suc k) (length walk) last)
-
--- and behind any other the next
-pub behind_other : (walk : List Who) (k : ℕ) → suc k ≢ length walk → behind walk k ≡ suc k
-behind_other walk k other = ap (λ b. cond b 0 (suc k)) (ne_eqb (suc k) (length walk) other)
-
-behind_within : (walk : List Who) (k : ℕ) → k < length walk → behind walk k < length walk
-behind_within walk k lt = elim (equal_or_not (suc k) (length walk)) [
-  | inl last ↦ (let x = behind_last walk k last in omega (arith, x, lt))
-  | inr other ↦ (let x = behind_other walk k other in omega (arith, x, lt, other))
-]
+use Rattle.stall_lint.proofs.Trails.{after_last, after_other, after_within}
 
 module _ (net : Net) (formed : IsWellFormed net) (acyclic : IsAcyclic net) (rooted : IsRooted net) (walk : List Who) (round : IsRound net walk) where
   -- Where each strand feeds the next
@@ -40,7 +26,7 @@ module _ (net : Net) (formed : IsWellFormed net) (acyclic : IsAcyclic net) (root
     behind_first (suc k) s t first at =
         let lt = slice_get_within walk (suc k) t at in
         let u = at_some walk k (omega (arith, lt)) in
-        let next : behind walk k ≡ suc k = behind_other walk k (λ last. omega (arith, lt, last)) in
+        let next : behind walk k ≡ suc k = after_other (length walk) k (λ last. omega (arith, lt, last)) in
         let step = steps k u.0 t (record { here = u.1; next = ap (slice_get walk) next ∙ at }) in
         elim (behind_first k s u.0 first u.1) [ inl it ↦ inr (subst (λ z. Less z t) (sym it) step) | inr less ↦ inr (on s u.0 t less step) ]
 
@@ -53,7 +39,7 @@ module _ (net : Net) (formed : IsWellFormed net) (acyclic : IsAcyclic net) (root
             let some = round.some in
             let first = at_some walk 0 some in
             let last = at_some walk n (omega (arith, is)) in
-            let step = steps n last.0 first.0 (record { here = last.1; next = ap (slice_get walk) (behind_last walk n (sym is)) ∙ first.1 }) in
+            let step = steps n last.0 first.0 (record { here = last.1; next = ap (slice_get walk) (after_last (length walk) n (sym is)) ∙ first.1 }) in
             elim (behind_first n first.0 last.0 first.1 last.1) [ inl it ↦ never first.0 (subst (λ z. Less z first.0) (sym it) step) | inr less ↦ never first.0 (on first.0 last.0 first.0 less step) ]
 
   rises : (s t j : ℕ) (l : Link) → slice_get net.links j ≡ Some l → l.from ≡ s → l.to ≡ t → acyclic.rank s < acyclic.rank t
@@ -93,7 +79,7 @@ module _ (net : Net) (formed : IsWellFormed net) (acyclic : IsAcyclic net) (root
       way = (let count = round.count in at_some round.ways k (omega (arith, count, lt)))
 
       next : (t : Who) × (slice_get walk (behind walk k) ≡ Some t)
-      next = at_some walk (behind walk k) (behind_within walk k lt)
+      next = at_some walk (behind walk k) (after_within (length walk) k lt)
 
       along : (l : Link) → AreEnds l s next.0 → IsInner net l → rooted.label s ≡ rooted.label next.0
       along l (inl ends) inner = ap rooted.label (sym ends.0) ∙ rooted.inner l inner ∙ ap rooted.label ends.1
@@ -123,7 +109,7 @@ module _ (net : Net) (formed : IsWellFormed net) (acyclic : IsAcyclic net) (root
     used_over s here = by (rooted.edge uses.number uses.link uses.at)
       where
         next : (t : Who) × (slice_get walk (behind walk uses.place) ≡ Some t)
-        next = at_some walk (behind walk uses.place) (behind_within walk uses.place used)
+        next = at_some walk (behind walk uses.place) (after_within (length walk) uses.place used)
 
         goes : Goes net s (ByLink uses.number) next.0
         goes = round.goes uses.place (ByLink uses.number) s next.0 uses.way (record { here = here; next = next.1 })
@@ -151,11 +137,11 @@ module _ (net : Net) (formed : IsWellFormed net) (acyclic : IsAcyclic net) (root
         closer : (k + suc d ≡ uses.place) ⊎ (k + suc d ≡ length walk + uses.place) → (behind walk k + d ≡ uses.place) ⊎ (behind walk k + d ≡ length walk + uses.place)
         closer (inl is) = elim (equal_or_not (suc k) (length walk)) [
           | inl last ↦ (let place = used in absurd (omega (arith, is, last, place)))
-          | inr other ↦ (let x = behind_other walk k other in inl (omega (arith, is, x)))
+          | inr other ↦ (let x = after_other (length walk) k other in inl (omega (arith, is, x)))
         ]
         closer (inr is) = elim (equal_or_not (suc k) (length walk)) [
-          | inl last ↦ (let x = behind_last walk k last in inl (omega (arith, is, last, x)))
-          | inr other ↦ (let x = behind_other walk k other in inr (omega (arith, is, x)))
+          | inl last ↦ (let x = after_last (length walk) k last in inl (omega (arith, is, last, x)))
+          | inr other ↦ (let x = after_other (length walk) k other in inr (omega (arith, is, x)))
         ]
 
         by : GoesOver k s ⊎ GoesAlong k s → ((t : Who) → slice_get walk (behind walk k) ≡ Some t → (behind walk k + d ≡ uses.place) ⊎ (behind walk k + d ≡ length walk + uses.place) → NextOver t) → NextOver s

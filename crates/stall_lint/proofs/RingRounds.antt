@@ -19,7 +19,7 @@ use Rattle.confluence_laws.proofs.Sums.{pass_rise, passing_below}
 use Rattle.stall_lint.specs.ClosedWalks.{Goes, IsRound, IsStep, Way}
 use Rattle.stall_lint.specs.ClosedWalks.Way.{ByLink}
 use Rattle.stall_lint.specs.Never.{HasNoDam}
-use Rattle.stall_lint.proofs.NoRounds.{behind_last, behind_other}
+use Rattle.stall_lint.proofs.Trails.{after_last, after_other}
 
 -- the link of number j leads from s to t
 abbrev pub Feeds : Net → ℕ → Who → Who → Type 0
@@ -175,10 +175,10 @@ module _ (net : Net) (s : Who) (ring : Reaches net s s) where
               let n = walk_long in
               let end : suc (c.i + k) ≡ c.j = omega (arith, last, n, lt) in
               let start : c.i + 0 ≡ c.i = omega arith in
-              let first = walk_at 0 y (ap (slice_get walk) (sym (behind_last walk k last)) ∙ steps.next) in
+              let first = walk_at 0 y (ap (slice_get walk) (sym (after_last (length walk) k last)) ∙ steps.next) in
               ap ring.strand end ∙ sym c.same ∙ ap ring.strand (sym start) ∙ sym first.1
           | inr other ↦
-              let next = walk_at (suc k) y (ap (slice_get walk) (sym (behind_other walk k other)) ∙ steps.next) in
+              let next = walk_at (suc k) y (ap (slice_get walk) (sym (after_other (length walk) k other)) ∙ steps.next) in
               let one : suc (c.i + k) ≡ c.i + suc k = omega arith in
               ap ring.strand one ∙ sym next.1
         ]

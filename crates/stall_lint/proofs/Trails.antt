@@ -18,10 +18,24 @@ use Rattle.stall_lint.specs.Groups.InOneGroup.{alone, down, up}
 abbrev pub after : ℕ → ℕ → ℕ
 after n k = cond (suc k == n) 0 (suc k)
 
+-- the place behind the last is the first
+pub after_last : (n k : ℕ) → suc k ≡ n → after n k ≡ 0
+after_last n k last = ap (λ b. cond b 0 (suc k)) (eq-eqb (suc k) n last)
+
+-- and behind any other the next
+pub after_other : (n k : ℕ) → suc k ≢ n → after n k ≡ suc k
+after_other n k other = ap (λ b. cond b 0 (suc k)) (ne_eqb (suc k) n other)
+
 pub after_is : (n k : ℕ) → ((suc k ≡ n) × (after n k ≡ 0)) ⊎ ((suc k ≢ n) × (after n k ≡ suc k))
 after_is n k = elim (equal_or_not (suc k) n) [
-  | inl last ↦ inl (last, ap (λ b. cond b 0 (suc k)) (eq-eqb (suc k) n last))
-  | inr other ↦ inr (other, ap (λ b. cond b 0 (suc k)) (ne_eqb (suc k) n other))
+  | inl last ↦ inl (last, after_last n k last)
+  | inr other ↦ inr (other, after_other n k other)
+]
+
+pub after_within : (n k : ℕ) → k < n → after n k < n
+after_within n k lt = elim (after_is n k) [
+  | inl last ↦ (let x = last.1 in omega (arith, x, lt))
+  | inr other ↦ (let next = other.0 in let x = other.1 in omega (arith, x, lt, next))
 ]
 
 -- Groups
