@@ -36,7 +36,8 @@ pub struct Told {
 }
 
 /// How the program is called.
-const USAGE: &str = "usage: pipe SPEC [--workers N] [--steps N] [--trace NAME] [--check NAME] [--lint] | pipe --sample N\n";
+const USAGE: &str =
+    "usage: pipe SPEC [--workers N] [--steps N] [--trace NAME] [--check NAME] [--lint] | pipe --sample N\n";
 
 const OUT_OF_MEMORY: &str = "out of memory\n";
 
@@ -113,7 +114,11 @@ fn text_of(alloc: Global, outcome: &Outcome) -> Result<Text, NoMemory>
 }
 
 // A line with a number.
-pub(crate) fn numbered<N: Integer>(alloc: Global, before: &str, number: N) -> Result<Vec<u8>, NoMemory>
+pub(crate) fn numbered<N: Integer>(
+    alloc: Global,
+    before: &str,
+    number: N,
+) -> Result<Vec<u8>, NoMemory>
     ensures { IfOk result (λ text. text.items ≡ line (before.now ++ N.text number)) }
 {
     let mut text = Vec::new(alloc);
