@@ -12,7 +12,6 @@ use Rattle.stall_lint.proofs.Telling.{never_told}
 use Rattle.call_words.specs.Command.{command_of}
 use Rattle.call_words.specs.declared.command.Command.TheVariants.{Check, Lint, Run, Sample}
 use Rattle.call_meaning.specs.declared.status.Outcome.{Outcome}
-use Rattle.call_meaning.specs.declared.status.Outcome.TheVariants as Was
 use Rattle.call_meaning.specs.declared.status.Status.{Status}
 use Rattle.call_meaning.specs.declared.status.Status.TheVariants.{NoMemory, SpecRefused, WriteFault, Zero}
 use Rattle.call_meaning.specs.Answer.{Answers, HasCause, HasDone, HasUsed, IsFetching, MayRead, Reports}
@@ -21,7 +20,7 @@ use Rattle.call_meaning.specs.Answer.HasDone.{half, whole}
 use Rattle.call_meaning.specs.Answer.IsFetching.{of_journal, of_stage}
 use Rattle.call_meaning.specs.Answer.MayRead.{nothing_read, of_net}
 use Rattle.call_meaning.specs.Devices.{IsDone, Outside, Steady}
-use Rattle.call_meaning.specs.Effects.{AreReplaced, Before, Effect, no_effect, output_of, replaced_by}
+use Rattle.call_meaning.specs.Effects.{AreReplaced, Before, Effect, replaced_by}
 use Rattle.call_meaning.specs.Meaning.{ChecksNet, ComesTo, FeedsNet, HasLinted, IsNetOf, IsUnchecked, IsUnrun, LintsNet, RunsNet, SamplesNet, lint_line}
 use Rattle.call_meaning.specs.Meaning.ComesTo.{checked, linted, ran, sampled}
 use Rattle.call_meaning.specs.Meaning.FeedsNet.{of_check, of_run}
