@@ -6,18 +6,19 @@ use std::sync::Wait;
 use std::test::Fail;
 use std::thread::Threads;
 
-// Rows have a `#` between them, and their cells a `;`: the words of the call, the input, the files, which call of a device fails, and
-// what comes of it: the output, the status, the text, and files. Words have a `,` between them, and so have files, each of which is
-// its name, `=` and its bytes, or its name alone where it isn't there. A call that fails is told by `output`, `text` or `files` and
-// its number. `{abc*4}` is `abc` four times, and `{usage}` the line of how the program is called.
+// Rows have a `#` between them, and their cells a `;`: the words of the call, the input, the files, the calls that fail, and what
+// comes of it: the output, the status, the text, and files. Words have a `,` between them, and so have files, each of which is its
+// name, `=` and its bytes, or its name alone where it isn't there. Of the reads, the writes, the tellings of a text and the calls of
+// files one may fail, which a digit for each names; 0 is none. `{abc*4}` is `abc` four times, and `{usage}` the line of how the
+// program is called.
 
 const FAULTS: &str = "\
-console | locate /b/ | console;ab\ncd\nb;;output 1;;6;write fault\n;#\
-console | nosuch;;;text 1;;6;;#\
-< access.log | console;;access.log=a\n;files 1;;7;shelf fault access.log\n;#\
-(endchar ?) < m | l: lookup 1.1 | console ? < d | l:;;m=a\n,d=a\n;files 2;;7;shelf fault d\n;#\
-(endchar ?) literal a | > x ? literal b | > y;;;files 2;;7;shelf fault y\n;x=a\n,y#\
-literal a | > x,--trace,j;;;files 2;;7;shelf fault j\n;x=a\n,j";
+console | locate /b/ | console;ab\ncd\nb;;0100;;6;write fault\n;#\
+console | nosuch;;;0010;;6;;#\
+< access.log | console;;access.log=a\n;0001;;7;shelf fault access.log\n;#\
+(endchar ?) < m | l: lookup 1.1 | console ? < d | l:;;m=a\n,d=a\n;0002;;7;shelf fault d\n;#\
+(endchar ?) literal a | > x ? literal b | > y;;;0002;;7;shelf fault y\n;x=a\n,y#\
+literal a | > x,--trace,j;;;0002;;7;shelf fault j\n;x=a\n,j";
 
 const JOURNALS: &str = "\
 literal a | console,--check,j;;;;;11;journal absent\n;#\
@@ -64,14 +65,18 @@ fn written_out(alloc: Global, row: &str) -> Result<String, Fail> {
     Ok(text)
 }
 
-// The numbers of the calls of the input, the output, the text and the files that fail.
+// The numbers of a cell that names calls, or none.
 fn fails_of(cell: &str) -> [u32; 4] {
-    match cell.split_once(' ') {
-        Some(("output", number)) => [0, number.parse().unwrap_or(0), 0, 0],
-        Some(("text", number)) => [0, 0, number.parse().unwrap_or(0), 0],
-        Some(("files", number)) => [0, 0, 0, number.parse().unwrap_or(0)],
+    match cell.as_bytes() {
+        [reads, writes, tells, files] => {
+            [digit(*reads), digit(*writes), digit(*tells), digit(*files)]
+        }
         _ => [0; 4],
     }
+}
+
+fn digit(byte: u8) -> u32 {
+    u32::from(byte.wrapping_sub(b'0'))
 }
 
 // Puts the files of a cell on the shelf.
