@@ -18,27 +18,25 @@ pub(crate) struct Around<I: Source, O: Sink, F: Shelf> {
     pub(crate) shelf: F,
 }
 
-/// A source of these bytes, which gives so many a call and fails at the calls that are named.
-pub(crate) fn source(
-    alloc: Global,
-    input: &[u8],
-    piece: usize,
-    fails: &[u32],
-) -> Result<MemSource, Fail>
+// More bytes than a text has, or than a test writes.
+const TEXT: usize = 128;
+
+// A source of these bytes, which gives so many a call and fails at the call of this number.
+fn source(alloc: Global, input: &[u8], piece: usize, fails: u32) -> Result<MemSource, Fail>
     requires { 1 ≤ piece }
 {
     let bytes = Rec::from_slice(alloc, input)?;
-    Ok(MemSource::new(bytes, piece, fails.to_vec(alloc)?))
+    Ok(MemSource::new(bytes, piece, [fails].to_vec(alloc)?))
 }
 
-/// A sink that takes so many bytes a call, and fails at the calls that are named.
-pub(crate) fn sink(alloc: Global, piece: usize, fails: &[u32]) -> Result<MemSink, Fail>
+// A sink that takes so many bytes a call, and fails at the call of this number.
+fn sink(alloc: Global, piece: usize, fails: u32) -> Result<MemSink, Fail>
     requires { 1 ≤ piece }
 {
-    Ok(MemSink::new(alloc, 64, piece, fails.to_vec(alloc)?)?)
+    Ok(MemSink::new(alloc, TEXT, piece, [fails].to_vec(alloc)?)?)
 }
 
-/// What is in memory: input that is given so many bytes a call, and no file.
+/// What is in memory: input that is given so many bytes a call, as output is taken, and no file. A text is taken in one call.
 pub(crate) fn in_memory(
     alloc: Global,
     input: &[u8],
@@ -46,11 +44,24 @@ pub(crate) fn in_memory(
 ) -> Result<Around<MemSource, MemSink, MemShelf>, Fail>
     requires { 1 ≤ piece }
 {
+    failing(alloc, input, piece, [0; 4])
+}
+
+/// The same, of which the reads, the writes, the tellings of a text and the calls of files of these numbers fail, counted from 1.
+pub(crate) fn failing(
+    alloc: Global,
+    input: &[u8],
+    piece: usize,
+    fails: [u32; 4],
+) -> Result<Around<MemSource, MemSink, MemShelf>, Fail>
+    requires { 1 ≤ piece }
+{
+    let [reads, writes, tells, files] = fails;
     Ok(Around {
-        input: source(alloc, input, piece, &[])?,
-        output: sink(alloc, 64, &[])?,
-        diag: sink(alloc, 64, &[])?,
-        shelf: MemShelf::new(alloc, Vec::new(alloc)),
+        input: source(alloc, input, piece, reads)?,
+        output: sink(alloc, piece, writes)?,
+        diag: sink(alloc, TEXT, tells)?,
+        shelf: MemShelf::new(alloc, [files].to_vec(alloc)?),
     })
 }
 

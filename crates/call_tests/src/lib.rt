@@ -1,5 +1,6 @@
 //! Tests of the program's one call: the order of its calls of streams and files, also where one of them fails in mid-stream,
-//! its gate, and that two workers work at once; and of the text of a journal.
+//! what it answers at faults, damaged journals and limits, its gate, and that two workers work at once; and of the text of a
+//! journal.
 #![tactic(auto)]
 
 #[cfg(test)]
@@ -10,5 +11,7 @@ mod gates;
 mod journals;
 #[cfg(test)]
 mod order;
+#[cfg(test)]
+mod outcomes;
 #[cfg(test)]
 mod together;

@@ -1,4 +1,4 @@
-use crate::calls::{Around, call, sink, source};
+use crate::calls::{Around, call, failing};
 use outside::{
     Fetched, MemShelf, MemSink, MemSource, OpenGate, ReadAnswer, Replaced, Shelf, Sink, Source,
     WriteAnswer,
@@ -101,20 +101,15 @@ const WORDS: [&str; 3] = [
     "j",
 ];
 
-// Streams and files of which the reads, the writes and the calls of files of these numbers fail.
-fn failing(
+// Input, and the two files that are read. The calls of these numbers fail.
+fn with_files(
     alloc: Global,
     [reads, writes, files]: [u32; 3],
 ) -> Result<Around<MemSource, MemSink, MemShelf>, Fail> {
-    let mut shelf = MemShelf::new(alloc, [files].to_vec(alloc)?);
-    shelf.preset(b"a", b"a\n")?;
-    shelf.preset(b"b", b"b\n")?;
-    Ok(Around {
-        input: source(alloc, b"x\ny\n", 2, &[reads])?,
-        output: sink(alloc, 3, &[writes])?,
-        diag: sink(alloc, 64, &[])?,
-        shelf,
-    })
+    let mut around = failing(alloc, b"x\ny\n", 2, [reads, writes, 0, files])?;
+    around.shelf.preset(b"a", b"a\n")?;
+    around.shelf.preset(b"b", b"b\n")?;
+    Ok(around)
 }
 
 // The call's status, if it makes these calls, where those of these numbers fail.
@@ -132,7 +127,7 @@ fn status_of<R: Threads + Wait + Sync>(
         output,
         diag,
         shelf,
-    } = failing(alloc, fails)?;
+    } = with_files(alloc, fails)?;
     let mut around = Around {
         input: watched(input, b" read", &made),
         output: watched(output, b" write", &made),
