@@ -20,6 +20,22 @@ console | nosuch;;;0010;;6;;#\
 (endchar ?) literal a | > x ? literal b | > y;;;0002;;7;shelf fault y\n;x=a\n,y#\
 literal a | > x,--trace,j;;;0002;;7;shelf fault j\n;x=a\n,j";
 
+// Each call in turn fails of one that reads two files and the input, writes the output, and replaces two files and that of the journal.
+const TURNS: &str = "\
+(endchar ?) < a | f: fanin | > x | console ? < b | f: ? console | > y,--trace,t;3\n;a=1\n,b=2\n,x=old,y=old,t=old;1000;;5;read fault\n;x=old,y=old,t=old#\
+(endchar ?) < a | f: fanin | > x | console ? < b | f: ? console | > y,--trace,t;3\n;a=1\n,b=2\n,x=old,y=old,t=old;2000;;5;read fault\n;x=old,y=old,t=old#\
+(endchar ?) < a | f: fanin | > x | console ? < b | f: ? console | > y,--trace,t;3\n;a=1\n,b=2\n,x=old,y=old,t=old;3000;1\n2\n;0;;x=1\n2\n,y=3\n#\
+(endchar ?) < a | f: fanin | > x | console ? < b | f: ? console | > y,--trace,t;3\n;a=1\n,b=2\n,x=old,y=old,t=old;0100;;6;write fault\n;x=old,y=old,t=old#\
+(endchar ?) < a | f: fanin | > x | console ? < b | f: ? console | > y,--trace,t;3\n;a=1\n,b=2\n,x=old,y=old,t=old;0200;1\n2\n;0;;x=1\n2\n,y=3\n#\
+(endchar ?) < a | f: fanin | > x | console ? < b | f: ? console | > y,--trace,t;3\n;a=1\n,b=2\n,x=old,y=old,t=old;0010;1\n2\n;0;;x=1\n2\n,y=3\n#\
+(endchar ?) < a | f: fanin | > x | console ? < b | f: ? console | > y,--trace,t;3\n;a=1\n,b=2\n,x=old,y=old,t=old;0001;;7;shelf fault a\n;x=old,y=old,t=old#\
+(endchar ?) < a | f: fanin | > x | console ? < b | f: ? console | > y,--trace,t;3\n;a=1\n,b=2\n,x=old,y=old,t=old;0002;;7;shelf fault b\n;x=old,y=old,t=old#\
+(endchar ?) < a | f: fanin | > x | console ? < b | f: ? console | > y,--trace,t;3\n;a=1\n,b=2\n,x=old,y=old,t=old;0003;1\n2\n;7;shelf fault x\n;y=old,t=old#\
+(endchar ?) < a | f: fanin | > x | console ? < b | f: ? console | > y,--trace,t;3\n;a=1\n,b=2\n,x=old,y=old,t=old;0004;1\n2\n;7;shelf fault y\n;x=1\n2\n,t=old#\
+(endchar ?) < a | f: fanin | > x | console ? < b | f: ? console | > y,--trace,t;3\n;a=1\n,b=2\n,x=old,y=old,t=old;0005;1\n2\n;7;shelf fault t\n;x=1\n2\n,y=3\n#\
+(endchar ?) < a | f: fanin | > x | console ? < b | f: ? console | > y,--trace,t;3\n;a=1\n,b=2\n,x=old,y=old,t=old;0006;1\n2\n;0;;x=1\n2\n,y=3\n#\
+(endchar ?) < a | f: fanin | > x | console ? < b | f: ? console | > y,--trace,t;3\n;a=1\n,b=2\n,x=old,y=old,t=old;0014;1\n2\n;6;;x=1\n2\n,t=old";
+
 const JOURNALS: &str = "\
 literal a | console,--check,j;;;;;11;journal absent\n;#\
 literal a | console,--check,j;;j=;;;11;journal line 1\n;#\
@@ -120,6 +136,11 @@ fn plays<R: Threads + Wait + Sync + Abort>(rt: &R, alloc: Global, rows: &str) ->
 #[test]
 fn faults_of_devices_are_told(rt: HostRuntime) -> Result<(), Fail> {
     plays(&rt, rt.alloc(), FAULTS)
+}
+
+#[test]
+fn each_call_may_fail(rt: HostRuntime) -> Result<(), Fail> {
+    plays(&rt, rt.alloc(), TURNS)
 }
 
 #[test]
