@@ -76,6 +76,10 @@ impl Bell {
 
     fn end(&self) {
         self.ended.store(1, Ordering::SeqCst);
+        self.wake_all();
+    }
+
+    fn wake_all(&self) {
         self.rings.fetch_add(1, Ordering::SeqCst);
         self.rings.wake_all();
     }
@@ -117,6 +121,11 @@ impl<S: Stage> Board<S> {
             self.bell.nap(rt, micros);
         }
         heard
+    }
+
+    /// Wakes all that sleep, as by one who leaves the work to them: each looks once more what there is to do.
+    pub fn wake_rest(&self) {
+        self.bell.wake_all();
     }
 
     /// Says that the work has ended: it wakes all that rest, and nobody sleeps there any more.

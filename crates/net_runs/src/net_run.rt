@@ -21,7 +21,7 @@ use stall_report::{report, text};
 use std::alloc::Global;
 use std::sync::Wait;
 use std::thread::Threads;
-use workers::drive;
+use workers::drive_kept;
 
 /// A core that ran a net to its end, or as far as the steps allow, and how that ended.
 #[derive(Drop)]
@@ -48,7 +48,10 @@ pub(crate) fn run_net<S: Stage + Send, Rt: Threads + Wait + Sync, G: Gate + Sync
     ensures few { IfOk result (λ ran. length ran.core.net.strands ≤ 65536) }
 {
     let core = Core::start(alloc, net, stages, steps)?;
-    let (core, end) = drive(rt, alloc, core, workers, gate)?;
+    let (core, end) = drive_kept(rt, alloc, core, workers, gate);
+    let Some(end) = end else {
+        return Err(NoMemory);
+    };
     let outcome = match end {
         RunEnd::Complete => outcome_of(alloc, &core)?,
         RunEnd::Spent => Outcome::Spent(steps),

@@ -3,14 +3,14 @@ use Rattle.std.proofs.Common.{◌≡◌, ℕ, ◌<◌, true, false, List, [], �
 use mathlib.Core.List.{IsPrefix}
 use Rattle.atomic_table.specs.Seated.{TableId}
 use Rattle.core_machine.specs.Machine.{Machine}
-use Rattle.core_machine.specs.Answered.{HasRun}
+use Rattle.core_machine.specs.Answered.{HasRun, HasBrokenLeast}
 use Rattle.board.specs.Plays.{founder}
 use Rattle.board.specs.Calls.{Ends}
 use Rattle.board.specs.declared.view.View.{View}
 use Rattle.workers.specs.Work.{IsSettled}
 use Rattle.workers.specs.declared.hands.Hand.{Hand}
 use Rattle.workers.specs.Hands.{LeftTo, IsWorker, shares_of}
-use Rattle.workers.specs.Driven.{HasAdvanced, LeftByWorkers}
+use Rattle.workers.specs.Driven.{HasAdvanced, HasFallenShort, LeftByWorkers}
 use Rattle.workers.proofs.Dealing.{worked_all, front_back}
 
 -- a core that no worker had
@@ -58,3 +58,16 @@ hands_worked z v n items xs ys is long same each all =
     let back = front_back n ys items long in
     let w = worked_all z v xs ys same each (subst (All (λ (h : Hand). IsWorker z v h.pass)) (sym is) all) in
     (subst (All (λ (h : Hand). IsWorker z v h.pass)) (sym back) w.0, ap shares_of back ∙ w.1 ∙ ap shares_of is)
+
+-- a core that workers broke
+pub fell_short : (m n : Machine) → LeftByWorkers m n → n.is_broken ≡ true → HasFallenShort m n
+fell_short m n t broken = record { net = t.net; budget = t.budget; longer = t.longer; broken = broken }
+
+-- a run after that which broke
+pub broke_on : (m n k : Machine) → LeftByWorkers m n → HasBrokenLeast n k → HasFallenShort m k
+broke_on m n k t run = record {
+  net = run.broke.net ∙ t.net;
+  budget = run.broke.budget ∙ t.budget;
+  longer = (t.longer.0 ++ run.broke.longer.0, run.broke.longer.1 ∙ ap (λ l. l ++ run.broke.longer.0) t.longer.1 ∙ append_assoc m.journal t.longer.0 run.broke.longer.0);
+  broken = run.broke.broken;
+}

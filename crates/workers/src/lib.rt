@@ -7,5 +7,5 @@ mod turns;
 mod waits;
 mod working;
 
-pub use driving::drive;
+pub use driving::{drive, drive_kept};
 pub use working::{WorkEnd, work};

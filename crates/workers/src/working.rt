@@ -58,8 +58,9 @@ pub fn work<S: Stage + Send, R: Wait, G: Gate + Sync>(
             AfterTurn::Done => waits.note_job(),
             AfterTurn::Idle => waits.wait(rt, board),
             AfterTurn::Ended(end) => {
-                if matches!(end, WorkEnd::Complete | WorkEnd::Spent | WorkEnd::Broken) {
-                    board.end_rest();
+                match end {
+                    WorkEnd::Complete | WorkEnd::Spent | WorkEnd::Broken => board.end_rest(),
+                    WorkEnd::NoMemory | WorkEnd::Tired => board.wake_rest(),
                 }
                 return end;
             }

@@ -3,8 +3,8 @@ use Rattle.board.specs.Names.{view, board_id}
 use Rattle.workers.proofs.Together.{left_as_it_was, hands_worked, left_at_end}
 use Rattle.workers.proofs.driving.work_together.Goals as goal
 
-pub returns-in-Err : goal.returns-in-Err
-returns-in-Err g c = left_as_it_was c.args.core c.in-Err.core c.requires.home c.in-Err.ensures.back
+pub returns-in-Err-clause-left : goal.returns-in-Err-clause-left
+returns-in-Err-clause-left g c = left_as_it_was c.args.core c.in-Err.core c.requires.home c.in-Err.ensures.back
 
 pub meet_all-pass-requires-clause-boards : goal.meet_all-pass-requires-clause-boards
 meet_all-pass-requires-clause-boards g c k x below =
@@ -18,8 +18,8 @@ close-requires-2-clause-tries g c =
     let t = hands_worked (board_id made.0) (view made.1) hands.len hands.items c.as_mut_slice.result.now c.work_all.new.hands mine.value (search (rules, mine.len, w.len)) w.len w.passes c.in-Ok-deal.ensures.hands in
     (c.meet_all-pass.ensures.passes (view made.1) t.0).may.tries
 
-pub returns : goal.returns
-returns g c =
+pub returns-clause-left : goal.returns-clause-left
+returns-clause-left g c =
     let made = c.in-Ok.made in let hands = c.in-Ok-deal.hands in let w = c.work_all.ensures in let mine = c.as_mut_slice.ensures in let met = c.meet_all-pass in
     let t = hands_worked (board_id made.0) (view made.1) hands.len hands.items c.as_mut_slice.result.now c.work_all.new.hands mine.value (search (rules, mine.len, w.len)) w.len w.passes c.in-Ok-deal.ensures.hands in
     let all = met.ensures.passes (view made.1) t.0 in
