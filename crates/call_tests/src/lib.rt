@@ -1,6 +1,6 @@
 //! Tests of the program's one call: the order of its calls of streams and files, also where one of them fails in mid-stream,
-//! what it answers at faults, damaged journals and limits, its gate, and that two workers work at once; and of the text of a
-//! journal.
+//! what it answers at faults, damaged journals and limits, its gate, and that two workers work at once; of the text of a journal;
+//! and of a core whose coroutine wants memory.
 #![tactic(auto)]
 
 #[cfg(test)]
@@ -13,5 +13,7 @@ mod journals;
 mod order;
 #[cfg(test)]
 mod outcomes;
+#[cfg(test)]
+mod refusing;
 #[cfg(test)]
 mod together;
