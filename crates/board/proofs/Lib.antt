@@ -7,8 +7,8 @@ pub mod Keeps
 pub mod Joins
 pub mod Gives
 pub mod Holder
-pub mod Working
-pub mod Onward
 pub mod Tells
+pub mod Changes
+pub mod Told
 pub mod Works
-pub mod LoneNet
+pub mod OneConsole

@@ -5,6 +5,7 @@
 mod answers;
 mod bell;
 mod board;
+mod change;
 mod core_box;
 mod finishing;
 mod going_on;
@@ -15,6 +16,7 @@ mod plays;
 mod seeking;
 mod slot;
 mod taking;
+mod task;
 mod turning;
 mod view;
 
