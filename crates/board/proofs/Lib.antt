@@ -11,4 +11,3 @@ pub mod Tells
 pub mod Changes
 pub mod Told
 pub mod Works
-pub mod OneConsole

@@ -4,6 +4,7 @@ use crate::bell::Bell;
 use crate::core_box::CoreBox;
 use crate::pass::Pass;
 use crate::plays::{About, Order, Slot};
+use crate::taking::{Napping, Taking};
 use crate::view::View;
 use atomic_table::{Refused, Seat, Table};
 use core_machine::Core;
@@ -121,7 +122,9 @@ impl<S: Stage> Board<S> {
     {
         let Pass { badge, .. } = pass;
         let mut seat = badge.into_seat::<Slot<S>>();
-        self.take_napping(rt, &mut seat);
+        if !Napping(rt).take(&self, &mut seat) {
+            unreachable!()
+        }
         let core = self.take_core(&mut seat);
         drop(seat);
         core

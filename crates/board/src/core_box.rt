@@ -1,6 +1,3 @@
-use crate::bell::Bell;
-use crate::change::Change;
-use crate::task::Task;
 use core_machine::Core;
 use stage_steps::Stage;
 use std::alloc::Global;
@@ -9,7 +6,7 @@ use std::marker::Model;
 /// A core in a box: to take it and to give it back moves a pointer, and not the core.
 #[derive(Drop)]
 pub struct CoreBox<S: Stage> {
-    core: Box<Core<S>>,
+    pub(crate) core: Box<Core<S>>,
 }
 
 impl<S: Stage> Model for CoreBox<S> {
@@ -22,7 +19,6 @@ impl<S: Stage> Model for CoreBox<S> {
 
 impl<S: Stage> CoreBox<S> {
     ghost use Rattle.std.specs.Prelude.{◌≡◌, MatchResult};
-    ghost use Rattle.core_machine.specs.Machine.{IsLawful};
 
     /// Want of memory hands the core back.
     pub(crate) fn new(alloc: Global, core: Core<S>) -> Result<CoreBox<S>, Core<S>>
@@ -39,20 +35,5 @@ impl<S: Stage> CoreBox<S> {
     {
         let CoreBox { core } = self;
         Box::into_inner(core)
-    }
-
-    pub(crate) fn lend<T: Task<S>>(
-        &mut self,
-        bell: &Bell,
-        task: T,
-        room: &mut T::Room,
-        change: &mut Change,
-    ) -> T::Answer
-        requires allowed { T.may task self.old }
-        requires none { change.old ≡ Change.Nothing }
-        ensures done { T.did task room.old self.old result self.new room.new change.new }
-        ensures lawful { IsLawful self.new }
-    {
-        task.run(bell, &mut self.core, room, change)
     }
 }

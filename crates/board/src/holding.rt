@@ -1,15 +1,16 @@
 //! How a call takes the slot, does its task with the core there, and gives the slot back.
 use crate::board::{Board, LENGTH, TURN};
 use crate::change::Change;
+use crate::core_box::CoreBox;
 use crate::pass::{Pass, sit};
 use crate::plays::{Brings, Give, Raise, Slot};
-use crate::slot::{count_slot, lend_slot};
 use crate::taking::Taking;
 use crate::task::Task;
 use crate::view::View;
 use atomic_table::Seat;
 use stage_steps::Stage;
 use std::marker::Brand;
+use std::mem;
 
 // The core in the slot.
 impl<S: Stage> Board<S> {
@@ -32,7 +33,12 @@ impl<S: Stage> Board<S> {
         ensures lent { IfKept seat.old.me (λ k. (n : Machine) × (seat.new.me ≡ with_kept seat.old.me.0 (n, k.1)) × T.did task room.old k.0 result n room.new change.new × IsLawful n) }
     {
         let slot = seat.slot_mut(&self.table.shared, 0);
-        lend_slot(slot, &self.bell, task, room, change)
+        let Some((CoreBox { mut core }, turns)) = mem::replace(slot, None) else {
+            unreachable!()
+        };
+        let answer = task.run(&self.bell, &mut core, room, change);
+        *slot = Some((CoreBox { core }, turns));
+        answer
     }
 
     fn count(&self, seat: &mut Seat<Slot<S>, View>)
@@ -42,7 +48,8 @@ impl<S: Stage> Board<S> {
         ensures counted { IfKept seat.old.me (λ k. seat.new.me ≡ with_kept seat.old.me.0 (counted k)) }
     {
         let slot = seat.slot_mut(&self.table.shared, 0);
-        count_slot(slot);
+        let Some(kept) = slot else { unreachable!() };
+        kept.1 += 1;
     }
 }
 
@@ -120,7 +127,7 @@ impl<S: Stage> Board<S> {
         }
     }
 
-    // The same for a pass, which has one try less then.
+    // One hold by a pass, which has one try less then.
     pub(crate) fn call<H: Taking<S>, T: Task<S>>(
         &self,
         how: H,

@@ -14,7 +14,6 @@ mod pass;
 mod passes;
 mod plays;
 mod seeking;
-mod slot;
 mod taking;
 mod task;
 mod turning;

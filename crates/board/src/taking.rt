@@ -60,8 +60,13 @@ impl<'a, S: Stage, R: Wait> Taking<S> for Awake<'a, R> {
 
     fn take(self, board: &Board<S>, seat: &mut Seat<Slot<S>, View>) -> bool {
         let Awake(rt) = self;
-        board.take_awake(rt, seat);
-        true
+        for _ in rt.forever() {
+            if board.take_within(seat, AWAKE_TRIES) {
+                return true;
+            }
+            yield_now();
+        }
+        unreachable!()
     }
 }
 
@@ -73,8 +78,22 @@ impl<'a, S: Stage, R: Wait> Taking<S> for Napping<'a, R> {
 
     fn take(self, board: &Board<S>, seat: &mut Seat<Slot<S>, View>) -> bool {
         let Napping(rt) = self;
-        board.take_napping(rt, seat);
-        true
+        let mut micros = SHORTEST_NAP;
+        let mut rounds = 0_u32;
+        for _ in rt.forever() {
+            if board.take_within(seat, NAPPING_TRIES) {
+                return true;
+            }
+            rounds = rounds.saturating_add(1);
+            if rounds < NAPPING_ROUNDS {
+                yield_now();
+            } else {
+                rounds = 0;
+                board.bell.nap(rt, micros);
+                micros = micros.saturating_mul(2).min(LONGEST_NAP);
+            }
+        }
+        unreachable!()
     }
 }
 
@@ -98,44 +117,5 @@ impl<S: Stage> Board<S> {
             spin_loop();
         }
         false
-    }
-
-    fn take_awake<R: Wait>(&self, rt: &R, seat: &mut Seat<Slot<S>, View>)
-        requires id { seat.old.table_id ≡ self.now.table.shared.table_id }
-        requires rest { IsAtRest seat.old.me }
-        ensures id { (seat.new.table_id ≡ seat.old.table_id) × (seat.new.id ≡ seat.old.id) }
-        ensures took { Took seat.old.me seat.new.me }
-    {
-        for _ in rt.forever() {
-            if self.take_within(seat, AWAKE_TRIES) {
-                return;
-            }
-            yield_now();
-        }
-        unreachable!()
-    }
-
-    pub(crate) fn take_napping<R: Wait>(&self, rt: &R, seat: &mut Seat<Slot<S>, View>)
-        requires id { seat.old.table_id ≡ self.now.table.shared.table_id }
-        requires rest { IsAtRest seat.old.me }
-        ensures id { (seat.new.table_id ≡ seat.old.table_id) × (seat.new.id ≡ seat.old.id) }
-        ensures took { Took seat.old.me seat.new.me }
-    {
-        let mut micros = SHORTEST_NAP;
-        let mut rounds = 0_u32;
-        for _ in rt.forever() {
-            if self.take_within(seat, NAPPING_TRIES) {
-                return;
-            }
-            rounds = rounds.saturating_add(1);
-            if rounds < NAPPING_ROUNDS {
-                yield_now();
-            } else {
-                rounds = 0;
-                self.bell.nap(rt, micros);
-                micros = micros.saturating_mul(2).min(LONGEST_NAP);
-            }
-        }
-        unreachable!()
     }
 }
