@@ -4,7 +4,7 @@ use Rattle.core_machine.specs.Machine.{Machine, IsLawful}
 use Rattle.board.specs.Rule.{Kept, Slot, machine_of, made_since}
 use Rattle.board.specs.Plays.{Sat, Sees, Took, AreNew, new_places, after_take, after_raise, after_give}
 use Rattle.board.specs.Calls.{less_one_try}
-use Rattle.board.specs.Holding.{IsAtRest, HasLetGo, HasKept, IfKept, with_kept, counted, MayRaise, HasRaised, MayEnd, HasEnded, made_by, home_by, lost_by, HasChanged, MayGiveBack, after_hold, GaveBack, HasHeld, MayDo, HasDone}
+use Rattle.board.specs.Holding.{IsAtRest, HasLetGo, HasKept, IfKept, with_kept, counted, MayRaise, HasRaised, MayPutHome, HasPutHome, made_by, home_by, lost_by, HasChanged, MayGiveBack, after_hold, GaveBack, HasHeld, MayDo, HasDone}
 use Rattle.board.specs.declared.view.View.{View}
 use Rattle.board.specs.declared.change.Change.{Change}
 use Rattle.board.proofs.Prefixes.{prefix_trans}
@@ -31,12 +31,12 @@ module _ (c : Change) (m : Sat) (may : MayGiveBack c m) where
   pub may_raise : (made : ℕ) → made ≡ made_by c → MayRaise made (home_by c) (lost_by c) m
   may_raise made is = (core, may.1, (may.2.1.0, changed.made, (let a = changed.longer in omega arith)))
 
-  pub may_end_raised : (n : Sat) → HasRaised (home_by c) (lost_by c) m n → MayEnd [] [] n
-  may_end_raised n raised = subst (MayEnd [] []) (sym (raised core may.1).0) (core, refl, (may.2.0, (core, raised_may m.0 may.2.1.0 core (home_by c) (lost_by c) changed.made)))
+  pub may_put_raised : (n : Sat) → HasRaised (home_by c) (lost_by c) m n → MayPutHome [] [] n
+  may_put_raised n raised = subst (MayPutHome [] []) (sym (raised core may.1).0) (core, refl, (may.2.0, (core, raised_may m.0 may.2.1.0 core (home_by c) (lost_by c) changed.made)))
 
-  pub gave_raised : (n w : Sat) → HasRaised (home_by c) (lost_by c) m n → HasEnded [] [] n w → GaveBack c m w
-  gave_raised n w raised ended = of_slot m core may.1 (λ (k : Kept). ((r : ℕ) × (w ≡ (after_hold c r m.0 k, []))) × AreNew m.0 (new_places m.0 k))
-      (let t = raised core may.1 in let e = ended core (ap (λ (x : Sat). x.1) t.0) in let r : ℕ = e.0 in let held : View = after_hold c r m.0 core in
+  pub gave_raised : (n w : Sat) → HasRaised (home_by c) (lost_by c) m n → HasPutHome [] [] n w → GaveBack c m w
+  gave_raised n w raised put = of_slot m core may.1 (λ (k : Kept). ((r : ℕ) × (w ≡ (after_hold c r m.0 k, []))) × AreNew m.0 (new_places m.0 k))
+      (let t = raised core may.1 in let e = put core (ap (λ (x : Sat). x.1) t.0) in let r : ℕ = e.0 in let held : View = after_hold c r m.0 core in
       let given : w ≡ (after_give [] [] r (after_raise (home_by c) (lost_by c) m.0 core) (counted core), []) = e.1 ∙ ap (λ (x : Sat). (after_give [] [] r x.0 (counted core), [])) t.0 in
       ((r, given ∙ ap (λ (z : List ℕ × List ℕ). (record held { home = z.0; lost = z.1 }, [])) (λ i. (append-nil (m.0.home ++ home_by c) i, append-nil (m.0.lost ++ lost_by c) i))), t.1))
 
@@ -45,12 +45,12 @@ module _ (c : Change) (m : Sat) (may : MayGiveBack c m) where
     as_long : length core.0.journal ≡ length may.2.1.0.0.journal
     as_long = let a = changed.longer in omega arith
 
-    pub may_end : MayEnd (home_by c) (lost_by c) m
-    may_end = (core, may.1, (may.2.0, (may.2.1.0, unraised_may m.0 may.2.1.0 core (home_by c) (lost_by c) changed.made as_long)))
+    pub may_put_unraised : MayPutHome (home_by c) (lost_by c) m
+    may_put_unraised = (core, may.1, (may.2.0, (may.2.1.0, unraised_may m.0 may.2.1.0 core (home_by c) (lost_by c) changed.made as_long)))
 
-    pub gave_ended : (w : Sat) → HasEnded (home_by c) (lost_by c) m w → GaveBack c m w
-    gave_ended w ended = of_slot m core may.1 (λ (k : Kept). ((r : ℕ) × (w ≡ (after_hold c r m.0 k, []))) × AreNew m.0 (new_places m.0 k))
-        (let e = ended core may.1 in let r : ℕ = e.0 in let held : View = after_hold c r m.0 core in
+    pub gave_unraised : (w : Sat) → HasPutHome (home_by c) (lost_by c) m w → GaveBack c m w
+    gave_unraised w put = of_slot m core may.1 (λ (k : Kept). ((r : ℕ) × (w ≡ (after_hold c r m.0 k, []))) × AreNew m.0 (new_places m.0 k))
+        (let e = put core may.1 in let r : ℕ = e.0 in let held : View = after_hold c r m.0 core in
         let no_place : new_places m.0 core ≡ [] = new_is m.0 may.2.1.0 core (home_by c) (lost_by c) changed.made ∙ places_after-none (length may.2.1.0.0.journal) (length core.0.journal) as_long in
         let same : m.0.mine ≡ m.0.mine ++ new_places m.0 core = sym (append-nil m.0.mine) ∙ ap (λ (l : List ℕ). m.0.mine ++ l) (sym no_place) in
         ((r, e.1 ∙ ap (λ (l : List ℕ). (record held { mine = l }, [])) same), subst (AreNew m.0) (sym no_place) (λ p some. absurd (omega arith))))

@@ -9,5 +9,5 @@ pub mod Gives
 pub mod Holder
 pub mod Tells
 pub mod Changes
-pub mod Told
+pub mod Outcomes
 pub mod Works

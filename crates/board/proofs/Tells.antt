@@ -30,10 +30,6 @@ held_left v w m some h = record {
 busy_left : (v w : View) → 0 < v.tries → HasParts v → IsBusy v w → Left v w
 busy_left v w some parts b = subst (Left v) (sym b.0) (record { goes = record { net = (refl, refl); shares = refl; tries = omega arith; seen = prefix_self v.seen }; parts = parts })
 
--- every answer leaves so
-pub answered_left : {A O : Type 0} (may_fail : Bool) (did : Machine → A → Machine → O → Change → Type 0) (left a : A) (before o : O) (v w : View) → 0 < v.tries → HasParts v → HasAnswered may_fail did left before v a w o → Left v w
-answered_left may_fail did left a before o v w some parts told = either_of told (λ d. held_left v w d.found some d.held.held) (λ b. busy_left v w some parts b.1)
-
 -- what the one who took the core for good knows of it
 pub ends_so : (v : View) (k : Kept) → 0 < v.shares → Sees v k → Ends v k.0
 ends_so v k share s = record {
@@ -58,16 +54,25 @@ pub view_is : (views : List View) (w : View) → views ≡ w ∷ [] → the_view
 view_is views w e = ap the_view e
 
 -- the pass after a call
-module _ (views news : List View) (shares tries : ℕ) (w : View) (known : IsPass views shares tries) (held : w.held ≡ None) (e : news ≡ w ∷ []) where
-  is_now : w ≡ the_view news
-  is_now = sym (view_is news w e)
+module _ {A O : Type 0} (may_fail : Bool) (did : Machine → A → Machine → O → Change → Type 0) (left a : A) (before o : O) (views news : List View) (shares tries : ℕ) (m n : Sat) (known : IsPass views shares tries) (some : 0 < (the_view views).tries) (sits : m ≡ (the_view views, [])) (held : n.0.held ≡ None) (e : news ≡ n.0 ∷ []) (told : HasAnswered may_fail did left before m.0 a n.0 o) where
+  answered : HasAnswered may_fail did left before (the_view views) a n.0 o
+  answered = subst (λ (x : Sat). HasAnswered may_fail did left before x.0 a n.0 o) sits told
 
-  pub pass_after : Left (the_view views) w → IsPass news shares (tries - 1)
-  pass_after left = subst (λ (x : List View). IsPass x shares (tries - 1)) (sym e)
-      (refl, held, (left.goes.shares ∙ known.2), (let one = left.goes.tries in let a = known.3 in omega arith), known.4, left.parts)
+  left_so : Left (the_view views) n.0
+  left_so = either_of answered (λ d. held_left (the_view views) n.0 d.found some d.held.held) (λ b. busy_left (the_view views) n.0 some known.5 b.1)
 
-  pub pass_told : (P : View → Type 0) → P w → P (the_view news)
-  pass_told P told = subst P is_now told
+  is_now : n.0 ≡ the_view news
+  is_now = sym (view_is news n.0 e)
+
+  pub pass_after : IsPass news shares (tries - 1)
+  pass_after = subst (λ (x : List View). IsPass x shares (tries - 1)) (sym e)
+      (refl, held, (left_so.goes.shares ∙ known.2), (let one = left_so.goes.tries in let b = known.3 in omega arith), known.4, left_so.parts)
+
+  pub pass_goes : GoesOn (the_view views) (the_view news)
+  pass_goes = subst (GoesOn (the_view views)) is_now left_so.goes
+
+  pub pass_told : HasAnswered may_fail did left before (the_view views) a (the_view news) o
+  pass_told = subst (λ (x : View). HasAnswered may_fail did left before (the_view views) a x o) is_now answered
 
 -- the seat of a pass, once it was taken out of it
 pub seated : (views : List View) (m : Sat) → views ≡ m.0 ∷ [] → m.1 ≡ [] → m ≡ (the_view views, [])

@@ -51,12 +51,12 @@ abbrev pub HasRaised : List ℕ → List ℕ → Sat → Sat → Type 0
 HasRaised home lost m n = IfKept m (λ k. (n ≡ with_kept (after_raise home lost m.0 k) k) × AreNew m.0 (new_places m.0 k))
 
 -- the seat may put the slot home
-abbrev pub MayEnd : List ℕ → List ℕ → Sat → Type 0
-MayEnd home lost m = HasKept m (λ k. (k.1 ≤ all_tries) × ((h : Kept) × MayGive m.0 h (counted k) home lost))
+abbrev pub MayPutHome : List ℕ → List ℕ → Sat → Type 0
+MayPutHome home lost m = HasKept m (λ k. (k.1 ≤ all_tries) × ((h : Kept) × MayGive m.0 h (counted k) home lost))
 
 -- and did so
-abbrev pub HasEnded : List ℕ → List ℕ → Sat → Sat → Type 0
-HasEnded home lost m n = IfKept m (λ k. (r : ℕ) × (n ≡ (after_give home lost r m.0 (counted k), [])))
+abbrev pub HasPutHome : List ℕ → List ℕ → Sat → Sat → Type 0
+HasPutHome home lost m n = IfKept m (λ k. (r : ℕ) × (n ≡ (after_give home lost r m.0 (counted k), [])))
 
 -- Changes
 

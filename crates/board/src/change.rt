@@ -1,15 +1,16 @@
 /// What a call did to the core while it held the slot.
 #[derive(Clone, Copy)]
 pub(crate) enum Change {
-    /// Nothing.
+    /// The core is as it was.
     Nothing,
-    /// It made an entry, whose job is out.
+    /// One entry was made, whose job is out.
     Step,
-    /// It brought home the job of this place, and then made so many entries, whose jobs are home, of all that the journal has.
+    /// The job of this place came home, and then so many entries were made, whose jobs are home. The journal has `len` now.
     Home { place: u64, made: u64, len: u64 },
-    /// It brought that job home and made entries too, but the job of the last entry is lost.
+    /// The job of this place came home, and then so many entries were made, whose jobs are home but for the last one's, which is lost.
+    /// The journal has `len` now.
     Short { place: u64, made: u64, len: u64 },
-    /// It lost the job of this place.
+    /// The job of this place is lost.
     Lost { place: u64 },
 }
 

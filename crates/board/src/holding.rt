@@ -12,13 +12,14 @@ use stage_steps::Stage;
 use std::marker::Brand;
 use std::mem;
 
-// The core in the slot.
+// The slot in hand, as plain memory.
 impl<S: Stage> Board<S> {
     ghost use Rattle.std.specs.Prelude.{◌≡◌, ◌≤◌};
     ghost use Rattle.core_machine.specs.Machine.{Machine, IsLawful};
     ghost use Rattle.board.specs.Counts.{all_tries};
     ghost use Rattle.board.specs.Holding.{HasKept, IfKept, with_kept, counted};
 
+    // Lends the core there to a task.
     fn lend<T: Task<S>>(
         &self,
         seat: &mut Seat<Slot<S>, View>,
@@ -41,6 +42,7 @@ impl<S: Stage> Board<S> {
         answer
     }
 
+    // Counts that it is given back once more.
     fn count(&self, seat: &mut Seat<Slot<S>, View>)
         requires id { seat.old.table_id ≡ self.now.table.shared.table_id }
         requires kept { HasKept seat.old.me (λ k. k.1 ≤ all_tries) }
@@ -56,9 +58,9 @@ impl<S: Stage> Board<S> {
 // The steps by which the slot goes back.
 impl<S: Stage> Board<S> {
     ghost use Rattle.std.specs.Prelude.{◌≡◌};
-    ghost use Rattle.board.specs.Holding.{MayRaise, HasRaised, MayEnd, HasEnded, MayGiveBack, GaveBack};
+    ghost use Rattle.board.specs.Holding.{MayRaise, HasRaised, MayPutHome, HasPutHome, MayGiveBack, GaveBack};
 
-    // The change is there for the proof of the call to pick.
+    // Raises the length word by the entries made. The change is there for the proof of the call to pick.
     fn raise_as<B: Brings>(&self, seat: &mut Seat<Slot<S>, View>, made: u64, _change: Change)
         requires id { seat.old.table_id ≡ self.now.table.shared.table_id }
         requires may { MayRaise made B.home B.lost seat.old.me }
@@ -68,18 +70,18 @@ impl<S: Stage> Board<S> {
         self.table.shared.fetch_add::<Raise<B>>(seat, LENGTH, made);
     }
 
-    // Nobody is woken: who waits for the slot sleeps for a limited time.
-    fn end_as<B: Brings>(&self, seat: &mut Seat<Slot<S>, View>, _change: Change)
+    // Puts the slot home. Nobody is woken: who waits for the slot sleeps for a limited time.
+    fn put_home_as<B: Brings>(&self, seat: &mut Seat<Slot<S>, View>, _change: Change)
         requires id { seat.old.table_id ≡ self.now.table.shared.table_id }
-        requires may { MayEnd B.home B.lost seat.old.me }
+        requires may { MayPutHome B.home B.lost seat.old.me }
         ensures id { (seat.new.table_id ≡ seat.old.table_id) × (seat.new.id ≡ seat.old.id) }
-        ensures ended { HasEnded B.home B.lost seat.old.me seat.new.me }
+        ensures home { HasPutHome B.home B.lost seat.old.me seat.new.me }
     {
         self.count(seat);
         self.table.shared.swap::<Give<B>>(seat, TURN, 0);
     }
 
-    // Where entries were made since the slot was taken, the length word is raised by their number first.
+    // Gives the slot back after the change. Where entries were made the length word is raised first.
     fn give_back(&self, seat: &mut Seat<Slot<S>, View>, change: Change)
         requires id { seat.old.table_id ≡ self.now.table.shared.table_id }
         requires may { MayGiveBack change seat.old.me }
@@ -88,10 +90,10 @@ impl<S: Stage> Board<S> {
     {
         let made = change.made();
         if made == 0 {
-            self.end_as::<Brand>(seat, change);
+            self.put_home_as::<Brand>(seat, change);
         } else {
             self.raise_as::<Brand>(seat, made, change);
-            self.end_as::<Brand>(seat, Change::Nothing);
+            self.put_home_as::<Brand>(seat, Change::Nothing);
         }
     }
 }
@@ -103,6 +105,7 @@ impl<S: Stage> Board<S> {
     ghost use Rattle.board.specs.Holding.{IsAtRest, HasLetGo, MayDo, HasAnswered};
     ghost use Rattle.board.specs.Names.{view, board_of, board_id};
 
+    // Takes the slot, does the task with the core there, and gives the slot back; where it isn't taken, leaves.
     fn hold<H: Taking<S>, T: Task<S>>(
         &self,
         how: H,
@@ -127,7 +130,7 @@ impl<S: Stage> Board<S> {
         }
     }
 
-    // One hold by a pass, which has one try less then.
+    // The hold of a pass, which has one try less afterwards.
     pub(crate) fn call<H: Taking<S>, T: Task<S>>(
         &self,
         how: H,

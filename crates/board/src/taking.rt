@@ -1,4 +1,4 @@
-//! How a call takes the slot.
+//! The ways in which a call takes the slot.
 ghost use Rattle.std.specs.Prelude.{◌≡◌, Bool, true, false, []};
 ghost use Rattle.board.specs.Plays.{Took};
 ghost use Rattle.board.specs.Calls.{IsBusy};

@@ -14,15 +14,16 @@ pub(crate) trait Task<S: Stage> {
 
     type Answer;
 
-    // Of the core that it is given.
+    // What it asks of the core.
     ghost may: { Self → Machine → Type 0 };
 
-    // Of the room and the core before, the answer, the core and the room after, and the change.
+    // What it did: of the room and the core before, the answer, the core and the room after, and the change.
     ghost did: { Self → Self.Room → Machine → Self.Answer → Machine → Self.Room → ChangeIs → Type 0 };
 
-    // What it answers where the slot is out.
+    // Its answer where the slot is out.
     ghost left: { Self → Self.Answer };
 
+    // Does it, and says what change it was.
     fn run(
         self,
         bell: &Bell,
@@ -35,6 +36,7 @@ pub(crate) trait Task<S: Stage> {
         ensures done { did self room.old core.old result core.new room.new change.new }
         ensures lawful { IsLawful core.new };
 
+    // Where the slot is out.
     fn leave(self) -> Self::Answer
         ensures { result ≡ left self };
 }

@@ -3,7 +3,7 @@ use Rattle.board.specs.Pass.{the_view}
 use Rattle.board.specs.declared.view.View.{View}
 use Rattle.board.specs.Calls.{less_one_try, FinishOnTold, most_after}
 use Rattle.board.proofs.Changes.{may_finish, go_on_changed}
-use Rattle.board.proofs.Told.{go_on_held}
+use Rattle.board.proofs.Outcomes.{go_on_held}
 use Rattle.board.proofs.Tells.{either_of}
 use Rattle.board.proofs.board.Board.finish_and_go_on.Goals as goal
 

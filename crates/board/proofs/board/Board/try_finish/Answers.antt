@@ -2,7 +2,7 @@ use Rattle.board.specs.Pass.{the_view}
 use Rattle.board.specs.declared.view.View.{View}
 use Rattle.board.specs.Calls.{less_one_try}
 use Rattle.board.proofs.Changes.{may_finish, finish_changed}
-use Rattle.board.proofs.Told.{finish_held, try_finish_told, busy_finish_told}
+use Rattle.board.proofs.Outcomes.{finish_held, try_finish_told, busy_finish_told}
 use Rattle.board.proofs.Tells.{either_of}
 use Rattle.board.proofs.board.Board.try_finish.Goals as goal
 

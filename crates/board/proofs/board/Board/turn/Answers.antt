@@ -3,7 +3,7 @@ use Rattle.board.specs.Pass.{the_view}
 use Rattle.board.specs.declared.view.View.{View}
 use Rattle.board.specs.Calls.{less_one_try}
 use Rattle.board.proofs.Changes.{turn_changed}
-use Rattle.board.proofs.Told.{turn_held}
+use Rattle.board.proofs.Outcomes.{turn_held}
 use Rattle.board.proofs.Tells.{either_of}
 use Rattle.board.proofs.board.Board.turn.Goals as goal
 

@@ -5,7 +5,7 @@ use Rattle.board.specs.Rule.{IsOrdered}
 use Rattle.board.specs.Plays.{Sat, Gave, after_give}
 use Rattle.board.specs.Holding.{counted, with_kept}
 use Rattle.board.proofs.Keeps.{gives_back}
-use Rattle.board.proofs.board.Board.end_as.Goals as goal
+use Rattle.board.proofs.board.Board.put_home_as.Goals as goal
 
 pub count-requires : goal.count-requires
 count-requires g c = let t = c.requires.may in record { id = c.requires.id; kept = (t.0, t.1, t.2.0) }
@@ -19,8 +19,8 @@ swap-requires g c = let t = c.requires.may in let me = c.args.seat.now.me in let
           (gives_back seat.id seat.me me.0 t.2.1.0 (counted t.0) home lost is t.2.1.1),
     )
 
-pub returns-clause-ended : goal.returns-clause-ended
-returns-clause-ended g c k e = let home = g.B.Brings.home in let lost = g.B.Brings.lost in
+pub returns-clause-home : goal.returns-clause-home
+returns-clause-home g c k e = let home = g.B.Brings.home in let lost = g.B.Brings.lost in
     let is : c.count.new.seat.me ≡ with_kept c.args.seat.now.me.0 (counted k) = c.count.ensures.counted k e in
     let end = c.swap.ensures.2 (counted k) (ap (λ (m : Sat). m.1) is) in
     (c.swap.result, end ∙ ap (λ (m : Sat). (after_give home lost c.swap.result m.0 (counted k), [])) is)
