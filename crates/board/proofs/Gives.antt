@@ -1,5 +1,5 @@
--- What the holder may give back, and what its view shows then: the core as it was, after an entry, after a job came home and after one was lost.
-use Rattle.std.proofs.Common.{◌≡◌, ℕ, suc, ◌+◌, ◌<◌, ◌≤◌, ◌≢◌, ◌⊎◌, ◌||◌, List, [], ◌∷◌, ◌++◌, length, take, sym, refl, ap, ◌∙◌, subst, inl, inr, arith, length-append, Some, Bool, true, false, cond, not, eq-eqb, ne_eqb, lt-ltb}
+-- Places of jobs; what the holder may give back, and what it sees after a raise; what is known at the end of a board.
+use Rattle.std.proofs.Common.{◌≡◌, ℕ, suc, ◌+◌, ◌<◌, ◌≤◌, ◌≢◌, ◌⊎◌, ◌||◌, List, [], ◌∷◌, ◌++◌, length, take, sym, refl, ap, ◌∙◌, subst, inl, inr, arith, length-append, Bool, true, false, cond, not, eq-eqb, ne_eqb, lt-ltb}
 use Rattle.std.specs.Prelude.{nat_lt}
 use mathlib.Core.Logic.{dite}
 use mathlib.Core.List.{IsPrefix}
@@ -7,15 +7,14 @@ use native.Mathlib.Decide.{ℕ_discrete}
 use Rattle.std.proofs.Math.Bool.{or-false, or-true}
 use Rattle.std.proofs.lemmas.List.{nil_from_length, take-append-le, length-take}
 use Rattle.pipe_model.specs.declared.step.Entry.{Entry}
-use Rattle.core_machine.specs.Machine.{IsLawful, came_home, broke_down, without, is_among}
+use Rattle.core_machine.specs.Machine.{without, is_among}
 use Rattle.board.specs.Counts.{times, all_shares}
-use Rattle.board.specs.Rule.{Kept, machine_of, made_since, HasMade, MayGive}
-use Rattle.board.specs.Plays.{Sees, AreNew, new_places, after_raise, after_give}
+use Rattle.board.specs.Rule.{Kept, made_since, HasMade, MayGive}
+use Rattle.board.specs.Plays.{Sees, AreNew, new_places, after_raise}
 use Rattle.board.specs.declared.view.View.{View}
-use Rattle.board.proofs.Sums.{only, only-same, only-other, times-append, times-cons, times-one, places-le}
-use Rattle.board.proofs.Prefixes.{prefix_trans}
+use Rattle.board.proofs.Sums.{only, only-same, only-other, times-append, times-cons, times-one, places-le, places_after-none}
+use Rattle.board.proofs.Prefixes.{prefix_trans, prefix_whole}
 use Rattle.board.proofs.Raises.{new_is, mine_more, places_more, raised_parts}
-use Rattle.board.proofs.Moves.{same_machine, lawful_on}
 
 -- Places
 
@@ -50,21 +49,7 @@ taken_out q p l one = let itself = times-one q p in dite (ℕ_discrete p q)
     let all : times q l ≡ 1 = ap (λ (z : ℕ). times z l) (sym e) ∙ one in omega arith)
     (λ ne. let other = only-other q p ne in let rest = without-other q p l (λ e. ne (sym e)) in omega arith)
 
--- What may be given back
-
-module _ (v : View) (h : Kept) (held : v.held ≡ Some h) (share : 0 < v.shares) (parts : (p : ℕ) → times p v.home + times p v.lost ≤ times p v.mine) where
-  -- the core as it was taken
-  pub same_may : MayGive v h (h.0, h.1 + 1) [] []
-  same_may = record {
-    held = held;
-    shares = share;
-    turns = refl;
-    journal = refl;
-    net = (refl, refl);
-    jobs = λ p. omega arith;
-    parts = λ p. let a = parts p in omega arith;
-    broken = sym (or-false h.0.is_broken);
-  }
+-- Jobs that are out
 
 module _ (v : View) (h : Kept) (sees : Sees v h) (p : ℕ) (made : 0 < times p v.mine) (away : times p v.home ≡ 0) (kept : times p v.lost ≡ 0) where
   -- the job of a place that the pass made, and that is neither home nor lost, is out
@@ -77,59 +62,34 @@ module _ (v : View) (h : Kept) (sees : Sees v h) (p : ℕ) (made : 0 < times p v
       (λ e. let F : ℕ → Type 0 = λ z. times z v.home + times z v.lost + only z p ≤ times z v.mine in let d = only-same p in subst F e (omega arith))
       (λ ne. let other = only-other q p ne in omega arith)
 
-  module _ (held : v.held ≡ Some h) (share : 0 < v.shares) where
-    pub home_may : MayGive v h (came_home h.0 p, h.1 + 1) (p ∷ []) []
-    home_may = record {
-      held = held;
-      shares = share;
-      turns = refl;
-      journal = refl;
-      net = (refl, refl);
-      jobs = λ q. taken_out q p h.0.out is_out.0;
-      parts = λ q. let a = one_more q in let b = times-one q p in omega arith;
-      broken = sym (or-false h.0.is_broken);
-    }
-
-    pub lost_may : MayGive v h (broke_down h.0, h.1 + 1) [] (p ∷ [])
-    lost_may = record {
-      held = held;
-      shares = share;
-      turns = refl;
-      journal = refl;
-      net = (refl, refl);
-      jobs = λ q. omega arith;
-      parts = λ q. let a = one_more q in let b = times-one q p in omega arith;
-      broken = sym (or-true h.0.is_broken);
-    }
-
--- What the view shows once it was given back
-
-module _ (v : View) (h k : Kept) (home lost : List ℕ) (sees : Sees v h) (may : MayGive v h k home lost) where
-  pub gave_seen : IsPrefix v.seen k.0.journal
-  gave_seen = subst (IsPrefix v.seen) (sym may.journal) sees.seen
-
-  pub gave_net : (k.0.net ≡ v.net) × (k.0.budget ≡ v.budget)
-  gave_net = let n = sees.net may.shares in (may.net.0 ∙ n.0, may.net.1 ∙ n.1)
-
-  -- the core as it is
-  pub gave_machine : (r : ℕ) → machine_of (after_give home lost r v k) ≡ k.0
-  gave_machine r = same_machine (machine_of (after_give home lost r v k)) k.0 (sym gave_net.0) (sym gave_net.1) refl refl refl
-
-  pub gave_lawful : (r : ℕ) → IsLawful (machine_of (after_give home lost r v k))
-  gave_lawful r = subst IsLawful (sym (gave_machine r)) (lawful_on h.0 k.0 may.net.0 may.net.1 may.journal sees.lawful)
-
-  pub gave_jobs : (p : ℕ) → 0 < times p v.mine → times p (v.home ++ home) + times p k.0.out ≡ 1
-  gave_jobs p made = let a = sees.jobs p made in let b = may.jobs p in let c = times-append p v.home home in omega arith
-
-  pub gave_parts : (p : ℕ) → times p (v.home ++ home) + times p (v.lost ++ lost) ≤ times p v.mine
-  gave_parts p = let a = may.parts p in let b = times-append p v.home home in let c = times-append p v.lost lost in omega arith
-
 -- A raise
 
 module _ (v : View) (h k : Kept) (home lost : List ℕ) (t : HasMade v h k home lost) where
   -- who raised the length word for the core that is held may give it back
   pub raised_may : MayGive (after_raise home lost v k) k (k.0, k.1 + 1) [] []
-  raised_may = same_may (after_raise home lost v k) k refl t.shares (raised_parts v h k home lost t)
+  raised_may = record {
+    held = refl;
+    shares = t.shares;
+    turns = refl;
+    journal = refl;
+    net = (refl, refl);
+    jobs = λ p. omega arith;
+    parts = λ p. let a = raised_parts v h k home lost t p in omega arith;
+    broken = sym (or-false k.0.is_broken);
+  }
+
+  -- and so may who made no entry, without a raise
+  pub unraised_may : length k.0.journal ≡ length h.0.journal → MayGive v h (k.0, k.1 + 1) home lost
+  unraised_may same = let none : made_since h k ≡ [] = places_after-none (length h.0.journal) (length k.0.journal) same in record {
+    held = t.held;
+    shares = t.shares;
+    turns = let a = t.turns in omega arith;
+    journal = sym (prefix_whole h.0.journal k.0.journal t.journal (omega arith));
+    net = t.net;
+    jobs = λ p. let a = t.jobs p in let b = ap (times p) none in omega arith;
+    parts = λ p. let a = t.parts p in let b = ap (times p) none in omega arith;
+    broken = t.broken;
+  }
 
   module _ (sees : Sees v h) where
     broken_too : 0 < length (v.lost ++ lost) → k.0.is_broken ≡ true

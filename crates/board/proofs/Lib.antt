@@ -7,8 +7,7 @@ pub mod Keeps
 pub mod Joins
 pub mod Gives
 pub mod Holder
-pub mod Working
-pub mod Onward
 pub mod Tells
+pub mod Changes
+pub mod Outcomes
 pub mod Works
-pub mod LoneNet

@@ -3,5 +3,6 @@ pub mod Rule
 pub mod Plays
 pub mod Calls
 pub mod Holding
+pub mod Tasks
 pub mod Pass
 pub mod Names

@@ -4,6 +4,7 @@ use crate::bell::Bell;
 use crate::core_box::CoreBox;
 use crate::pass::Pass;
 use crate::plays::{About, Order, Slot};
+use crate::taking::{Napping, Taking};
 use crate::view::View;
 use atomic_table::{Refused, Seat, Table};
 use core_machine::Core;
@@ -98,12 +99,12 @@ impl<S: Stage> Board<S> {
 impl<S: Stage> Board<S> {
     ghost use Rattle.std.specs.Prelude.{◌≡◌, ◌<◌};
     ghost use Rattle.board.specs.Calls.{Ends};
-    ghost use Rattle.board.specs.Holding.{IsHolder, IfKept};
+    ghost use Rattle.board.specs.Holding.{HasKept, IfKept};
     ghost use Rattle.board.specs.Names.{view, board_of, board_id};
 
     fn take_core(&self, seat: &mut Seat<Slot<S>, View>) -> Core<S>
         requires id { seat.old.table_id ≡ self.now.table.shared.table_id }
-        requires holder { IsHolder seat.old.me }
+        requires kept { HasKept seat.old.me (λ _. Unit {0}) }
         ensures { IfKept seat.old.me (λ k. result ≡ k.0) }
     {
         let Some((core, _)) = self.table.shared.exchange(seat, 0, None) else {
@@ -121,7 +122,9 @@ impl<S: Stage> Board<S> {
     {
         let Pass { badge, .. } = pass;
         let mut seat = badge.into_seat::<Slot<S>>();
-        self.take_napping(rt, &mut seat);
+        if !Napping(rt).take(&self, &mut seat) {
+            unreachable!()
+        }
         let core = self.take_core(&mut seat);
         drop(seat);
         core

@@ -1,73 +1,61 @@
 //! Jobs that come home.
 use crate::answers::TryFinish;
-use crate::board::{Board, TURN};
-use crate::pass::{Pass, sit};
-use crate::plays::{Slot, Try};
-use crate::view::View;
-use atomic_table::Seat;
-use core_machine::Finished;
+use crate::bell::Bell;
+use crate::board::Board;
+use crate::change::Change;
+use crate::pass::Pass;
+use crate::taking::{Awake, Once};
+use crate::task::Task;
+use core_machine::{Core, Finished};
 use stage_steps::Stage;
 use std::sync::Wait;
 
-// Over a seat.
-impl<S: Stage> Board<S> {
-    ghost use Rattle.std.specs.Prelude.{◌≡◌, take};
-    ghost use Rattle.core_machine.specs.Jobs.{DoneStands};
-    ghost use Rattle.board.specs.Plays.{without_slot};
-    ghost use Rattle.board.specs.Calls.{CanFinish, HeldFinish, FinishTold, TryFinishTold};
-    ghost use Rattle.board.specs.Holding.{IsHolder, IsAtRest, HasLetGo, IfKept};
+/// A job is brought home.
+#[derive(Drop)]
+struct Finishing<S: Stage> {
+    done: Finished<S>,
+}
 
-    fn finish_held(&self, seat: &mut Seat<Slot<S>, View>, done: Finished<S>) -> TryFinish<S>
-        requires id { seat.old.table_id ≡ self.now.table.shared.table_id }
-        requires holder { IsHolder seat.old.me }
-        requires can { CanFinish seat.old.me.0 done.place }
-        requires stands { DoneStands S.stands seat.old.me.0.net (take done.place seat.old.me.0.seen) done }
-        ensures id { (seat.new.table_id ≡ seat.old.table_id) × (seat.new.id ≡ seat.old.id) }
-        ensures free { HasLetGo seat.new.me }
-        ensures told { IfKept seat.old.me (λ k. HeldFinish (without_slot seat.old.me.0) k.0 done.place result seat.new.me.0) }
-    {
+impl<S: Stage> Task<S> for Finishing<S> {
+    ghost use Rattle.board.specs.declared.answers.TryFinish.TheVariants.{Busy};
+    ghost use Rattle.board.specs.Tasks.{MayFinish, FinishDid};
+
+    type Room = ();
+
+    type Answer = TryFinish<S>;
+
+    ghost may = { λ t m. MayFinish S.stands t.done m };
+
+    ghost did = { λ t _ m answer n _ c. FinishDid m t.done.place answer n c };
+
+    ghost left = { λ t. Busy t.done };
+
+    fn run(
+        self,
+        _bell: &Bell,
+        core: &mut Core<S>,
+        _room: &mut (),
+        change: &mut Change,
+    ) -> TryFinish<S> {
+        let Finishing { done } = self;
         let place = done.place();
-        if self.finish_core(seat, done) {
-            self.give_home(seat, place);
+        if core.finish(done).is_ok() {
+            let len = core.len();
+            *change = Change::Home {
+                place,
+                made: 0,
+                len,
+            };
             TryFinish::Home
         } else {
-            self.give_lost(seat, place);
+            *change = Change::Lost { place };
             TryFinish::NoMemory
         }
     }
 
-    fn try_finish_seat(&self, seat: &mut Seat<Slot<S>, View>, done: Finished<S>) -> TryFinish<S>
-        requires id { seat.old.table_id ≡ self.now.table.shared.table_id }
-        requires rest { IsAtRest seat.old.me }
-        requires can { CanFinish seat.old.me.0 done.place }
-        requires stands { DoneStands S.stands seat.old.me.0.net (take done.place seat.old.me.0.seen) done }
-        ensures id { (seat.new.table_id ≡ seat.old.table_id) × (seat.new.id ≡ seat.old.id) }
-        ensures free { HasLetGo seat.new.me }
-        ensures told { TryFinishTold seat.old.me.0 done result seat.new.me.0 }
-    {
-        if self.table.shared.fetch_add::<Try>(seat, TURN, 1) == 0 {
-            self.finish_held(seat, done)
-        } else {
-            TryFinish::Busy(done)
-        }
-    }
-
-    fn finish_seat<R: Wait>(
-        &self,
-        rt: &R,
-        seat: &mut Seat<Slot<S>, View>,
-        done: Finished<S>,
-    ) -> TryFinish<S>
-        requires id { seat.old.table_id ≡ self.now.table.shared.table_id }
-        requires rest { IsAtRest seat.old.me }
-        requires can { CanFinish seat.old.me.0 done.place }
-        requires stands { DoneStands S.stands seat.old.me.0.net (take done.place seat.old.me.0.seen) done }
-        ensures id { (seat.new.table_id ≡ seat.old.table_id) × (seat.new.id ≡ seat.old.id) }
-        ensures free { HasLetGo seat.new.me }
-        ensures told { FinishTold seat.old.me.0 done.place result seat.new.me.0 }
-    {
-        self.take_awake(rt, seat);
-        self.finish_held(seat, done)
+    fn leave(self) -> TryFinish<S> {
+        let Finishing { done } = self;
+        TryFinish::Busy(done)
     }
 }
 
@@ -91,11 +79,7 @@ impl<S: Stage> Board<S> {
         ensures goes { GoesOn (view pass.old) (view pass.new) }
         ensures made { (view pass.new).mine ≡ (view pass.old).mine }
     {
-        let mut seat = sit(&mut pass.badge);
-        let answer = self.try_finish_seat(&mut seat, done);
-        pass.badge = seat.into_badge();
-        pass.tries -= 1;
-        answer
+        self.call(Once, pass, Finishing { done }, &mut ())
     }
 
     /// The same, but it waits where the slot is out, and never answers `Busy`.
@@ -109,10 +93,6 @@ impl<S: Stage> Board<S> {
         ensures goes { GoesOn (view pass.old) (view pass.new) }
         ensures made { (view pass.new).mine ≡ (view pass.old).mine }
     {
-        let mut seat = sit(&mut pass.badge);
-        let answer = self.finish_seat(rt, &mut seat, done);
-        pass.badge = seat.into_badge();
-        pass.tries -= 1;
-        answer
+        self.call(Awake(rt), pass, Finishing { done }, &mut ())
     }
 }

@@ -1,84 +1,80 @@
 //! Jobs that come home to a core that goes on.
 use crate::answers::{AtOnce, TryFinish};
+use crate::bell::Bell;
 use crate::board::Board;
-use crate::core_box::Came;
-use crate::pass::{Pass, sit};
-use crate::plays::Slot;
-use crate::view::View;
-use atomic_table::Seat;
-use core_machine::Finished;
+use crate::change::Change;
+use crate::pass::Pass;
+use crate::taking::Awake;
+use crate::task::Task;
+use core_machine::{Core, Finished};
 use outside::Gate;
 use stage_steps::Stage;
 use std::alloc::Global;
 use std::sync::Wait;
 
-// Over a seat.
-impl<S: Stage> Board<S> {
-    ghost use Rattle.std.specs.Prelude.{◌≡◌, take};
-    ghost use Rattle.core_machine.specs.Jobs.{DoneStands};
-    ghost use Rattle.board.specs.Plays.{without_slot};
-    ghost use Rattle.board.specs.Calls.{CanFinish, HeldFinishOn, FinishOnTold, most_after};
-    ghost use Rattle.board.specs.Holding.{IsHolder, IsAtRest, HasLetGo, IfKept};
+/// A job is brought home, and the core goes on by steps by which a record is taken or put, or, where the gate is open, seen.
+#[derive(Drop)]
+struct GoingOn<S: Stage> {
+    alloc: Global,
+    done: Finished<S>,
+    gate_is_open: bool,
+    at_once: AtOnce,
+}
 
-    fn finish_on_held(
-        &self,
-        alloc: Global,
-        seat: &mut Seat<Slot<S>, View>,
-        done: Finished<S>,
-        sights: bool,
-        at_once: AtOnce,
-    ) -> TryFinish<S>
-        requires id { seat.old.table_id ≡ self.now.table.shared.table_id }
-        requires holder { IsHolder seat.old.me }
-        requires can { CanFinish seat.old.me.0 done.place }
-        requires stands { DoneStands S.stands seat.old.me.0.net (take done.place seat.old.me.0.seen) done }
-        ensures id { (seat.new.table_id ≡ seat.old.table_id) × (seat.new.id ≡ seat.old.id) }
-        ensures free { HasLetGo seat.new.me }
-        ensures told { IfKept seat.old.me (λ k. HeldFinishOn (without_slot seat.old.me.0) k.0 done.place sights (most_after at_once k.0 done.place) result seat.new.me.0) }
-    {
+impl<S: Stage> Task<S> for GoingOn<S> {
+    ghost use Rattle.board.specs.declared.answers.TryFinish.TheVariants.{Busy};
+    ghost use Rattle.board.specs.Calls.{most_after};
+    ghost use Rattle.board.specs.Tasks.{MayFinish, GoOnDid};
+
+    type Room = ();
+
+    type Answer = TryFinish<S>;
+
+    ghost may = { λ t m. MayFinish S.stands t.done m };
+
+    ghost did = { λ t _ m answer n _ c. GoOnDid t.gate_is_open (most_after t.at_once m t.done.place) m t.done.place answer n c };
+
+    ghost left = { λ t. Busy t.done };
+
+    fn run(
+        self,
+        bell: &Bell,
+        core: &mut Core<S>,
+        _room: &mut (),
+        change: &mut Change,
+    ) -> TryFinish<S> {
+        let GoingOn {
+            alloc,
+            done,
+            gate_is_open,
+            at_once,
+        } = self;
         let place = done.place();
-        let (came, len) = self.finish_on_core(alloc, seat, done, sights, at_once);
-        match came {
-            Came::Home { made: 0 } => {
-                self.bell.note_steps(true);
-                self.give_home(seat, place);
+        if core.finish(done).is_err() {
+            *change = Change::Lost { place };
+            return TryFinish::NoMemory;
+        }
+        let most = at_once.most_beside(core.out_count());
+        let start = core.len();
+        match core.run_on_records(alloc, gate_is_open, most) {
+            Ok(made) => {
+                bell.note_steps(made == 0 || made != at_once.beside);
+                let len = core.len();
+                *change = Change::Home { place, made, len };
                 TryFinish::Home
             }
-            Came::Home { made } => {
-                self.bell.note_steps(made != at_once.beside);
-                self.give_gone_on(seat, place, made, len);
-                TryFinish::Home
-            }
-            Came::Short { made } => {
-                self.give_short(seat, place, made, len);
-                TryFinish::NoMemory
-            }
-            Came::Lost => {
-                self.give_lost(seat, place);
+            Err(_) => {
+                let len = core.len();
+                let made = len - start;
+                *change = Change::Short { place, made, len };
                 TryFinish::NoMemory
             }
         }
     }
 
-    fn finish_on_seat<R: Wait>(
-        &self,
-        rt: &R,
-        alloc: Global,
-        seat: &mut Seat<Slot<S>, View>,
-        done: Finished<S>,
-        sights: bool,
-        at_once: AtOnce,
-    ) -> TryFinish<S>
-        requires id { seat.old.table_id ≡ self.now.table.shared.table_id }
-        requires rest { IsAtRest seat.old.me }
-        requires can { CanFinish seat.old.me.0 done.place }
-        requires stands { DoneStands S.stands seat.old.me.0.net (take done.place seat.old.me.0.seen) done }
-        ensures id { (seat.new.table_id ≡ seat.old.table_id) × (seat.new.id ≡ seat.old.id) }
-        ensures free { HasLetGo seat.new.me }
-        ensures told { FinishOnTold seat.old.me.0 done.place sights at_once result seat.new.me.0 }
-    {
-        self.take_awake(rt, seat);
-        self.finish_on_held(alloc, seat, done, sights, at_once)
+    fn leave(self) -> TryFinish<S> {
+        let GoingOn { done, .. } = self;
+        TryFinish::Busy(done)
     }
 }
 
@@ -111,11 +107,12 @@ impl<S: Stage> Board<S> {
         ensures told { FinishOnTold (view pass.old) done.place (G.is_open gate.now) at_once result (view pass.new) }
         ensures goes { GoesOn (view pass.old) (view pass.new) }
     {
-        let sights = gate.is_open();
-        let mut seat = sit(&mut pass.badge);
-        let answer = self.finish_on_seat(rt, alloc, &mut seat, done, sights, at_once);
-        pass.badge = seat.into_badge();
-        pass.tries -= 1;
-        answer
+        let task = GoingOn {
+            alloc,
+            done,
+            gate_is_open: gate.is_open(),
+            at_once,
+        };
+        self.call(Awake(rt), pass, task, &mut ())
     }
 }

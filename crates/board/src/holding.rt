@@ -1,96 +1,48 @@
-//! What a pass does while it has the slot in hand: its steps on the core there, and how it gives the slot back.
-use crate::answers::AtOnce;
+//! How a call takes the slot, does its task with the core there, and gives the slot back.
 use crate::board::{Board, LENGTH, TURN};
-use crate::core_box::Came;
+use crate::change::Change;
+use crate::core_box::CoreBox;
+use crate::pass::{Pass, sit};
 use crate::plays::{Brings, Give, Raise, Slot};
-use crate::slot::{count_slot, finish_on_slot, finish_slot, least_slot, out_slot, turn_slot};
+use crate::taking::Taking;
+use crate::task::Task;
 use crate::view::View;
 use atomic_table::Seat;
-use core_machine::{Finished, Turned};
 use stage_steps::Stage;
-use std::alloc::Global;
 use std::marker::Brand;
+use std::mem;
 
-// The core in the slot.
+// The slot in hand, as plain memory.
 impl<S: Stage> Board<S> {
-    ghost use Rattle.std.specs.Prelude.{◌≡◌, ◌≤◌, true, length, take, vec_capacity};
-    ghost use Rattle.core_machine.specs.Machine.{is_among, IsLawful};
-    ghost use Rattle.core_machine.specs.Jobs.{DoneStands};
-    ghost use Rattle.core_machine.specs.Answered.{IsRefusal, TurnedAs, LeastTurnedAs};
+    ghost use Rattle.std.specs.Prelude.{◌≡◌, ◌≤◌};
+    ghost use Rattle.core_machine.specs.Machine.{Machine, IsLawful};
     ghost use Rattle.board.specs.Counts.{all_tries};
-    ghost use Rattle.board.specs.Rule.{Kept};
-    ghost use Rattle.board.specs.Calls.{most_after};
-    ghost use Rattle.board.specs.Holding.{HasKept, IfKept, with_kept, counted, FinishedAs, CameAs};
+    ghost use Rattle.board.specs.Holding.{HasKept, IfKept, with_kept, counted};
 
-    pub(crate) fn turn_core(
+    // Lends the core there to a task.
+    fn lend<T: Task<S>>(
         &self,
         seat: &mut Seat<Slot<S>, View>,
-        strand: u32,
-        stream: u16,
-        room: &mut Vec<u8>,
-    ) -> Turned<S>
+        task: T,
+        room: &mut T::Room,
+        change: &mut Change,
+    ) -> T::Answer
         requires id { seat.old.table_id ≡ self.now.table.shared.table_id }
-        requires kept { HasKept seat.old.me (λ _. Unit {0}) }
+        requires kept { HasKept seat.old.me (λ k. T.may task k.0) }
+        requires none { change.old ≡ Change.Nothing }
         ensures id { (seat.new.table_id ≡ seat.old.table_id) × (seat.new.id ≡ seat.old.id) }
-        ensures turned { IfKept seat.old.me (λ k. (l : Kept) × (seat.new.me ≡ with_kept seat.old.me.0 l) × TurnedAs S.stands k.0 strand stream (vec_capacity room.old) result l.0 room.new.items × (l.1 ≡ k.1) × IsLawful l.0) }
-        ensures room { IsRefusal result → (room.new.items ≡ room.old.items) × (vec_capacity room.new ≡ vec_capacity room.old) }
-        ensures capacity { vec_capacity room.old ≤ vec_capacity room.new }
+        ensures lent { IfKept seat.old.me (λ k. (n : Machine) × (seat.new.me ≡ with_kept seat.old.me.0 (n, k.1)) × T.did task room.old k.0 result n room.new change.new × IsLawful n) }
     {
         let slot = seat.slot_mut(&self.table.shared, 0);
-        turn_slot(slot, strand, stream, room)
+        let Some((CoreBox { mut core }, turns)) = mem::replace(slot, None) else {
+            unreachable!()
+        };
+        let answer = task.run(&self.bell, &mut core, room, change);
+        *slot = Some((CoreBox { core }, turns));
+        answer
     }
 
-    pub(crate) fn least_core(&self, seat: &mut Seat<Slot<S>, View>, room: &mut Vec<u8>) -> Turned<S>
-        requires id { seat.old.table_id ≡ self.now.table.shared.table_id }
-        requires kept { HasKept seat.old.me (λ _. Unit {0}) }
-        ensures id { (seat.new.table_id ≡ seat.old.table_id) × (seat.new.id ≡ seat.old.id) }
-        ensures turned { IfKept seat.old.me (λ k. (l : Kept) × (seat.new.me ≡ with_kept seat.old.me.0 l) × LeastTurnedAs S.stands k.0 (vec_capacity room.old) result l.0 room.new.items × (l.1 ≡ k.1) × IsLawful l.0) }
-        ensures room { IsRefusal result → (room.new.items ≡ room.old.items) × (vec_capacity room.new ≡ vec_capacity room.old) }
-        ensures capacity { vec_capacity room.old ≤ vec_capacity room.new }
-    {
-        let slot = seat.slot_mut(&self.table.shared, 0);
-        least_slot(slot, room)
-    }
-
-    pub(crate) fn out_core(&self, seat: &mut Seat<Slot<S>, View>) -> u32
-        requires id { seat.old.table_id ≡ self.now.table.shared.table_id }
-        requires kept { HasKept seat.old.me (λ _. Unit {0}) }
-        ensures id { (seat.new.table_id ≡ seat.old.table_id) × (seat.new.id ≡ seat.old.id) }
-        ensures out { IfKept seat.old.me (λ k. (seat.new.me ≡ with_kept seat.old.me.0 k) × (result ≡ length k.0.out)) }
-    {
-        let slot = seat.slot_mut(&self.table.shared, 0);
-        out_slot(slot)
-    }
-
-    // The answer is whether there was memory.
-    pub(crate) fn finish_core(&self, seat: &mut Seat<Slot<S>, View>, done: Finished<S>) -> bool
-        requires id { seat.old.table_id ≡ self.now.table.shared.table_id }
-        requires kept { HasKept seat.old.me (λ k. (is_among done.place k.0.out ≡ true) × DoneStands S.stands k.0.net (take done.place k.0.journal) done) }
-        ensures id { (seat.new.table_id ≡ seat.old.table_id) × (seat.new.id ≡ seat.old.id) }
-        ensures finished { IfKept seat.old.me (λ k. (l : Kept) × (seat.new.me ≡ with_kept seat.old.me.0 l) × FinishedAs k.0 done.place result l.0 × (l.1 ≡ k.1) × IsLawful l.0) }
-    {
-        let slot = seat.slot_mut(&self.table.shared, 0);
-        finish_slot(slot, done)
-    }
-
-    // The same, and the core goes on. The second of the answer is how many entries the journal has now.
-    pub(crate) fn finish_on_core(
-        &self,
-        alloc: Global,
-        seat: &mut Seat<Slot<S>, View>,
-        done: Finished<S>,
-        sights: bool,
-        at_once: AtOnce,
-    ) -> (Came, u64)
-        requires id { seat.old.table_id ≡ self.now.table.shared.table_id }
-        requires kept { HasKept seat.old.me (λ k. (is_among done.place k.0.out ≡ true) × DoneStands S.stands k.0.net (take done.place k.0.journal) done) }
-        ensures id { (seat.new.table_id ≡ seat.old.table_id) × (seat.new.id ≡ seat.old.id) }
-        ensures came { IfKept seat.old.me (λ k. (l : Kept) × (seat.new.me ≡ with_kept seat.old.me.0 l) × CameAs sights (most_after at_once k.0 done.place) k.0 done.place result.0 l.0 × (result.1 ≡ length l.0.journal) × (l.1 ≡ k.1) × IsLawful l.0) }
-    {
-        let slot = seat.slot_mut(&self.table.shared, 0);
-        finish_on_slot(alloc, slot, done, sights, at_once)
-    }
-
+    // Counts that it is given back once more.
     fn count(&self, seat: &mut Seat<Slot<S>, View>)
         requires id { seat.old.table_id ≡ self.now.table.shared.table_id }
         requires kept { HasKept seat.old.me (λ k. k.1 ≤ all_tries) }
@@ -98,115 +50,105 @@ impl<S: Stage> Board<S> {
         ensures counted { IfKept seat.old.me (λ k. seat.new.me ≡ with_kept seat.old.me.0 (counted k)) }
     {
         let slot = seat.slot_mut(&self.table.shared, 0);
-        count_slot(slot);
+        let Some(kept) = slot else { unreachable!() };
+        kept.1 += 1;
     }
 }
 
 // The steps by which the slot goes back.
 impl<S: Stage> Board<S> {
-    ghost use Rattle.std.specs.Prelude.{◌≡◌, ◌-◌, ◌≤◌, [], ◌∷◌};
-    ghost use Rattle.board.specs.Counts.{all_tries, places_after};
-    ghost use Rattle.board.specs.Plays.{after_raise, new_places, AreNew};
-    ghost use Rattle.board.specs.Holding.{HasKept, IfKept, with_kept, MayGiveBack, GaveBack, MayGiveMade, GaveMade};
+    ghost use Rattle.std.specs.Prelude.{◌≡◌};
+    ghost use Rattle.board.specs.Holding.{MayRaise, HasRaised, MayPutHome, HasPutHome, MayGiveBack, GaveBack};
 
-    fn raise_as<B: Brings>(&self, seat: &mut Seat<Slot<S>, View>, made: u64)
+    // Raises the length word by the entries made. The change is there for the proof of the call to pick.
+    fn raise_as<B: Brings>(&self, seat: &mut Seat<Slot<S>, View>, made: u64, _change: Change)
         requires id { seat.old.table_id ≡ self.now.table.shared.table_id }
-        requires may { MayGiveMade made B.home B.lost seat.old.me }
+        requires may { MayRaise made B.home B.lost seat.old.me }
         ensures id { (seat.new.table_id ≡ seat.old.table_id) × (seat.new.id ≡ seat.old.id) }
-        ensures raised { IfKept seat.old.me (λ k. (seat.new.me ≡ with_kept (after_raise B.home B.lost seat.old.me.0 k) k) × AreNew seat.old.me.0 (new_places seat.old.me.0 k)) }
+        ensures raised { HasRaised B.home B.lost seat.old.me seat.new.me }
     {
         self.table.shared.fetch_add::<Raise<B>>(seat, LENGTH, made);
     }
 
-    // Nobody is woken: who waits for the slot sleeps for a limited time.
-    fn give_as<B: Brings>(&self, seat: &mut Seat<Slot<S>, View>, _place: u64)
+    // Puts the slot home. Nobody is woken: who waits for the slot sleeps for a limited time.
+    fn put_home_as<B: Brings>(&self, seat: &mut Seat<Slot<S>, View>, _change: Change)
         requires id { seat.old.table_id ≡ self.now.table.shared.table_id }
-        requires may { MayGiveBack B.home B.lost seat.old.me }
+        requires may { MayPutHome B.home B.lost seat.old.me }
         ensures id { (seat.new.table_id ≡ seat.old.table_id) × (seat.new.id ≡ seat.old.id) }
-        ensures gave { GaveBack B.home B.lost seat.old.me seat.new.me }
+        ensures home { HasPutHome B.home B.lost seat.old.me seat.new.me }
     {
         self.count(seat);
         self.table.shared.swap::<Give<B>>(seat, TURN, 0);
     }
 
-    // Gives the slot back, with no place brought home or lost.
-    pub(crate) fn give(&self, seat: &mut Seat<Slot<S>, View>)
+    // Gives the slot back after the change. Where entries were made the length word is raised first.
+    fn give_back(&self, seat: &mut Seat<Slot<S>, View>, change: Change)
         requires id { seat.old.table_id ≡ self.now.table.shared.table_id }
-        requires may { MayGiveBack [] [] seat.old.me }
+        requires may { MayGiveBack change seat.old.me }
         ensures id { (seat.new.table_id ≡ seat.old.table_id) × (seat.new.id ≡ seat.old.id) }
-        ensures gave { GaveBack [] [] seat.old.me seat.new.me }
+        ensures gave { GaveBack change seat.old.me seat.new.me }
     {
-        self.give_as::<Brand>(seat, 0);
+        let made = change.made();
+        if made == 0 {
+            self.put_home_as::<Brand>(seat, change);
+        } else {
+            self.raise_as::<Brand>(seat, made, change);
+            self.put_home_as::<Brand>(seat, Change::Nothing);
+        }
     }
+}
 
-    pub(crate) fn give_home(&self, seat: &mut Seat<Slot<S>, View>, place: u64)
-        requires id { seat.old.table_id ≡ self.now.table.shared.table_id }
-        requires may { MayGiveBack (place ∷ []) [] seat.old.me }
-        ensures id { (seat.new.table_id ≡ seat.old.table_id) × (seat.new.id ≡ seat.old.id) }
-        ensures gave { GaveBack (place ∷ []) [] seat.old.me seat.new.me }
-    {
-        self.give_as::<Brand>(seat, place);
-    }
+// One hold.
+impl<S: Stage> Board<S> {
+    ghost use Rattle.std.specs.Prelude.{◌≡◌, ◌<◌};
+    ghost use Rattle.board.specs.Calls.{GoesOn};
+    ghost use Rattle.board.specs.Holding.{IsAtRest, HasLetGo, MayDo, HasAnswered};
+    ghost use Rattle.board.specs.Names.{view, board_of, board_id};
 
-    pub(crate) fn give_lost(&self, seat: &mut Seat<Slot<S>, View>, place: u64)
-        requires id { seat.old.table_id ≡ self.now.table.shared.table_id }
-        requires may { MayGiveBack [] (place ∷ []) seat.old.me }
-        ensures id { (seat.new.table_id ≡ seat.old.table_id) × (seat.new.id ≡ seat.old.id) }
-        ensures gave { GaveBack [] (place ∷ []) seat.old.me seat.new.me }
-    {
-        self.give_as::<Brand>(seat, place);
-    }
-
-    // Raises the length word by so many entries, which were made since the slot was taken, and gives the slot back.
-    fn give_made_as<B: Brings>(
+    // Takes the slot, does the task with the core there, and gives the slot back; where it isn't taken, leaves.
+    fn hold<H: Taking<S>, T: Task<S>>(
         &self,
+        how: H,
         seat: &mut Seat<Slot<S>, View>,
-        made: u64,
-        _place: u64,
-        _len: u64,
-    )
+        task: T,
+        room: &mut T::Room,
+    ) -> T::Answer
         requires id { seat.old.table_id ≡ self.now.table.shared.table_id }
-        requires may { MayGiveMade made B.home B.lost seat.old.me }
+        requires rest { IsAtRest seat.old.me }
+        requires may { MayDo (T.may task) (T.did task room.old) seat.old.me.0 }
         ensures id { (seat.new.table_id ≡ seat.old.table_id) × (seat.new.id ≡ seat.old.id) }
-        ensures gave { GaveMade B.home B.lost seat.old.me seat.new.me }
+        ensures free { HasLetGo seat.new.me }
+        ensures told { HasAnswered H.may_fail (T.did task room.old) (T.left task) room.old seat.old.me.0 result seat.new.me.0 room.new }
     {
-        self.raise_as::<B>(seat, made);
-        self.give(seat);
+        if how.take(self, seat) {
+            let mut change = Change::Nothing;
+            let answer = self.lend(seat, task, room, &mut change);
+            self.give_back(seat, change);
+            answer
+        } else {
+            task.leave()
+        }
     }
 
-    // So with an entry whose job is out.
-    pub(crate) fn give_work(&self, seat: &mut Seat<Slot<S>, View>)
-        requires id { seat.old.table_id ≡ self.now.table.shared.table_id }
-        requires may { MayGiveMade 1 [] [] seat.old.me }
-        ensures id { (seat.new.table_id ≡ seat.old.table_id) × (seat.new.id ≡ seat.old.id) }
-        ensures gave { GaveMade [] [] seat.old.me seat.new.me }
-    {
-        self.give_made_as::<Brand>(seat, 1, 0, 0);
-    }
-
-    // So with a job that is home, and the last of the journal's `len` entries, whose jobs are home.
-    pub(crate) fn give_gone_on(
+    // The hold of a pass, which has one try less afterwards.
+    pub(crate) fn call<H: Taking<S>, T: Task<S>>(
         &self,
-        seat: &mut Seat<Slot<S>, View>,
-        place: u64,
-        made: u64,
-        len: u64,
-    )
-        requires id { seat.old.table_id ≡ self.now.table.shared.table_id }
-        requires may { MayGiveMade made (place ∷ places_after (len - made) len) [] seat.old.me }
-        ensures id { (seat.new.table_id ≡ seat.old.table_id) × (seat.new.id ≡ seat.old.id) }
-        ensures gave { GaveMade (place ∷ places_after (len - made) len) [] seat.old.me seat.new.me }
+        how: H,
+        pass: &mut Pass,
+        task: T,
+        room: &mut T::Room,
+    ) -> T::Answer
+        requires board { board_of pass.old ≡ board_id self.now }
+        requires tries { 0 < (view pass.old).tries }
+        requires may { MayDo (T.may task) (T.did task room.old) (view pass.old) }
+        ensures board { board_of pass.new ≡ board_of pass.old }
+        ensures goes { GoesOn (view pass.old) (view pass.new) }
+        ensures told { HasAnswered H.may_fail (T.did task room.old) (T.left task) room.old (view pass.old) result (view pass.new) room.new }
     {
-        self.give_made_as::<Brand>(seat, made, place, len);
-    }
-
-    // So too, but the job of the last entry is lost.
-    pub(crate) fn give_short(&self, seat: &mut Seat<Slot<S>, View>, place: u64, made: u64, len: u64)
-        requires id { seat.old.table_id ≡ self.now.table.shared.table_id }
-        requires may { MayGiveMade made (place ∷ places_after (len - made) (len - 1)) (len ∷ []) seat.old.me }
-        ensures id { (seat.new.table_id ≡ seat.old.table_id) × (seat.new.id ≡ seat.old.id) }
-        ensures gave { GaveMade (place ∷ places_after (len - made) (len - 1)) (len ∷ []) seat.old.me seat.new.me }
-    {
-        self.give_made_as::<Brand>(seat, made, place, len);
+        let mut seat = sit(&mut pass.badge);
+        let answer = self.hold(how, &mut seat, task, room);
+        pass.badge = seat.into_badge();
+        pass.tries -= 1;
+        answer
     }
 }

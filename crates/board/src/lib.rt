@@ -5,6 +5,7 @@
 mod answers;
 mod bell;
 mod board;
+mod change;
 mod core_box;
 mod finishing;
 mod going_on;
@@ -13,8 +14,8 @@ mod pass;
 mod passes;
 mod plays;
 mod seeking;
-mod slot;
 mod taking;
+mod task;
 mod turning;
 mod view;
 

@@ -1,89 +1,60 @@
 //! Turns of the least strand that may have an event.
 use crate::answers::{Receipt, TryAny};
-use crate::board::{Board, TURN};
-use crate::pass::{Pass, sit};
-use crate::plays::{Slot, Try};
-use crate::view::View;
-use atomic_table::Seat;
-use core_machine::Turned;
+use crate::bell::Bell;
+use crate::board::Board;
+use crate::change::Change;
+use crate::pass::Pass;
+use crate::taking::{Napping, Once};
+use crate::task::Task;
+use core_machine::{Core, Turned};
 use stage_steps::Stage;
 use std::sync::Wait;
 
-// Over a seat.
-impl<S: Stage> Board<S> {
-    ghost use Rattle.std.specs.Prelude.{◌≡◌, ◌≤◌, vec_capacity};
-    ghost use Rattle.board.specs.Plays.{without_slot};
-    ghost use Rattle.board.specs.Calls.{HeldAny, AnyTold, TryAnyTold, HasNone};
-    ghost use Rattle.board.specs.Holding.{IsHolder, IsAtRest, HasLetGo, IfKept};
+/// A turn of the least strand that may have an event.
+#[derive(Drop)]
+struct Seeking;
 
-    fn any_held(&self, seat: &mut Seat<Slot<S>, View>, room: &mut Vec<u8>) -> TryAny<S>
-        requires id { seat.old.table_id ≡ self.now.table.shared.table_id }
-        requires holder { IsHolder seat.old.me }
-        ensures id { (seat.new.table_id ≡ seat.old.table_id) × (seat.new.id ≡ seat.old.id) }
-        ensures free { HasLetGo seat.new.me }
-        ensures told { IfKept seat.old.me (λ k. HeldAny S.stands (without_slot seat.old.me.0) k.0 (vec_capacity room.old) result seat.new.me.0 room.new.items) }
-        ensures room { HasNone result → (room.new.items ≡ room.old.items) × (vec_capacity room.new ≡ vec_capacity room.old) }
-        ensures capacity { vec_capacity room.old ≤ vec_capacity room.new }
-    {
-        match self.least_core(seat, room) {
+impl<S: Stage> Task<S> for Seeking {
+    ghost use Rattle.std.specs.Prelude.{vec_capacity};
+    ghost use Rattle.board.specs.declared.answers.TryAny.TheVariants.{Busy};
+    ghost use Rattle.board.specs.Calls.{HasNone};
+    ghost use Rattle.board.specs.Tasks.{AnyDid, KeepsRoom};
+
+    type Room = Vec<u8>;
+
+    type Answer = TryAny<S>;
+
+    ghost may = { λ _ _. Unit {0} };
+
+    ghost did = { λ _ room m answer n room' c. AnyDid S.stands m (vec_capacity room) answer n room'.items c × KeepsRoom (HasNone answer) room.items (vec_capacity room) room'.items (vec_capacity room') };
+
+    ghost left = { λ _. Busy };
+
+    fn run(
+        self,
+        bell: &Bell,
+        core: &mut Core<S>,
+        room: &mut Vec<u8>,
+        change: &mut Change,
+    ) -> TryAny<S> {
+        match core.turn_least(room) {
             Turned::Work(job) => {
-                self.bell.note_job();
-                self.give_work(seat);
+                bell.note_job();
+                *change = Change::Step;
                 let place = job.place();
                 TryAny::Work(job, Receipt { place })
             }
-            Turned::NotReady => {
-                let out = self.out_core(seat);
-                self.give(seat);
-                TryAny::Idle { out }
-            }
-            Turned::Spent => {
-                self.give(seat);
-                TryAny::Spent
-            }
-            Turned::Room(size) => {
-                self.give(seat);
-                TryAny::Room(size)
-            }
-            Turned::Broken => {
-                self.give(seat);
-                TryAny::Broken
-            }
+            Turned::NotReady => TryAny::Idle {
+                out: core.out_count(),
+            },
+            Turned::Spent => TryAny::Spent,
+            Turned::Room(size) => TryAny::Room(size),
+            Turned::Broken => TryAny::Broken,
         }
     }
 
-    fn try_any_seat(&self, seat: &mut Seat<Slot<S>, View>, room: &mut Vec<u8>) -> TryAny<S>
-        requires id { seat.old.table_id ≡ self.now.table.shared.table_id }
-        requires rest { IsAtRest seat.old.me }
-        ensures id { (seat.new.table_id ≡ seat.old.table_id) × (seat.new.id ≡ seat.old.id) }
-        ensures free { HasLetGo seat.new.me }
-        ensures told { TryAnyTold S.stands seat.old.me.0 (vec_capacity room.old) result seat.new.me.0 room.new.items }
-        ensures room { HasNone result → (room.new.items ≡ room.old.items) × (vec_capacity room.new ≡ vec_capacity room.old) }
-        ensures capacity { vec_capacity room.old ≤ vec_capacity room.new }
-    {
-        if self.table.shared.fetch_add::<Try>(seat, TURN, 1) == 0 {
-            self.any_held(seat, room)
-        } else {
-            TryAny::Busy
-        }
-    }
-
-    fn any_seat<R: Wait>(
-        &self,
-        rt: &R,
-        seat: &mut Seat<Slot<S>, View>,
-        room: &mut Vec<u8>,
-    ) -> TryAny<S>
-        requires id { seat.old.table_id ≡ self.now.table.shared.table_id }
-        requires rest { IsAtRest seat.old.me }
-        ensures id { (seat.new.table_id ≡ seat.old.table_id) × (seat.new.id ≡ seat.old.id) }
-        ensures free { HasLetGo seat.new.me }
-        ensures told { AnyTold S.stands seat.old.me.0 (vec_capacity room.old) result seat.new.me.0 room.new.items }
-        ensures room { HasNone result → (room.new.items ≡ room.old.items) × (vec_capacity room.new ≡ vec_capacity room.old) }
-        ensures capacity { vec_capacity room.old ≤ vec_capacity room.new }
-    {
-        self.take_napping(rt, seat);
-        self.any_held(seat, room)
+    fn leave(self) -> TryAny<S> {
+        TryAny::Busy
     }
 }
 
@@ -108,11 +79,7 @@ impl<S: Stage> Board<S> {
         ensures room { HasNone result → (room.new.items ≡ room.old.items) × (vec_capacity room.new ≡ vec_capacity room.old) }
         ensures capacity { vec_capacity room.old ≤ vec_capacity room.new }
     {
-        let mut seat = sit(&mut pass.badge);
-        let answer = self.try_any_seat(&mut seat, room);
-        pass.badge = seat.into_badge();
-        pass.tries -= 1;
-        answer
+        self.call(Once, pass, Seeking, room)
     }
 
     /// The same, but it waits where the slot is out, and never answers `Busy`.
@@ -127,10 +94,6 @@ impl<S: Stage> Board<S> {
         ensures room { HasNone result → (room.new.items ≡ room.old.items) × (vec_capacity room.new ≡ vec_capacity room.old) }
         ensures capacity { vec_capacity room.old ≤ vec_capacity room.new }
     {
-        let mut seat = sit(&mut pass.badge);
-        let answer = self.any_seat(rt, &mut seat, room);
-        pass.badge = seat.into_badge();
-        pass.tries -= 1;
-        answer
+        self.call(Napping(rt), pass, Seeking, room)
     }
 }

@@ -1,101 +1,61 @@
 //! Turns of one strand.
 use crate::answers::{Receipt, TryTurn};
-use crate::board::{Board, TURN};
-use crate::pass::{Pass, sit};
-use crate::plays::{Slot, Try};
-use crate::view::View;
-use atomic_table::Seat;
-use core_machine::Turned;
+use crate::bell::Bell;
+use crate::board::Board;
+use crate::change::Change;
+use crate::pass::Pass;
+use crate::taking::{Napping, Once};
+use crate::task::Task;
+use core_machine::{Core, Turned};
 use stage_steps::Stage;
 use std::sync::Wait;
 
-// Over a seat.
-impl<S: Stage> Board<S> {
-    ghost use Rattle.std.specs.Prelude.{◌≡◌, ◌≤◌, vec_capacity};
-    ghost use Rattle.board.specs.Plays.{without_slot};
-    ghost use Rattle.board.specs.Calls.{HeldTurn, TurnTold, TryTurnTold, HasNoJob, GoesOn};
-    ghost use Rattle.board.specs.Holding.{IsHolder, IsAtRest, HasLetGo, IfKept};
+/// A turn of this strand on this stream.
+#[derive(Drop)]
+struct Turning {
+    strand: u32,
+    stream: u16,
+}
 
-    fn turn_held(
-        &self,
-        seat: &mut Seat<Slot<S>, View>,
-        strand: u32,
-        stream: u16,
+impl<S: Stage> Task<S> for Turning {
+    ghost use Rattle.std.specs.Prelude.{vec_capacity};
+    ghost use Rattle.board.specs.declared.answers.TryTurn.TheVariants.{Busy};
+    ghost use Rattle.board.specs.Calls.{HasNoJob};
+    ghost use Rattle.board.specs.Tasks.{TurnDid, KeepsRoom};
+
+    type Room = Vec<u8>;
+
+    type Answer = TryTurn<S>;
+
+    ghost may = { λ _ _. Unit {0} };
+
+    ghost did = { λ t room m answer n room' c. TurnDid S.stands m t.strand t.stream (vec_capacity room) answer n room'.items c × KeepsRoom (HasNoJob answer) room.items (vec_capacity room) room'.items (vec_capacity room') };
+
+    ghost left = { λ _. Busy };
+
+    fn run(
+        self,
+        _bell: &Bell,
+        core: &mut Core<S>,
         room: &mut Vec<u8>,
-    ) -> TryTurn<S>
-        requires id { seat.old.table_id ≡ self.now.table.shared.table_id }
-        requires holder { IsHolder seat.old.me }
-        ensures id { (seat.new.table_id ≡ seat.old.table_id) × (seat.new.id ≡ seat.old.id) }
-        ensures free { HasLetGo seat.new.me }
-        ensures told { IfKept seat.old.me (λ k. HeldTurn S.stands (without_slot seat.old.me.0) k.0 strand stream (vec_capacity room.old) result seat.new.me.0 room.new.items) }
-        ensures room { HasNoJob result → (room.new.items ≡ room.old.items) × (vec_capacity room.new ≡ vec_capacity room.old) }
-        ensures capacity { vec_capacity room.old ≤ vec_capacity room.new }
-    {
-        match self.turn_core(seat, strand, stream, room) {
+        change: &mut Change,
+    ) -> TryTurn<S> {
+        let Turning { strand, stream } = self;
+        match core.turn(strand, stream, room) {
             Turned::Work(job) => {
-                self.give_work(seat);
+                *change = Change::Step;
                 let place = job.place();
                 TryTurn::Work(job, Receipt { place })
             }
-            Turned::NotReady => {
-                self.give(seat);
-                TryTurn::NotReady
-            }
-            Turned::Spent => {
-                self.give(seat);
-                TryTurn::Spent
-            }
-            Turned::Room(size) => {
-                self.give(seat);
-                TryTurn::Room(size)
-            }
-            Turned::Broken => {
-                self.give(seat);
-                TryTurn::Broken
-            }
+            Turned::NotReady => TryTurn::NotReady,
+            Turned::Spent => TryTurn::Spent,
+            Turned::Room(size) => TryTurn::Room(size),
+            Turned::Broken => TryTurn::Broken,
         }
     }
 
-    fn try_turn_seat(
-        &self,
-        seat: &mut Seat<Slot<S>, View>,
-        strand: u32,
-        stream: u16,
-        room: &mut Vec<u8>,
-    ) -> TryTurn<S>
-        requires id { seat.old.table_id ≡ self.now.table.shared.table_id }
-        requires rest { IsAtRest seat.old.me }
-        ensures id { (seat.new.table_id ≡ seat.old.table_id) × (seat.new.id ≡ seat.old.id) }
-        ensures free { HasLetGo seat.new.me }
-        ensures told { TryTurnTold S.stands seat.old.me.0 strand stream (vec_capacity room.old) result seat.new.me.0 room.new.items }
-        ensures room { HasNoJob result → (room.new.items ≡ room.old.items) × (vec_capacity room.new ≡ vec_capacity room.old) }
-        ensures capacity { vec_capacity room.old ≤ vec_capacity room.new }
-    {
-        if self.table.shared.fetch_add::<Try>(seat, TURN, 1) == 0 {
-            self.turn_held(seat, strand, stream, room)
-        } else {
-            TryTurn::Busy
-        }
-    }
-
-    fn turn_seat<R: Wait>(
-        &self,
-        rt: &R,
-        seat: &mut Seat<Slot<S>, View>,
-        strand: u32,
-        stream: u16,
-        room: &mut Vec<u8>,
-    ) -> TryTurn<S>
-        requires id { seat.old.table_id ≡ self.now.table.shared.table_id }
-        requires rest { IsAtRest seat.old.me }
-        ensures id { (seat.new.table_id ≡ seat.old.table_id) × (seat.new.id ≡ seat.old.id) }
-        ensures free { HasLetGo seat.new.me }
-        ensures told { TurnTold S.stands seat.old.me.0 strand stream (vec_capacity room.old) result seat.new.me.0 room.new.items }
-        ensures room { HasNoJob result → (room.new.items ≡ room.old.items) × (vec_capacity room.new ≡ vec_capacity room.old) }
-        ensures capacity { vec_capacity room.old ≤ vec_capacity room.new }
-    {
-        self.take_napping(rt, seat);
-        self.turn_held(seat, strand, stream, room)
+    fn leave(self) -> TryTurn<S> {
+        TryTurn::Busy
     }
 }
 
@@ -126,11 +86,7 @@ impl<S: Stage> Board<S> {
         ensures room { HasNoJob result → (room.new.items ≡ room.old.items) × (vec_capacity room.new ≡ vec_capacity room.old) }
         ensures capacity { vec_capacity room.old ≤ vec_capacity room.new }
     {
-        let mut seat = sit(&mut pass.badge);
-        let answer = self.try_turn_seat(&mut seat, strand, stream, room);
-        pass.badge = seat.into_badge();
-        pass.tries -= 1;
-        answer
+        self.call(Once, pass, Turning { strand, stream }, room)
     }
 
     /// The same, but it waits where the slot is out, and never answers `Busy`.
@@ -152,10 +108,6 @@ impl<S: Stage> Board<S> {
         ensures room { HasNoJob result → (room.new.items ≡ room.old.items) × (vec_capacity room.new ≡ vec_capacity room.old) }
         ensures capacity { vec_capacity room.old ≤ vec_capacity room.new }
     {
-        let mut seat = sit(&mut pass.badge);
-        let answer = self.turn_seat(rt, &mut seat, strand, stream, room);
-        pass.badge = seat.into_badge();
-        pass.tries -= 1;
-        answer
+        self.call(Napping(rt), pass, Turning { strand, stream }, room)
     }
 }

@@ -1,45 +1,17 @@
-use Rattle.std.proofs.Common.{◌≡◌, subst, sym}
-use Rattle.std.specs.Prelude.{take}
-use Rattle.core_machine.specs.Jobs.{DoneStands}
-use Rattle.board.specs.Plays.{Sat}
 use Rattle.board.specs.Pass.{the_view}
-use Rattle.board.specs.Calls.{TryFinishTold, GoesOn, CanFinish}
 use Rattle.board.specs.declared.view.View.{View}
-use Rattle.board.proofs.Tells.{pass_rests, pass_after, pass_told, try_finish_left}
+use Rattle.board.specs.Calls.{less_one_try}
+use Rattle.board.proofs.Changes.{may_finish, finish_changed}
+use Rattle.board.proofs.Outcomes.{finish_held, try_finish_told, busy_finish_told}
+use Rattle.board.proofs.Tells.{either_of}
 use Rattle.board.proofs.board.Board.try_finish.Goals as goal
 
-pub try_finish_seat-answer-requires-clause-rest : goal.try_finish_seat-answer-requires-clause-rest
-try_finish_seat-answer-requires-clause-rest g c = let p = c.args.pass.now in pass_rests p.badge.views p.shares p.tries c.sit-seat.result.me p.known c.requires.tries c.sit-seat.ensures.2
-
-pub try_finish_seat-answer-requires-clause-can : goal.try_finish_seat-answer-requires-clause-can
-try_finish_seat-answer-requires-clause-can g c = subst (λ (m : Sat). CanFinish m.0 c.args.done.place) (sym c.sit-seat.ensures.2) c.requires.can
-
-pub try_finish_seat-answer-requires-clause-stands : goal.try_finish_seat-answer-requires-clause-stands
-try_finish_seat-answer-requires-clause-stands g c = subst (λ (m : Sat). DoneStands g.S.Stage.stands m.0.net (take c.args.done.place m.0.seen) c.args.done) (sym c.sit-seat.ensures.2) c.requires.stands
-
-pub invariant_of-pass : goal.invariant_of-pass
-invariant_of-pass g c =
-    let p = c.args.pass.now in let v : View = the_view p.badge.views in let w : View = c.try_finish_seat-answer.new.seat.me.0 in
-    let told = subst (λ (m : Sat). TryFinishTold m.0 c.args.done c.try_finish_seat-answer.result w) c.sit-seat.ensures.2 c.try_finish_seat-answer.ensures.told in
-    let left = try_finish_left v w c.requires.tries c.args.done c.try_finish_seat-answer.result p.known.5 told in
-    record { known = pass_after p.badge.views c.into_badge.result.views p.shares p.tries w p.known c.try_finish_seat-answer.ensures.free.1 c.into_badge.ensures.2 left.left }
+pub call-requires-clause-may : goal.call-requires-clause-may
+call-requires-clause-may g c = λ k s share. let v = the_view c.args.pass.now.badge.views in (may_finish v k s share g.S.Stage.stands c.args.done c.requires.can c.requires.stands, λ answer n room change did lawful. finish_changed v k s share c.args.done.place c.requires.can n change lawful answer did)
 
 pub returns-clause-told : goal.returns-clause-told
 returns-clause-told g c =
-    let p = c.args.pass.now in let v : View = the_view p.badge.views in let w : View = c.try_finish_seat-answer.new.seat.me.0 in
-    let told = subst (λ (m : Sat). TryFinishTold m.0 c.args.done c.try_finish_seat-answer.result w) c.sit-seat.ensures.2 c.try_finish_seat-answer.ensures.told in
-    pass_told p.badge.views c.into_badge.result.views p.shares p.tries w p.known c.try_finish_seat-answer.ensures.free.1 c.into_badge.ensures.2 (λ (x : View). TryFinishTold v c.args.done c.try_finish_seat-answer.result x) told
-
-pub returns-clause-goes : goal.returns-clause-goes
-returns-clause-goes g c =
-    let p = c.args.pass.now in let v : View = the_view p.badge.views in let w : View = c.try_finish_seat-answer.new.seat.me.0 in
-    let told = subst (λ (m : Sat). TryFinishTold m.0 c.args.done c.try_finish_seat-answer.result w) c.sit-seat.ensures.2 c.try_finish_seat-answer.ensures.told in
-    let left = try_finish_left v w c.requires.tries c.args.done c.try_finish_seat-answer.result p.known.5 told in
-    pass_told p.badge.views c.into_badge.result.views p.shares p.tries w p.known c.try_finish_seat-answer.ensures.free.1 c.into_badge.ensures.2 (GoesOn v) left.left.goes
-
-pub returns-clause-made : goal.returns-clause-made
-returns-clause-made g c =
-    let p = c.args.pass.now in let v : View = the_view p.badge.views in let w : View = c.try_finish_seat-answer.new.seat.me.0 in
-    let told = subst (λ (m : Sat). TryFinishTold m.0 c.args.done c.try_finish_seat-answer.result w) c.sit-seat.ensures.2 c.try_finish_seat-answer.ensures.told in
-    let left = try_finish_left v w c.requires.tries c.args.done c.try_finish_seat-answer.result p.known.5 told in
-    pass_told p.badge.views c.into_badge.result.views p.shares p.tries w p.known c.try_finish_seat-answer.ensures.free.1 c.into_badge.ensures.2 (λ (x : View). x.mine ≡ v.mine) left.made
+    let v : View = the_view c.args.pass.now.badge.views in let w : View = the_view c.call.new.pass.badge.views in
+    either_of c.call.ensures.told
+    (λ d. try_finish_told v w c.args.done c.call.result (d.found, finish_held (less_one_try v) w d.found d.left d.change d.held c.args.done.place c.call.result d.so))
+    (λ b. busy_finish_told v w c.args.done c.call.result b.1 b.2)

@@ -1,45 +1,16 @@
-use Rattle.std.proofs.Common.{◌≡◌, subst}
 use Rattle.std.specs.Prelude.{vec_capacity}
-use Rattle.board.specs.Plays.{Sat}
 use Rattle.board.specs.Pass.{the_view}
-use Rattle.board.specs.Calls.{TurnTold, GoesOn}
 use Rattle.board.specs.declared.view.View.{View}
-use Rattle.board.proofs.Tells.{pass_rests, pass_after, pass_told, turn_left}
+use Rattle.board.specs.Calls.{less_one_try}
+use Rattle.board.proofs.Changes.{turn_changed}
+use Rattle.board.proofs.Outcomes.{turn_held}
+use Rattle.board.proofs.Tells.{either_of}
 use Rattle.board.proofs.board.Board.turn.Goals as goal
 
-pub turn_seat-answer-requires-clause-rest : goal.turn_seat-answer-requires-clause-rest
-turn_seat-answer-requires-clause-rest g c = let p = c.args.pass.now in pass_rests p.badge.views p.shares p.tries c.sit-seat.result.me p.known c.requires.tries c.sit-seat.ensures.2
-
-pub invariant_of-pass : goal.invariant_of-pass
-invariant_of-pass g c =
-    let p = c.args.pass.now in let v : View = the_view p.badge.views in let w : View = c.turn_seat-answer.new.seat.me.0 in
-    let told = subst (λ (m : Sat). TurnTold g.S.Stage.stands m.0 c.args.strand c.args.stream (vec_capacity c.args.room.now) c.turn_seat-answer.result w c.turn_seat-answer.new.room.items) c.sit-seat.ensures.2 c.turn_seat-answer.ensures.told in
-    let left = turn_left g.S.Stage.stands v w c.requires.tries c.args.strand c.args.stream (vec_capacity c.args.room.now) c.turn_seat-answer.result c.turn_seat-answer.new.room.items told in
-    record { known = pass_after p.badge.views c.into_badge.result.views p.shares p.tries w p.known c.turn_seat-answer.ensures.free.1 c.into_badge.ensures.2 left.left }
+pub call-requires-clause-may : goal.call-requires-clause-may
+call-requires-clause-may g c = λ k s share. (tt, λ answer n room change did lawful. turn_changed (the_view c.args.pass.now.badge.views) k s share g.S.Stage.stands n change lawful c.args.strand c.args.stream (vec_capacity c.args.room.now) answer room.items did.0)
 
 pub returns-clause-told : goal.returns-clause-told
 returns-clause-told g c =
-    let p = c.args.pass.now in let v : View = the_view p.badge.views in let w : View = c.turn_seat-answer.new.seat.me.0 in
-    let told = subst (λ (m : Sat). TurnTold g.S.Stage.stands m.0 c.args.strand c.args.stream (vec_capacity c.args.room.now) c.turn_seat-answer.result w c.turn_seat-answer.new.room.items) c.sit-seat.ensures.2 c.turn_seat-answer.ensures.told in
-    pass_told p.badge.views c.into_badge.result.views p.shares p.tries w p.known c.turn_seat-answer.ensures.free.1 c.into_badge.ensures.2 (λ (x : View). TurnTold g.S.Stage.stands v c.args.strand c.args.stream (vec_capacity c.args.room.now) c.turn_seat-answer.result x c.turn_seat-answer.new.room.items) told
-
-pub returns-clause-goes : goal.returns-clause-goes
-returns-clause-goes g c =
-    let p = c.args.pass.now in let v : View = the_view p.badge.views in let w : View = c.turn_seat-answer.new.seat.me.0 in
-    let told = subst (λ (m : Sat). TurnTold g.S.Stage.stands m.0 c.args.strand c.args.stream (vec_capacity c.args.room.now) c.turn_seat-answer.result w c.turn_seat-answer.new.room.items) c.sit-seat.ensures.2 c.turn_seat-answer.ensures.told in
-    let left = turn_left g.S.Stage.stands v w c.requires.tries c.args.strand c.args.stream (vec_capacity c.args.room.now) c.turn_seat-answer.result c.turn_seat-answer.new.room.items told in
-    pass_told p.badge.views c.into_badge.result.views p.shares p.tries w p.known c.turn_seat-answer.ensures.free.1 c.into_badge.ensures.2 (GoesOn v) left.left.goes
-
-pub returns-clause-made : goal.returns-clause-made
-returns-clause-made g c no_job =
-    let p = c.args.pass.now in let v : View = the_view p.badge.views in let w : View = c.turn_seat-answer.new.seat.me.0 in
-    let told = subst (λ (m : Sat). TurnTold g.S.Stage.stands m.0 c.args.strand c.args.stream (vec_capacity c.args.room.now) c.turn_seat-answer.result w c.turn_seat-answer.new.room.items) c.sit-seat.ensures.2 c.turn_seat-answer.ensures.told in
-    let left = turn_left g.S.Stage.stands v w c.requires.tries c.args.strand c.args.stream (vec_capacity c.args.room.now) c.turn_seat-answer.result c.turn_seat-answer.new.room.items told in
-    pass_told p.badge.views c.into_badge.result.views p.shares p.tries w p.known c.turn_seat-answer.ensures.free.1 c.into_badge.ensures.2 (λ (x : View). x.mine ≡ v.mine) (left.made no_job)
-
-pub returns-clause-others : goal.returns-clause-others
-returns-clause-others g c =
-    let p = c.args.pass.now in let v : View = the_view p.badge.views in let w : View = c.turn_seat-answer.new.seat.me.0 in
-    let told = subst (λ (m : Sat). TurnTold g.S.Stage.stands m.0 c.args.strand c.args.stream (vec_capacity c.args.room.now) c.turn_seat-answer.result w c.turn_seat-answer.new.room.items) c.sit-seat.ensures.2 c.turn_seat-answer.ensures.told in
-    let left = turn_left g.S.Stage.stands v w c.requires.tries c.args.strand c.args.stream (vec_capacity c.args.room.now) c.turn_seat-answer.result c.turn_seat-answer.new.room.items told in
-    pass_told p.badge.views c.into_badge.result.views p.shares p.tries w p.known c.turn_seat-answer.ensures.free.1 c.into_badge.ensures.2 (λ (x : View). (x.home ≡ v.home) × (x.lost ≡ v.lost)) left.others
+    let v : View = the_view c.args.pass.now.badge.views in let w : View = the_view c.call.new.pass.badge.views in
+    either_of c.call.ensures.told (λ d. (d.found, turn_held (less_one_try v) w d.found d.left d.change d.held g.S.Stage.stands c.args.strand c.args.stream (vec_capacity c.args.room.now) c.call.result c.call.new.room.items d.so.0)) (λ b. absurd (cc (b.0)))
