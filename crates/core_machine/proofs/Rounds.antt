@@ -5,10 +5,8 @@ use Rattle.pipe_model.specs.declared.memory.NoMemory.{NoMemory}
 use Rattle.pipe_model.specs.declared.net.Net.{Net}
 use Rattle.pipe_model.specs.declared.net.Strand.{Strand}
 use Rattle.pipe_model.specs.declared.step.Entry.{Entry}
-use Rattle.pipe_model.specs.declared.step.Out.TheVariants.{Fresh}
 use Rattle.pipe_model.specs.declared.step.Seen.TheVariants.{Put, Saw, Took}
 use Rattle.pipe_model.specs.declared.step.Want.{Want}
-use Rattle.pipe_model.specs.declared.step.Want.TheVariants.{Write}
 use Rattle.pipe_model.specs.Event.{Event}
 use Rattle.pipe_model.proofs.Lists.{at_some, get_set_same, get_set_other, length_more}
 use Rattle.std.proofs.lemmas.Option.{slice_get_within, slice_get_read}
@@ -50,7 +48,7 @@ use Rattle.core_machine.proofs.RoundsOf.{two_longer_by}
 use Rattle.core_machine.proofs.Runs.{steps_more}
 use Rattle.core_machine.proofs.Steps.{append_none, append_three}
 use Rattle.core_machine.proofs.PutsOn.{no_bytes_put}
-use Rattle.core_machine.proofs.Sounds.{actor_at, event_is, in_range, stage_at}
+use Rattle.core_machine.proofs.Sounds.{event_is, in_range, stage_at}
 use Rattle.core_machine.proofs.Tellings.{IsTelling, resumes_it, room_out, sound_at}
 
 -- what is offered on a link is held

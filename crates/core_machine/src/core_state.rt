@@ -173,11 +173,11 @@ impl<S: Stage> Core<S> {
             self.is_broken = true;
             return Err(NoMemory);
         };
-        let home = self.come_home(strand, place, stage, want, passes);
-        if home.is_err() {
+        let Ok(()) = self.come_home(strand, place, stage, want, passes) else {
             self.is_broken = true;
-        }
-        home
+            return Err(NoMemory);
+        };
+        Ok(())
     }
 
     // Makes an event that may be: the strand is out with the job that is answered.

@@ -1,5 +1,5 @@
 -- Where none was taken nothing is done.
-use Rattle.std.proofs.Common.{◌≡◌, ◌<◌, ◌≤◌, ℕ, List, length, arith, sym, ◌∙◌, ap, subst}
+use Rattle.std.proofs.Common.{◌<◌, ◌≤◌, ℕ, List, length, arith, sym, ◌∙◌, ap, subst}
 use Rattle.run_desk.specs.Relaying.{pool_refilled}
 use Rattle.core_machine.proofs.relay.keep_last.Goals as goal
 

@@ -1,5 +1,5 @@
 -- What is kept of the strand is as before, but for the coroutine.
-use Rattle.std.proofs.Common.{◌≡◌, ap, slice_set}
+use Rattle.std.proofs.Common.{ap, slice_set}
 use Rattle.core_machine.specs.declared.actor.Actor.{Actor}
 use Rattle.core_machine.specs.Pairs.{with_stage}
 use Rattle.core_machine.proofs.Rounds.{read_is}
