@@ -14,7 +14,7 @@ use Rattle.stage_steps.specs.declared.reply.Reply.TheVariants.{Takes}
 use Rattle.stage_steps.proofs.Aheads.{clear_front, clear_behind}
 use Rattle.run_desk.specs.Relaying.{desk_relayed}
 use Rattle.core_machine.specs.declared.actor.Actor.{Actor}
-use Rattle.core_machine.specs.declared.relay.Pair.{Pair}
+use Rattle.core_machine.specs.declared.showing.Pair.{Pair}
 use Rattle.core_machine.specs.Actors.{HasSeen, IsClearFor, gone_on}
 use Rattle.core_machine.specs.Floor.{FloorState, IsCovered}
 use Rattle.core_machine.specs.Pairs.{AreRelaying, put_of, took_of}

@@ -26,12 +26,12 @@ use Rattle.run_desk.specs.Telling as Telling
 use Rattle.run_desk.specs.Turns.{Behind, CanCome, bare, desk_after_turn, offer_on, pool_after_turn}
 use Rattle.run_desk.proofs.Limits.{offers_held}
 use Rattle.core_machine.specs.declared.actor.Actor.{Actor}
-use Rattle.core_machine.specs.declared.relay.Last.{Last}
-use Rattle.core_machine.specs.declared.relay.Last.TheVariants as Ends
-use Rattle.core_machine.specs.declared.relay.Pair.{Pair}
-use Rattle.core_machine.specs.declared.relay.Relayed.{Relayed}
-use Rattle.core_machine.specs.declared.relay.Relayed.TheVariants as Next
 use Rattle.core_machine.specs.declared.run.Which.TheVariants.{OfRecords}
+use Rattle.core_machine.specs.declared.showing.Last.{Last}
+use Rattle.core_machine.specs.declared.showing.Last.TheVariants as Ends
+use Rattle.core_machine.specs.declared.showing.Pair.{Pair}
+use Rattle.core_machine.specs.declared.showing.Relayed.{Relayed}
+use Rattle.core_machine.specs.declared.showing.Relayed.TheVariants as Next
 use Rattle.core_machine.specs.Actors.{HasSeen, asking_for, gone_on, given_up}
 use Rattle.core_machine.specs.Floor.{FloorState, IsCovered, IsInUse, StaysEarly}
 use Rattle.core_machine.specs.Answered.{LeastEvent}

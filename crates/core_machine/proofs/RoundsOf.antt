@@ -4,7 +4,7 @@ use Rattle.std.proofs.Math.Numerals.{add-one}
 use Rattle.pipe_model.specs.declared.step.Entry.{Entry}
 use Rattle.pipe_model.proofs.Lists.{length_more}
 use Rattle.step_journal.specs.Words.{rounds_of}
-use Rattle.core_machine.specs.declared.relay.Pair.{Pair}
+use Rattle.core_machine.specs.declared.showing.Pair.{Pair}
 use Rattle.core_machine.specs.Pairs.{put_of, rounds, took_of}
 use Rattle.core_machine.proofs.Steps.{append_three}
 

@@ -20,12 +20,12 @@ use Rattle.run_desk.specs.Relaying.{IsRelaying, desk_showing, pool_refilled}
 use Rattle.run_desk.specs.Telling.{ended_at, in_door, out_door, through}
 use Rattle.run_desk.specs.Turns.{Behind, CanCome, offer_on}
 use Rattle.core_machine.specs.declared.actor.Actor.{Actor}
-use Rattle.core_machine.specs.declared.relay.Last.{Last}
-use Rattle.core_machine.specs.declared.relay.Last.TheVariants as Ends
-use Rattle.core_machine.specs.declared.relay.Pair.{Pair}
-use Rattle.core_machine.specs.declared.relay.Relayed.{Relayed}
-use Rattle.core_machine.specs.declared.relay.Relayed.TheVariants as Next
 use Rattle.core_machine.specs.declared.run.Which.TheVariants.{OfRecords}
+use Rattle.core_machine.specs.declared.showing.Last.{Last}
+use Rattle.core_machine.specs.declared.showing.Last.TheVariants as Ends
+use Rattle.core_machine.specs.declared.showing.Pair.{Pair}
+use Rattle.core_machine.specs.declared.showing.Relayed.{Relayed}
+use Rattle.core_machine.specs.declared.showing.Relayed.TheVariants as Next
 use Rattle.core_machine.specs.Actors.{gone_on}
 use Rattle.core_machine.specs.Floor.{FloorState, IsCovered, IsInUse, StaysEarly}
 use Rattle.core_machine.specs.Machine.{Machine}

@@ -7,8 +7,8 @@ use crate::actor::{advance, ask, give_up, put, see};
 use crate::core_state::Core;
 use crate::floor::Ahead;
 use crate::job::RunEnd;
-use crate::relay::{Relayed, pair_of, relay};
 use crate::settling::ends;
+use crate::showing::{Relayed, pair_of, relay};
 use outside::{Gate, OpenGate};
 use pipe_model::{Entry, NoMemory, Seen, Want};
 use stage_steps::{Reply, Stage};
@@ -55,7 +55,7 @@ impl<S: Stage> Core<S> {
     ghost use Rattle.core_machine.specs.Machine.{licence_of, turned, broke_down, IsLawful};
     ghost use Rattle.core_machine.specs.Answered.{LeastEvent, HasRun, HasRunOnRecords, HasBrokenLeast, HasBrokenOnRecords, HasMade, Ends, IsEndOnRecords};
     ghost use Rattle.core_machine.specs.Runs.{is_made, may_end, HasRunBy, HasBrokenBy, IsEndBy};
-    ghost use Rattle.core_machine.specs.declared.relay.Relayed.TheVariants as Next;
+    ghost use Rattle.core_machine.specs.declared.showing.Relayed.TheVariants as Next;
     ghost use Rattle.core_machine.specs.declared.run.Which.TheVariants as Makes;
 
     /// Makes the least event that may be, of the least strand on its least stream, until there is none or the journal
@@ -157,7 +157,7 @@ impl<S: Stage> Core<S> {
         self.run_last(alloc, gate, which, limit)
     }
 
-    // The same where one event has room at most.
+    // Makes the least event that may be, where it is one of these and has room: no second one has any.
     #[cold]
     #[inline(never)]
     fn run_last<G: Gate>(
@@ -268,7 +268,7 @@ impl<S: Stage> Core<S> {
         Ok(ahead)
     }
 
-    // The same where the sight may settle something for many strands.
+    // The strand sees the record at hand on an input, where that may settle something for many strands.
     #[cold]
     #[inline(never)]
     fn see_otherwise<G: Gate>(
@@ -427,7 +427,7 @@ impl<S: Stage> Core<S> {
         Ok(ahead)
     }
 
-    // The same where the output leads to no rendezvous.
+    // The strand puts a record on an output that leads to no rendezvous, and its coroutine goes on, in place.
     #[inline(never)]
     fn put_otherwise<G: Gate>(
         &mut self,

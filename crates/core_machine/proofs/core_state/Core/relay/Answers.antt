@@ -2,8 +2,8 @@
 use Rattle.std.proofs.Common.{◌≡◌, ◌<◌, ◌≤◌, ◌++◌, ◌∷◌, [], Some, true, length, refl, sym, ◌∙◌, ap, subst, arith, vec_capacity}
 use Rattle.pipe_model.specs.declared.net.Net.{Net}
 use Rattle.pipe_model.specs.declared.step.Seen.TheVariants.{Put}
-use Rattle.core_machine.specs.declared.relay.Relayed.TheVariants as Next
 use Rattle.core_machine.specs.declared.run.Which.TheVariants.{OfRecords}
+use Rattle.core_machine.specs.declared.showing.Relayed.TheVariants as Next
 use Rattle.core_machine.specs.Answered.{LeastEvent}
 use Rattle.core_machine.specs.Machine.{Machine}
 use Rattle.core_machine.specs.Pairs.{Follows}

@@ -2,7 +2,7 @@ use Rattle.std.proofs.Common.{◌≡◌, ◌≤◌, ◌+◌, ◌-◌, ◌*◌, l
 use Rattle.core_machine.specs.Machine.{Machine}
 use Rattle.core_machine.specs.Pairs.{AreOn}
 use Rattle.core_machine.proofs.Clears.{IsClearTo}
-use Rattle.core_machine.proofs.relay.make_rounds.Given as goal
+use Rattle.core_machine.proofs.showing.make_rounds.Given as goal
 
 -- The two are as many rounds further, from each core on from which they were where they began. So many bytes ahead are clear for the reader.
 abbrev pub invariant-loop-rounds : goal.invariant-loop-rounds

@@ -1,7 +1,7 @@
 -- It comes home as it may, or is given up.
 use Rattle.std.proofs.Common.{refl, sym, ap}
 use Rattle.core_machine.specs.Actors.{asking_for}
-use Rattle.core_machine.proofs.relay.come_home.Goals as goal
+use Rattle.core_machine.proofs.showing.come_home.Goals as goal
 
 pub come_home-requires-clause-used : goal.come_home-requires-clause-used
 come_home-requires-clause-used g c = c.requires.comes.used

@@ -1,4 +1,5 @@
-//! A strand that writes records which the next one takes, each as it is shown: they don't go through the pool one by one.
+//! Two strands of which the second takes the records that the first one writes, each as it is shown: they don't go through the pool
+//! one by one.
 ghost use Rattle.std.specs.Prelude.{◌≡◌, ◌<◌, ◌≤◌, ◌+◌, ◌*◌, ◌++◌, ◌∷◌, ℕ, true, false, List, [], Some, length, slice_get, slice_set, vec_capacity, IfOk, IfSome, OnErr};
 ghost use Rattle.pipe_model.specs.declared.step.Entry.{Entry as EntryIs};
 ghost use Rattle.pipe_model.specs.declared.step.Out.TheVariants as Outs;
@@ -9,7 +10,7 @@ ghost use Rattle.run_desk.specs.Relaying.{desk_showing, pool_refilled};
 ghost use Rattle.run_desk.specs.Telling as Telling;
 ghost use Rattle.run_desk.specs.Turns.{bare, offer_on};
 ghost use Rattle.core_machine.specs.declared.actor.Actor.{Actor as ActorIs};
-ghost use Rattle.core_machine.specs.declared.relay.Relayed.TheVariants as Next;
+ghost use Rattle.core_machine.specs.declared.showing.Relayed.TheVariants as Next;
 ghost use Rattle.core_machine.specs.Actors.{IsClearFor, asking_for, given_up};
 ghost use Rattle.core_machine.specs.Machine.{Machine};
 ghost use Rattle.core_machine.specs.Members.{is_member};
@@ -20,7 +21,7 @@ ghost use Rattle.core_machine.specs.Woken.{HasReturned};
 
 use crate::actor::{Actor, give_up, see};
 use crate::floor::Floor;
-use crate::relaying::MOST_SHOWN;
+use crate::fused::MOST_SHOWN;
 use outside::Gate;
 use pipe_model::{Entry, NoMemory, Out, Rec, Want};
 use stage_steps::{Reply, Stage};

@@ -9,8 +9,8 @@ use Rattle.core_machine.specs.Pairs.{AreOn, rounds}
 use Rattle.core_machine.proofs.Clears.{clear_covers, clear_found, clear_next, clear_none, clear_round}
 use Rattle.core_machine.proofs.Rounds.{few_there, goes_round, is_due_there, may_show, on_covers, place_link, read_is, reader_at, reader_in, saw_only, sees, takes_so}
 use Rattle.core_machine.proofs.RoundsOf.{round_more, round_space}
-use Rattle.core_machine.proofs.relay.make_rounds.Goals as goal
-use Rattle.core_machine.proofs.relay.make_rounds.Goals.{then-awaits, else-awaits}
+use Rattle.core_machine.proofs.showing.make_rounds.Goals as goal
+use Rattle.core_machine.proofs.showing.make_rounds.Goals.{then-awaits, else-awaits}
 
 pub loop-rounds-init : goal.loop-rounds-init
 loop-rounds-init g c = (

@@ -9,9 +9,9 @@ use Rattle.core_machine.proofs.Rounds.{back_last, begins, begins_in, comes_last,
 use Rattle.core_machine.proofs.RoundsOf.{first_fits, rounds_fit, second_fits}
 use Rattle.core_machine.proofs.Runs.{err_so}
 use Rattle.core_machine.proofs.Steps.{append_none}
-use Rattle.core_machine.proofs.relay.relay.Given.{Over}
-use Rattle.core_machine.proofs.relay.relay.Goals as goal
-use Rattle.core_machine.proofs.relay.relay.Goals.{After-len}
+use Rattle.core_machine.proofs.showing.relay.Given.{Over}
+use Rattle.core_machine.proofs.showing.relay.Goals as goal
+use Rattle.core_machine.proofs.showing.relay.Goals.{After-len}
 
 -- What the answers share
 

@@ -8,7 +8,7 @@ use Rattle.run_desk.specs.Turns.{Behind}
 use Rattle.core_machine.specs.Floor.{IsCovered}
 use Rattle.core_machine.specs.Members.{Members}
 use Rattle.core_machine.specs.Woken.{IsCovering}
-use Rattle.core_machine.proofs.relay.end_at_sight.Goals as goal
+use Rattle.core_machine.proofs.showing.end_at_sight.Goals as goal
 
 pub refill-requires-clause-link : goal.refill-requires-clause-link
 refill-requires-clause-link g c = c.requires.shows.link

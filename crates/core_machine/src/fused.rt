@@ -1,4 +1,4 @@
-//! Strands that pass records on: what their steps do to the floor, where two changes of it are made in one.
+//! Changes of the floor that are two or three in one: a strand passes a record on, takes one as it sees it, or shows the next one.
 ghost use Rattle.std.specs.Prelude.{◌≡◌, IfSome};
 ghost use Rattle.pipe_model.specs.declared.step.Out.TheVariants as Outs;
 ghost use Rattle.pipe_model.specs.declared.step.Want.TheVariants as Asks;

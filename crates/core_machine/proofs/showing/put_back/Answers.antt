@@ -3,7 +3,7 @@ use Rattle.std.proofs.Common.{ap, slice_set}
 use Rattle.core_machine.specs.declared.actor.Actor.{Actor}
 use Rattle.core_machine.specs.Pairs.{with_stage}
 use Rattle.core_machine.proofs.Rounds.{read_is}
-use Rattle.core_machine.proofs.relay.put_back.Goals as goal
+use Rattle.core_machine.proofs.showing.put_back.Goals as goal
 
 pub returns : goal.returns
 returns g c = λ a at.

@@ -1,7 +1,7 @@
 -- Where none was taken nothing is done.
 use Rattle.std.proofs.Common.{◌<◌, ◌≤◌, ℕ, List, length, arith, sym, ◌∙◌, ap, subst}
 use Rattle.run_desk.specs.Relaying.{pool_refilled}
-use Rattle.core_machine.proofs.relay.keep_last.Goals as goal
+use Rattle.core_machine.proofs.showing.keep_last.Goals as goal
 
 pub refill-requires-clause-short : goal.refill-requires-clause-short
 refill-requires-clause-short g c =
