@@ -220,10 +220,8 @@ fn make_rounds<S: Stage, G: Gate>(
     let mut awaits = true;
     while rounds < most {
         if !source.show(pair.output) {
-            return Made {
-                rounds,
-                last: Last::Due,
-            };
+            let last = Last::Due;
+            return Made { rounds, last };
         }
         gate.enter(pair.to);
         let size = source.shown().len();
@@ -246,20 +244,14 @@ fn make_rounds<S: Stage, G: Gate>(
             continue;
         }
         let Ok(_) = reply else {
-            return Made {
-                rounds,
-                last: Last::Lacks,
-            };
+            let last = Last::Lacks;
+            return Made { rounds, last };
         };
-        return Made {
-            rounds,
-            last: Last::Asks,
-        };
+        let last = Last::Asks;
+        return Made { rounds, last };
     }
-    Made {
-        rounds,
-        last: Last::Due,
-    }
+    let last = Last::Due;
+    Made { rounds, last }
 }
 
 // The record that was shown last, where one was taken, is put in place of the one that is offered on a link.
