@@ -14,12 +14,12 @@ use Rattle.stage_steps.specs.declared.reply.Reply.TheVariants.{Takes}
 use Rattle.stage_steps.proofs.Aheads.{clear_front, clear_behind}
 use Rattle.run_desk.specs.Relaying.{desk_relayed}
 use Rattle.core_machine.specs.declared.actor.Actor.{Actor}
-use Rattle.core_machine.specs.declared.relay.Pair.{Pair}
+use Rattle.core_machine.specs.declared.showing.Pair.{Pair}
 use Rattle.core_machine.specs.Actors.{HasSeen, IsClearFor, gone_on}
 use Rattle.core_machine.specs.Floor.{FloorState, IsCovered}
+use Rattle.core_machine.specs.Pairs.{AreRelaying, put_of, took_of}
 use Rattle.core_machine.specs.Woken.{IsCovering}
-use Rattle.core_machine.proofs.Rounds.{AreRelaying, goes_round, on_covers, reader_there, set_back}
-use Rattle.core_machine.proofs.RoundsOf.{put_of, took_of}
+use Rattle.core_machine.proofs.Rounds.{goes_round, on_covers, reader_there, set_back}
 
 -- so many bytes of the text that the writer has ahead are clear for the reader, which looks at the next record where they are any; and they are none where it doesn't await anything
 abbrev pub IsClearTo : {S : Type 0} → (S → Strand → List Event → Type 0) → (S → List ℕ) → List (Actor S) → ℕ → S → ℕ → Bool → Type 0

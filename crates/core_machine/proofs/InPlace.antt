@@ -1,5 +1,5 @@
 -- A strand is told the least event, and goes on in place: what coming home asks, and that the core is sound after it, or broken.
-use Rattle.std.proofs.Common.{◌≡◌, Bool, ℕ, suc, true, false, List, [], ◌∷◌, ◌++◌, length, refl, sym, ◌∙◌, ap, subst, Some, slice_set}
+use Rattle.std.proofs.Common.{◌≡◌, ◌<◌, ◌≤◌, ◌+◌, Bool, ℕ, suc, true, false, List, [], ◌∷◌, ◌++◌, arith, length, refl, sym, ◌∙◌, ap, subst, Some, slice_set}
 use Rattle.pipe_model.specs.declared.net.Net.{Net}
 use Rattle.pipe_model.specs.declared.net.Strand.{Strand}
 use Rattle.pipe_model.specs.declared.step.Entry.{Entry}
@@ -7,6 +7,7 @@ use Rattle.pipe_model.specs.declared.step.Seen.{Seen}
 use Rattle.pipe_model.specs.declared.step.Want.{Want as Asked}
 use Rattle.pipe_model.specs.Event.{Event}
 use Rattle.pipe_model.specs.State.{Who}
+use Rattle.pipe_model.proofs.Lists.{length_more}
 use Rattle.record_pool.specs.PoolState.{PoolState}
 use Rattle.stage_steps.specs.Coroutine.{Resumes}
 use Rattle.stage_steps.specs.PassesOn.{PassesOn}
@@ -16,7 +17,7 @@ use Rattle.run_desk.specs.Turns.{desk_after_turn, pool_after_turn, CanCome, HasC
 use Rattle.core_machine.specs.declared.actor.Actor.{Actor}
 use Rattle.core_machine.specs.Actors.{gone_on, given_up, asking_for, bytes_told}
 use Rattle.core_machine.specs.Floor.{IsInUse, StaysEarly}
-use Rattle.core_machine.specs.Machine.{IsLawful}
+use Rattle.core_machine.specs.Machine.{Machine, IsLawful}
 use Rattle.core_machine.specs.Sound.{IsSound}
 use Rattle.core_machine.specs.Woken.{HasReturned}
 use Rattle.core_machine.proofs.Tellings.{IsTelling, with_stage, lawful_out, given, going, comes, early, came_home, used_home, sound_at}
@@ -81,3 +82,25 @@ module _ {S : Type 0} {stands : S → Strand → List Event → Type 0} {net : N
             ap (λ w. asking_for w b) (bared ∙ ap bare asked_is) ∙ ap (λ (z : Actor S). asking_for (bare asked) z) is in
             sound_at nets journals refl (ap (slice_set actors s) kept) refl refl
             (came_home (with_stage t x was) y asked passes bytes bytes_are resumed plain passing d2 pool2 (subst (λ w. HasReturned d' pool' s w d2 pool2) asked_is returned))
+
+-- Room for what is added
+
+pub fewer : (count limit : ℕ) → count + 1 < limit → count < limit
+fewer count limit space = omega (arith, space)
+
+pub below : (count limit room : ℕ) → count < limit → limit ≤ room → count < room
+below count limit room few fits = omega (arith, few, fits)
+
+pub one_more : (journal next : List Entry) (e : Entry) (limit room room' : ℕ) → next ≡ journal ++ e ∷ [] → length journal + 1 < limit → limit ≤ room → room' ≡ room → length next < room'
+one_more journal next e limit room room' is space fits same =
+    let long : length next ≡ length (journal ++ e ∷ []) = ap (λ (l : List Entry). length l) is in
+    let last = length_more journal e in
+    omega (arith, long, last, space, fits, same)
+
+-- a core that went on has an entry more
+pub went_so : (m : Machine) (e : Entry) (net : Net) (budget : ℕ) (journal : List Entry) (out : List ℕ) (broken : Bool) →
+    ◌≡◌ {A = Machine} (record { net = net; budget = budget; journal = journal; out = out; is_broken = broken }) m →
+    {net' : Net} → net' ≡ net → {journal' : List Entry} → journal' ≡ journal ++ e ∷ [] →
+    ◌≡◌ {A = Machine} (record { net = net'; budget = budget; journal = journal'; out = out; is_broken = broken }) (record m { journal = m.journal ++ e ∷ [] })
+went_so m e net budget journal out broken v net_is journal_is =
+    (λ i. record { net = net_is i; budget = budget; journal = journal_is i; out = out; is_broken = broken }) ∙ ap (λ (z : Machine). record z { journal = z.journal ++ e ∷ [] }) v

@@ -42,7 +42,7 @@ use Rattle.run_desk.proofs.Sees.{ask_is}
 use Rattle.run_desk.proofs.Splits.{split_desk, split_pool, split, same_run, empty_place}
 use Rattle.run_desk.proofs.Wants.{few_tooks}
 use Rattle.core_machine.specs.declared.actor.Actor.{Actor}
-use Rattle.core_machine.specs.declared.relay.Pair.{Pair}
+use Rattle.core_machine.specs.declared.showing.Pair.{Pair}
 use Rattle.core_machine.specs.Actors.{HasSeen, bytes_told, given_up, gone_on}
 use Rattle.core_machine.specs.Ahead.{HasGoneQuietly, HasSeenOrPut}
 use Rattle.core_machine.specs.Answered.{LeastEvent}

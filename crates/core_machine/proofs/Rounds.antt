@@ -1,14 +1,12 @@
 -- The rounds of two strands: in each the one's record is put, and the other sees and takes the next one.
 use Rattle.std.proofs.Common.{◌≡◌, ◌≢◌, ◌≤◌, ◌<◌, ◌-◌, ◌^◌, ℕ, zero, suc, ◌+◌, Bool, true, false, List, [], ◌∷◌, ◌++◌, length, refl, sym, ◌∙◌, ap, subst, arith, Some, None, Option, slice_get, slice_set, length-set}
-use Rattle.std.specs.Prelude.{IfOk, IsSome, Ok, Result, slice_index_or}
+use Rattle.std.specs.Prelude.{Err, IfOk, IsSome, Ok, OnErr, Result, slice_index_or}
 use Rattle.pipe_model.specs.declared.memory.NoMemory.{NoMemory}
 use Rattle.pipe_model.specs.declared.net.Net.{Net}
 use Rattle.pipe_model.specs.declared.net.Strand.{Strand}
 use Rattle.pipe_model.specs.declared.step.Entry.{Entry}
-use Rattle.pipe_model.specs.declared.step.Out.TheVariants.{Fresh}
 use Rattle.pipe_model.specs.declared.step.Seen.TheVariants.{Put, Saw, Took}
 use Rattle.pipe_model.specs.declared.step.Want.{Want}
-use Rattle.pipe_model.specs.declared.step.Want.TheVariants.{Write}
 use Rattle.pipe_model.specs.Event.{Event}
 use Rattle.pipe_model.proofs.Lists.{at_some, get_set_same, get_set_other, length_more}
 use Rattle.std.proofs.lemmas.Option.{slice_get_within, slice_get_read}
@@ -28,24 +26,29 @@ use Rattle.run_desk.specs.Telling as Telling
 use Rattle.run_desk.specs.Turns.{Behind, CanCome, bare, desk_after_turn, offer_on, pool_after_turn}
 use Rattle.run_desk.proofs.Limits.{offers_held}
 use Rattle.core_machine.specs.declared.actor.Actor.{Actor}
-use Rattle.core_machine.specs.declared.relay.Pair.{Pair}
 use Rattle.core_machine.specs.declared.run.Which.TheVariants.{OfRecords}
-use Rattle.core_machine.specs.Actors.{HasSeen, gone_on, given_up}
+use Rattle.core_machine.specs.declared.showing.Last.{Last}
+use Rattle.core_machine.specs.declared.showing.Last.TheVariants as Ends
+use Rattle.core_machine.specs.declared.showing.Pair.{Pair}
+use Rattle.core_machine.specs.declared.showing.Relayed.{Relayed}
+use Rattle.core_machine.specs.declared.showing.Relayed.TheVariants as Next
+use Rattle.core_machine.specs.Actors.{HasSeen, asking_for, gone_on, given_up}
 use Rattle.core_machine.specs.Floor.{FloorState, IsCovered, IsInUse, StaysEarly}
 use Rattle.core_machine.specs.Answered.{LeastEvent}
 use Rattle.core_machine.specs.Machine.{Machine}
 use Rattle.core_machine.specs.Members.{is_member}
-use Rattle.core_machine.specs.Pairs.{IsPair, IsDue, IsWriter, without_stage, with_stage}
-use Rattle.core_machine.specs.Runs.{AreSteps, is_made}
+use Rattle.core_machine.specs.Pairs.{AreOn, AreRelaying, CanShow, EndsAt, Follows, HasShown, IsPair, IsDue, IsWriter, MayCome, put_of, rounds, took_of, without_stage, with_stage}
+use Rattle.core_machine.specs.Runs.{AreSteps, HasRelayed, is_made}
 use Rattle.core_machine.specs.Sound.{IsSound}
 use Rattle.core_machine.specs.Woken.{IsCovering, HasReturned, LeastEventAwake}
 use Rattle.core_machine.proofs.GoesOn.{set_set}
 use Rattle.core_machine.proofs.Pairs as Pairs
 use Rattle.core_machine.proofs.Pairs.{telling_on}
+use Rattle.core_machine.proofs.RoundsOf.{two_longer_by}
 use Rattle.core_machine.proofs.Runs.{steps_more}
 use Rattle.core_machine.proofs.Steps.{append_none, append_three}
 use Rattle.core_machine.proofs.PutsOn.{no_bytes_put}
-use Rattle.core_machine.proofs.Sounds.{actor_at, event_is, in_range, stage_at}
+use Rattle.core_machine.proofs.Sounds.{event_is, in_range, stage_at}
 use Rattle.core_machine.proofs.Tellings.{IsTelling, resumes_it, room_out, sound_at}
 
 -- what is offered on a link is held
@@ -110,28 +113,6 @@ sound_up_to stands net budget limit journal out actors d pool sound within bound
   waiting = sound.waiting;
   strands = sound.strands;
 }
-
--- how far the two strands are after so many rounds: the writer's record is due to be put, and its coroutine is elsewhere, as is the record that it showed last, where it showed one
-pub record AreRelaying {S : Type 0} (stands : S → Strand → List Event → Type 0) (showing : S → List ℕ) (limit : ℕ) (p : Pair) (net : Net) (start : List Entry) (out : List ℕ)
-    (floor : FloorState) (actors : List (Actor S)) (journal : List Entry) (source : S) (rounds : ℕ) : Type 0 where
-  pub net_is : floor.net ≡ net
-  pub more : List Entry
-  pub journal_is : journal ≡ start ++ more
-  pub steps : (budget : ℕ) (broken : Bool) → AreSteps (is_made OfRecords) (record { net = net; budget = budget; journal = start; out = out; is_broken = broken }) more
-  pub writes : is_member floor.ready p.strand ≡ true
-  pub reads : is_member floor.ready p.to ≡ true
-  pub actor : Actor S
-  pub asked : actor.asked ≡ Write p.output (Fresh [])
-  pub plain : actor.passes ≡ false
-  pub was : actor.stage ≡ Some source
-  pub there : slice_get actors p.strand ≡ Some (without_stage actor)
-  pub grip : ℕ
-  pub pool : PoolState
-  pub fresh : rounds ≡ 0 → pool ≡ floor.pool
-  pub stale : 0 < rounds → (pool ≡ pool_refilled floor.pool grip (showing source)) × (length (showing source) ≤ 256)
-  pub sound : IsSound stands net limit journal out (slice_set actors p.strand actor) floor.desk pool
-  pub pair : IsPair net floor.desk pool p grip
-  pub least : LeastEventAwake floor.desk (Some (p.strand, p.output, Put p.output))
 
 -- what is read at a place is what stands there
 pub read_is : {A : Type 0} (xs : List A) (i : ℕ) (x w : A) → slice_get xs i ≡ Some x → w ≡ slice_index_or xs i w → w ≡ x
@@ -206,12 +187,7 @@ module _ {S : Type 0} {stands : S → Strand → List Event → Type 0} {showing
     abbrev second : Actor S
     second = with_stage next r.actor
 
-    -- what is read at the writer's place, once the reader saw the record, and then at the reader's
-    pub writer_back : (first w : Actor S) → w ≡ slice_index_or (slice_set actors p.to first) p.strand w → with_stage next w ≡ second
-    writer_back first w read =
-        let same = read_is (slice_set actors p.to first) p.strand (without_stage r.actor) w (get_set_other actors p.to p.strand first two ∙ r.there) read in
-        ap (λ (z : Actor S). with_stage next z) same
-
+    -- what is read at the reader's place, once it saw the record and the writer's coroutine is back
     pub reader_back : (first m w : Actor S) → w ≡ slice_index_or (slice_set (slice_set actors p.to first) p.strand m) p.to w → w ≡ first
     reader_back first m w read =
         read_is (slice_set (slice_set actors p.to first) p.strand m) p.to first w (get_set_other (slice_set actors p.to first) p.strand p.to m apart ∙ get_set_same actors p.to first b reader) read
@@ -249,11 +225,6 @@ module _ {S : Type 0} {stands : S → Strand → List Event → Type 0} {showing
     pub shown_covers : IsCovered floor.net floor.desk floor.ready → IsCovering (desk_showing floor.desk p.to p.link) floor.ready
     shown_covers covered =
         Pairs.covers_shown p r.grip t r.pair r.asked r.plain space next bytes shows.0 b there floor.ready (covered.size ∙ ap (λ (n : Net). length n.strands) r.net_is) r.writes r.reads covered.covers
-
-    pub shown_covers_at : (f : FloorState) → f.net ≡ floor.net → f.desk ≡ floor.desk → f.ready ≡ floor.ready → IsCovered f.net f.desk f.ready → IsCovering (desk_showing f.desk p.to p.link) f.ready
-    shown_covers_at f nets desks readies covered =
-        subst (λ d. IsCovering (desk_showing d p.to p.link) f.ready) (sym desks) (subst (λ z. IsCovering (desk_showing floor.desk p.to p.link) z) (sym readies)
-        (shown_covers (subst (λ n. IsCovered n floor.desk floor.ready) nets (subst (λ d. IsCovered f.net d floor.ready) desks (subst (λ z. IsCovered f.net f.desk z) readies covered)))))
 
     module _ (x y : S) (was : b.stage ≡ Some x) (asked' : Want) (passes' : Bool) (shown : List ℕ) (all : b.looks ≡ true → shown ≡ bytes) (none : b.looks ≡ false → shown ≡ []) where
       abbrev gone : Actor S
@@ -359,22 +330,19 @@ pub takes_so : {S : Type 0} (stands : S → Strand → List Event → Type 0) (x
 takes_so stands x y shown asked passes result reply seen is takes =
     subst (HasSeen stands x y 0 shown asked passes) takes (subst (λ z. IfOk z (HasSeen stands x y 0 shown asked passes)) is seen)
 
--- The loop begins
+-- The rounds begin
 module _ {S : Type 0} (stands : S → Strand → List Event → Type 0) (showing : S → List ℕ) (limit : ℕ) (p : Pair) (net : Net) (journal : List Entry) (out : List ℕ) (actors : List (Actor S))
     (d : DeskState) (pool : PoolState) (sound : IsSound stands net limit journal out actors d pool) (due : IsDue net d pool p)
-    (a : Actor S) (read : a ≡ slice_index_or actors p.strand a) where
+    (a : Actor S) (at : slice_get actors p.strand ≡ Some a) where
   event : LeastEvent (record { net = net; budget = limit; journal = journal; out = out; is_broken = false }) (Some (p.strand, p.output, Put p.output))
   event = event_is stands net limit journal out actors d pool sound false (Some (p.strand, p.output, Put p.output)) due.1
 
   pub begins_in : p.strand < length net.strands
   begins_in = let least = event in in_range stands net limit journal out actors d pool sound p.strand p.output least.1.0 least.1.1
 
-  pub writer_at : slice_get actors p.strand ≡ Some a
-  writer_at = actor_at stands net limit journal out actors d pool sound p.strand a begins_in read
-
   -- the writer is home
   pub writer_home : (x : S) × (a.stage ≡ Some x)
-  writer_home = let least = event in stage_at stands net limit journal out actors d pool sound p.strand p.output least.1.0 least.1.1 a writer_at
+  writer_home = let least = event in stage_at stands net limit journal out actors d pool sound p.strand p.output least.1.0 least.1.1 a at
 
   -- its coroutine is taken out
   pub begins : IsWriter actors p → (source : S) → a.stage ≡ Some source → (floor : FloorState) → floor.net ≡ net → floor.desk ≡ d → floor.pool ≡ pool →
@@ -391,21 +359,21 @@ module _ {S : Type 0} (stands : S → Strand → List Event → Type 0) (showing
     asked = ap (λ (z : Actor S). z.asked) same ∙ writer.2;
     plain = ap (λ (z : Actor S). z.passes) same ∙ writer.3;
     was = was;
-    there = ap (λ l. slice_get l p.strand) actors_are ∙ get_set_same actors p.strand (without_stage a) a writer_at;
+    there = ap (λ l. slice_get l p.strand) actors_are ∙ get_set_same actors p.strand (without_stage a) a at;
     grip = due.0.0;
     pool = pool;
     fresh = λ none_yet. sym pools;
     stale = λ some. absurd (let no : ⊥ = omega (arith, some) in no);
     sound = subst (λ z. IsSound stands net limit (journal ++ []) out (slice_set actors' p.strand a) z pool) (sym desks)
         (subst (λ l. IsSound stands net limit (journal ++ []) out l d pool)
-        (sym (ap (λ l. slice_set l p.strand a) actors_are ∙ set_set actors p.strand (without_stage a) a ∙ set_back actors p.strand a writer_at))
+        (sym (ap (λ l. slice_set l p.strand a) actors_are ∙ set_set actors p.strand (without_stage a) a ∙ set_back actors p.strand a at))
         (subst (λ j. IsSound stands net limit j out actors d pool) (sym (append_none journal)) sound));
     pair = subst (λ z. IsPair net z pool p due.0.0) (sym desks) due.0.1;
     least = subst (λ z. LeastEventAwake z (Some (p.strand, p.output, Put p.output))) (sym desks) due.1;
   }
     where
       same : a ≡ writer.0
-      same = let one : Some a ≡ Some writer.0 = sym writer_at ∙ writer.1 in cc
+      same = let one : Some a ≡ Some writer.0 = sym at ∙ writer.1 in cc
 
 -- The writer's coroutine comes back
 module _ {S : Type 0} {stands : S → Strand → List Event → Type 0} {showing : S → List ℕ} {limit : ℕ} {p : Pair} {net : Net} {start : List Entry} {out : List ℕ}
@@ -450,6 +418,9 @@ module _ {S : Type 0} {stands : S → Strand → List Event → Type 0} {showing
       let same = length-set actors p.strand r.actor in
       at_some actors p.to (omega (arith, within, count, same))
 
+  pub reader_in : p.to < length actors
+  reader_in = slice_get_within actors p.to reader_there.0 reader_there.1
+
   -- the link has a wire, and what is offered there is held
   pub place_end : p.link < length floor.desk.wires
   place_end = slice_get_within floor.desk.wires p.link r.pair.relaying.due.0 r.pair.relaying.due.1
@@ -457,18 +428,168 @@ module _ {S : Type 0} {stands : S → Strand → List Event → Type 0} {showing
   pub held_end : IsHeldIn floor.pool (offer_on (Telling.through floor.desk.wires (Some p.link)))
   held_end = held_still (ap offer_on r.pair.relaying.due.1 ∙ r.pair.relaying.due.3)
 
-  pub writer_end : (w : Actor S) → w ≡ slice_index_or actors p.strand w → w ≡ without_stage r.actor
-  writer_end w read = read_is actors p.strand (without_stage r.actor) w r.there read
+  -- its place is one of the actors'
+  pub writer_in : p.strand < length actors
+  writer_in = slice_get_within actors p.strand (without_stage r.actor) r.there
 
-  pub back_at : slice_set actors p.strand (with_stage source (without_stage r.actor)) ≡ slice_set actors p.strand r.actor
+  back_at : slice_set actors p.strand (with_stage source (without_stage r.actor)) ≡ slice_set actors p.strand r.actor
   back_at = ap (λ z. slice_set actors p.strand (record { stage = z; asked = r.actor.asked; looks = r.actor.looks; saw_end = r.actor.saw_end; passes = r.actor.passes })) (sym r.was)
 
-  pub sound_back : (net' : Net) (journal' : List Entry) (out' : List ℕ) (actors' : List (Actor S)) (desk' : DeskState) (pool' : PoolState) → net' ≡ net → journal' ≡ journal → out' ≡ out → actors' ≡ slice_set actors p.strand (with_stage source (without_stage r.actor)) →
-      desk' ≡ floor.desk → pool' ≡ r.pool → IsSound stands net' limit journal' out' actors' desk' pool'
-  sound_back net' journal' out' actors' desk' pool' nets journals outs actors_are desks pools = sound_at nets journals outs (actors_are ∙ back_at) desks pools r.sound
+  -- the record that was shown last is short
+  pub short_end : 0 < rounds → length (showing source) ≤ 256
+  short_end some = (r.stale some).1
 
-  pub due_back : (net' : Net) (desk' : DeskState) (pool' : PoolState) → net' ≡ net → desk' ≡ floor.desk → pool' ≡ r.pool → IsDue net' desk' pool' p
-  due_back net' desk' pool' nets desks pools = (
-    (r.grip, subst (λ n. IsPair n desk' pool' p r.grip) (sym nets) (subst (λ d. IsPair net d pool' p r.grip) (sym desks) (subst (λ z. IsPair net floor.desk z p r.grip) (sym pools) r.pair))),
-    subst (λ d. LeastEventAwake d (Some (p.strand, p.output, Put p.output))) (sym desks) r.least,
-  )
+  -- The floor is as it was, but that the record is in the pool
+  module _ (floor' : FloorState) (nets : floor'.net ≡ floor.net) (desks : floor'.desk ≡ floor.desk) (kept : rounds ≡ 0 → floor'.pool ≡ floor.pool)
+      (put : 0 < rounds → (grip : ℕ) → offer_on (Telling.through floor.desk.wires (Some p.link)) ≡ Some grip → floor'.pool ≡ pool_refilled floor.pool grip (showing source)) where
+    pool_end : floor'.pool ≡ r.pool
+    pool_end = last_pool floor'.pool kept (λ some. put some r.grip (ap offer_on r.pair.relaying.due.1 ∙ r.pair.relaying.due.3))
+
+    -- the core is sound
+    pub sound_end : (journal' : List Entry) (back : List (Actor S)) → journal' ≡ journal → ((a : Actor S) → slice_get actors p.strand ≡ Some a → back ≡ slice_set actors p.strand (with_stage source a)) →
+        IsSound stands floor'.net limit journal' out back floor'.desk floor'.pool
+    sound_end journal' back journals backs = sound_at (nets ∙ r.net_is) journals refl (backs (without_stage r.actor) r.there ∙ back_at) desks pool_end r.sound
+
+    -- and the writer's record is due to be put
+    pub due_end : IsDue floor'.net floor'.desk floor'.pool p
+    due_end = (
+      (r.grip, subst (λ n. IsPair n floor'.desk floor'.pool p r.grip) (sym (nets ∙ r.net_is)) (subst (λ d. IsPair net d floor'.pool p r.grip) (sym desks) (subst (λ z. IsPair net floor.desk z p r.grip) (sym pool_end) r.pair))),
+      subst (λ d. LeastEventAwake d (Some (p.strand, p.output, Put p.output))) (sym desks) r.least,
+    )
+
+-- How the rounds end
+
+pub ends_due : {S : Type 0} (stands : S → Strand → List Event → Type 0) (showing : S → List ℕ) (m : Machine) (p : Pair) (floor : FloorState) (actors : List (Actor S)) (source : S) (n : ℕ) (last : Last) →
+    EndsAt stands showing m p floor actors source n last → last ≡ Ends.Due → AreOn stands showing m p floor actors source n
+ends_due stands showing m p floor actors source n last ends is = subst (EndsAt stands showing m p floor actors source n) is ends
+
+pub ends_shown : {S : Type 0} (stands : S → Strand → List Event → Type 0) (showing : S → List ℕ) (m : Machine) (p : Pair) (floor : FloorState) (actors : List (Actor S)) (source : S) (n : ℕ) (last : Last) →
+    EndsAt stands showing m p floor actors source n last → last ≢ Ends.Due → HasShown stands showing m p floor actors source n last
+ends_shown stands showing m p floor actors source n Ends.Due ends other = absurd (other refl)
+ends_shown stands showing m p floor actors source n Ends.Asks ends other = ends
+ends_shown stands showing m p floor actors source n Ends.Lacks ends other = ends
+
+-- The reader saw the record that was shown last
+module _ {S : Type 0} {stands : S → Strand → List Event → Type 0} {showing : S → List ℕ} {m : Machine} {p : Pair} {floor : FloorState} {actors : List (Actor S)} {source : S} {n : ℕ} {last : Last}
+    (h : HasShown stands showing m p floor actors source n last) where
+  -- what is kept of it then, and of the writer once its coroutine is back
+  abbrev reader : Actor S
+  reader = gone_on (Saw 0) h.went h.asked h.passes h.reader
+
+  abbrev writer : Actor S
+  writer = with_stage source h.relaying.actor
+
+  abbrev pub both : List (Actor S)
+  both = slice_set (slice_set h.before p.to reader) p.strand writer
+
+  -- what was shown may be offered
+  pub shows_last : CanShow floor p
+  shows_last = record {
+    to = place_to h.relaying h.space;
+    link = place_link h.relaying h.space;
+    held = held_end h.relaying;
+    due = is_due_there h.relaying h.space;
+    covers = shown_covers h.relaying h.space source h.shows h.reader h.there;
+  }
+
+  pub short_last : length (showing source) ≤ 256
+  short_last = h.shows.1
+
+  -- by the grip of the one before
+  pub offers_last : offer_on (Telling.through floor.desk.wires (Some p.link)) ≡ Some h.relaying.grip
+  offers_last = offers_grip h.relaying h.space
+
+  -- one more that is out has room
+  pub one_out_last : length m.out < length m.net.strands
+  one_out_last = one_out h.relaying h.space
+
+  -- The writer's coroutine is back
+
+  writer_at : slice_get actors p.strand ≡ Some (without_stage h.relaying.actor)
+  writer_at = ap (λ l. slice_get l p.strand) h.actors_are ∙ get_set_other h.before p.to p.strand reader (two h.relaying h.space) ∙ h.relaying.there
+
+  pub writer_in_last : p.strand < length actors
+  writer_in_last = slice_get_within actors p.strand (without_stage h.relaying.actor) writer_at
+
+  pub back_last : (back : List (Actor S)) → ((a : Actor S) → slice_get actors p.strand ≡ Some a → back ≡ slice_set actors p.strand (with_stage source a)) → back ≡ both
+  back_last back backs = backs (without_stage h.relaying.actor) writer_at ∙ ap (λ l. slice_set l p.strand writer) h.actors_are
+
+  -- what is read at the reader's place
+  pub reader_in_last : (back : List (Actor S)) → back ≡ both → p.to < length back
+  reader_in_last back backs =
+      let apart : p.to ≢ p.strand = λ is. two h.relaying h.space (sym is) in
+      slice_get_within back p.to reader (ap (λ l. slice_get l p.to) backs ∙ get_set_other (slice_set h.before p.to reader) p.strand p.to writer apart ∙ get_set_same h.before p.to reader h.reader h.there)
+
+  pub reader_last : (back : List (Actor S)) → back ≡ both → (w : Actor S) → w ≡ slice_index_or back p.to w → w ≡ reader
+  reader_last back backs w read = reader_back h.relaying h.space source h.shows h.reader h.there reader writer w (read ∙ ap (λ l. slice_index_or l p.to w) backs)
+
+  -- The journal has two entries more
+  module _ (journal' : List Entry) (journals : journal' ≡ ((m.journal ++ rounds p n) ++ put_of p ∷ []) ++ took_of p ∷ []) where
+    pub steps_last : HasRelayed m.net m.out m.journal journal'
+    steps_last = (
+      (h.relaying.more ++ put_of p ∷ []) ++ took_of p ∷ [],
+      journals ∙ two_longer h.relaying h.space source h.shows h.reader h.there,
+      two_steps h.relaying h.space source h.shows h.reader h.there,
+    )
+
+    pub longer_last : length m.journal < length journal'
+    longer_last = two_longer_by p m.journal n journal' journals
+
+    -- The record is in the pool, and the reader was told that it sees it
+    module _ (floor' : FloorState) (nets : floor'.net ≡ floor.net) (desks : floor'.desk ≡ desk_showing floor.desk p.to p.link) (pools : floor'.pool ≡ pool_refilled floor.pool h.relaying.grip (showing source))
+        (back : List (Actor S)) (backs : back ≡ both) where
+      set_both : (x y : Actor S) → x ≡ y → slice_set back p.to x ≡ slice_set both p.to y
+      set_both x y is = ap (λ l. slice_set l p.to x) backs ∙ ap (λ z. slice_set both p.to z) is
+
+      -- it is out, after want of memory
+      pub lost_last : (asked : Want) (gone : Actor S) (out' : List ℕ) (place : ℕ) → gone ≡ given_up (gone_on (Saw 0) h.went asked h.passes h.reader) → out' ≡ m.out ++ place ∷ [] → place ≡ length journal' →
+          IsSound stands floor'.net m.budget journal' out' (slice_set back p.to gone) floor'.desk floor'.pool
+      lost_last asked gone out' place is outs places =
+          lost_round h.relaying h.space source h.shows h.reader h.there h.told h.went h.was asked h.passes h.shown h.all h.none floor'.net journal' out' (slice_set back p.to gone) floor'.desk floor'.pool reader place
+          (nets ∙ h.relaying.net_is) journals outs places (set_both gone (given_up (gone_on (Saw 0) h.went asked h.passes h.reader)) is) desks pools
+
+      -- it may come home
+      pub comes_last : (last ≢ Ends.Lacks) → floor'.ready ≡ floor.ready → (asked : Want) → asked ≡ h.asked → MayCome floor' p.to asked
+      comes_last other readies asked asks =
+          let so = h.resumed other in record {
+            used = subst (λ k. IsInUse k floor'.desk) (sym (nets ∙ h.relaying.net_is)) (subst (λ d. IsInUse m.net d) (sym desks)
+                (used_round h.relaying h.space source h.shows h.reader h.there h.told h.went h.was h.asked h.passes h.shown h.all h.none));
+            live = ap (λ d. Telling.ended_at d p.to) desks ∙ live_round h.relaying h.space source h.shows h.reader h.there h.told h.went h.was h.asked h.passes h.shown h.all h.none so.0;
+            can = subst (λ w. CanCome floor'.desk floor'.pool p.to w) (sym asks) (subst (λ d. CanCome d floor'.pool p.to h.asked) (sym desks)
+                (subst (λ z. CanCome (desk_showing floor.desk p.to p.link) z p.to h.asked) (sym pools)
+                (comes_round h.relaying h.space source h.shows h.reader h.there h.told h.went h.was h.asked h.passes h.shown h.all h.none so.0)));
+            early = subst (λ w. StaysEarly floor'.desk floor'.pool p.to w) (sym asks) (subst (λ d. StaysEarly d floor'.pool p.to h.asked) (sym desks)
+                (subst (λ z. StaysEarly (desk_showing floor.desk p.to p.link) z p.to h.asked) (sym pools)
+                (early_round h.relaying h.space source h.shows h.reader h.there h.told h.went h.was h.asked h.passes h.shown h.all h.none so.0)));
+            here = ap (λ z. is_member z p.to) readies ∙ h.relaying.reads;
+            strand = subst (λ (k : Net). p.to < length k.strands) (sym (nets ∙ h.relaying.net_is)) h.relaying.pair.within;
+          }
+
+      -- and the core is sound once it is home
+      pub home_last : (last ≢ Ends.Lacks) → (w gone : Actor S) → w ≡ reader → gone ≡ asking_for (bare w.asked) w → (floor'' : FloorState) → floor''.net ≡ floor'.net →
+          HasReturned floor'.desk floor'.pool p.to w.asked floor''.desk floor''.pool → IsSound stands floor''.net m.budget journal' m.out (slice_set back p.to gone) floor''.desk floor''.pool
+      home_last other w gone same is floor'' net_still returned =
+          let so = h.resumed other in
+          home_round h.relaying h.space source h.shows h.reader h.there h.told h.went h.was h.asked h.passes h.shown h.all h.none so.0 so.1
+          floor''.net journal' (slice_set back p.to gone) floor''.desk floor''.pool reader (net_still ∙ nets ∙ h.relaying.net_is) journals
+          (set_both gone (gone_on (Saw 0) h.went (bare h.asked) h.passes h.reader) (is ∙ ap (λ (z : Actor S). asking_for (bare z.asked) z) same))
+          (subst (λ d. HasReturned d (pool_refilled floor.pool h.relaying.grip (showing source)) p.to h.asked floor''.desk floor''.pool) desks
+          (subst (λ z. HasReturned floor'.desk z p.to h.asked floor''.desk floor''.pool) pools
+          (subst (λ (z : Actor S). HasReturned floor'.desk floor'.pool p.to z.asked floor''.desk floor''.pool) same returned)))
+
+      -- one or the other, as it was tried
+      pub home_or_lost : (result : Result Relayed NoMemory) → (last ≢ Ends.Lacks) → (w gone : Actor S) → w ≡ reader → (floor'' : FloorState) → floor''.net ≡ floor'.net → (out' : List ℕ) (place : ℕ) → place ≡ length journal' →
+          IfOk result (λ next. (next ≡ Next.Home) × HasReturned floor'.desk floor'.pool p.to w.asked floor''.desk floor''.pool × (gone ≡ asking_for (bare w.asked) w) × (out' ≡ m.out)) →
+          OnErr result ((floor''.desk ≡ floor'.desk) × (floor''.pool ≡ floor'.pool) × ((asked : Want) × (gone ≡ given_up (asking_for asked w))) × (out' ≡ m.out ++ place ∷ [])) →
+          IsSound stands floor''.net m.budget journal' out' (slice_set back p.to gone) floor''.desk floor''.pool
+      home_or_lost (Ok next) other w gone same floor'' net_still out' place places home lost =
+          sound_at refl refl home.3 refl refl refl (home_last other w gone same home.2 floor'' net_still home.1)
+      home_or_lost (Err e) other w gone same floor'' net_still out' place places home lost =
+          sound_at net_still refl refl refl lost.0 lost.1 (lost_last lost.2.0 gone out' place (lost.2.1 ∙ ap (λ (z : Actor S). given_up (asking_for lost.2.0 z)) same) lost.3 places)
+
+    -- it comes home with a longer journal
+    pub goes_home : (result : Result Relayed NoMemory) (floor' floor'' : FloorState) (w gone : Actor S) (out' : List ℕ) →
+        IfOk result (λ next. (next ≡ Next.Home) × HasReturned floor'.desk floor'.pool p.to w.asked floor''.desk floor''.pool × (gone ≡ asking_for (bare w.asked) w) × (out' ≡ m.out)) →
+        IfOk result (λ next. HasRelayed m.net m.out m.journal journal' × (out' ≡ m.out) × Follows next floor'' p m.journal journal')
+    goes_home (Ok next) floor' floor'' w last_of out' home = (steps_last, home.3, subst (λ k. Follows k floor'' p m.journal journal') (sym home.0) longer_last)
+    goes_home (Err e) floor' floor'' w last_of out' home = tt

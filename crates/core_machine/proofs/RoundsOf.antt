@@ -4,20 +4,9 @@ use Rattle.std.proofs.Math.Numerals.{add-one}
 use Rattle.pipe_model.specs.declared.step.Entry.{Entry}
 use Rattle.pipe_model.proofs.Lists.{length_more}
 use Rattle.step_journal.specs.Words.{rounds_of}
-use Rattle.core_machine.specs.declared.relay.Pair.{Pair}
+use Rattle.core_machine.specs.declared.showing.Pair.{Pair}
+use Rattle.core_machine.specs.Pairs.{put_of, rounds, took_of}
 use Rattle.core_machine.proofs.Steps.{append_three}
-
--- the writer's record is put
-abbrev pub put_of : Pair → Entry
-put_of p = record { strand = p.strand; stream = p.output }
-
--- the reader sees a record, or takes it
-abbrev pub took_of : Pair → Entry
-took_of p = record { strand = p.to; stream = 0 }
-
--- the entries of so many rounds
-abbrev pub rounds : Pair → ℕ → List Entry
-rounds p n = rounds_of (put_of p) (took_of p) (took_of p) n
 
 -- there are three in each round
 rounds_length : (a b c : Entry) (n : ℕ) → length (rounds_of a b c n) ≡ 3 * n
@@ -45,45 +34,34 @@ rounds_behind p journal n =
     omega (arith, long, three)
 
 -- where a round more has room below the limit, its first two entries leave some for the third
-pub round_space : (p : Pair) (journal : List Entry) (limit count n : ℕ) → count ≡ length journal → n < (limit - count) / 3 → length (journal ++ rounds p n) + 2 < limit
-round_space p journal limit count n counted few = let long = rounds_behind p journal n in omega (arith, long, counted, few)
+pub round_space : (p : Pair) (journal : List Entry) (limit most n : ℕ) → length journal + 3 * most ≤ limit → n < most → length (journal ++ rounds p n) + 2 < limit
+round_space p journal limit most n fits few = let long = rounds_behind p journal n in omega (arith, long, fits, few)
 
--- the rounds fit the room, where the journal is still the one that it was
-pub rounds_fit : (start now : List Entry) (room room_now limit count n : ℕ) → now ≡ start → room_now ≡ room → count ≡ length start → limit ≤ room → count ≤ limit → n ≤ (limit - count) / 3 →
-    length now + 3 * n ≤ room_now
-rounds_fit start now room room_now limit count n same same_room counted fits within few =
-    let long : length now ≡ length start = ap (λ (l : List Entry). length l) same in
-    omega (arith, long, same_room, counted, fits, within, few)
+-- so many rounds have room as a third of what is left below the limit
+pub rounds_fit : (journal : List Entry) (limit count : ℕ) → count ≡ length journal → length journal ≤ limit → length journal + 3 * ((limit - count) / 3) ≤ limit
+rounds_fit journal limit count counted within = omega (arith, counted, within)
 
--- What is pushed behind the rounds, where a round more had room
-module _ (p : Pair) (start now : List Entry) (n : ℕ) (all first second : List Entry) (same : now ≡ start) (pushed : all ≡ now ++ rounds p n) (one : first ≡ all ++ put_of p ∷ []) where
-  all_is : all ≡ start ++ rounds p n
-  all_is = pushed ∙ ap (λ l. l ++ rounds p n) same
+-- Two entries behind the rounds
 
-  -- the two entries are behind the rounds
-  pub two_behind : second ≡ first ++ took_of p ∷ [] → second ≡ ((start ++ rounds p n) ++ put_of p ∷ []) ++ took_of p ∷ []
-  two_behind two = two ∙ ap (λ l. l ++ took_of p ∷ []) (one ∙ ap (λ l. l ++ put_of p ∷ []) all_is)
+-- the journal is longer
+pub two_longer_by : (p : Pair) (journal : List Entry) (n : ℕ) (longer : List Entry) → longer ≡ ((journal ++ rounds p n) ++ put_of p ∷ []) ++ took_of p ∷ [] → length journal < length longer
+two_longer_by p journal n longer is =
+    let long : length longer ≡ length (((journal ++ rounds p n) ++ put_of p ∷ []) ++ took_of p ∷ []) = ap (λ (l : List Entry). length l) is in
+    let last = length_more ((journal ++ rounds p n) ++ put_of p ∷ []) (took_of p) in
+    let before = length_more (journal ++ rounds p n) (put_of p) in
+    let front = rounds_behind p journal n in
+    omega (arith, long, last, before, front)
 
-  -- so the journal is longer
-  pub two_longer_by : second ≡ first ++ took_of p ∷ [] → length start < length second
-  two_longer_by two =
-      let long : length second ≡ length (((start ++ rounds p n) ++ put_of p ∷ []) ++ took_of p ∷ []) = ap (λ (l : List Entry). length l) (two_behind two) in
-      let last = length_more ((start ++ rounds p n) ++ put_of p ∷ []) (took_of p) in
-      let before = length_more (start ++ rounds p n) (put_of p) in
-      let front = rounds_behind p start n in
-      omega (arith, long, last, before, front)
+-- both fit the room
+pub first_fits : (all now : List Entry) (limit room room_now : ℕ) → now ≡ all → length all + 2 < limit → limit ≤ room → room_now ≡ room → length now < room_now
+first_fits all now limit room room_now is space fits same =
+    let long : length now ≡ length all = ap (λ (l : List Entry). length l) is in
+    omega (arith, long, space, fits, same)
 
-  -- both fit the room
-  pub first_fits : (room room_now room_all limit count : ℕ) → room_now ≡ room → room_all ≡ room_now → count ≡ length start → limit ≤ room → n < (limit - count) / 3 → length all < room_all
-  first_fits room room_now room_all limit count same_room same_all counted fits few =
-      let long : length all ≡ length (start ++ rounds p n) = ap (λ (l : List Entry). length l) all_is in
-      let front = rounds_behind p start n in
-      omega (arith, long, front, same_room, same_all, counted, fits, few)
-
-  pub second_fits : (room room_now room_all room_first limit count : ℕ) → room_now ≡ room → room_all ≡ room_now → room_first ≡ room_all → count ≡ length start → limit ≤ room → n < (limit - count) / 3 → length first < room_first
-  second_fits room room_now room_all room_first limit count same_room same_all same_first counted fits few =
-      let long : length all ≡ length (start ++ rounds p n) = ap (λ (l : List Entry). length l) all_is in
-      let longer : length first ≡ length (all ++ put_of p ∷ []) = ap (λ (l : List Entry). length l) one in
-      let last = length_more all (put_of p) in
-      let front = rounds_behind p start n in
-      omega (arith, long, longer, last, front, same_room, same_all, same_first, counted, fits, few)
+pub second_fits : (all now next : List Entry) (e : Entry) (limit room room_now room_next : ℕ) → now ≡ all → next ≡ now ++ e ∷ [] → length all + 2 < limit → limit ≤ room → room_now ≡ room → room_next ≡ room_now →
+    length next < room_next
+second_fits all now next e limit room room_now room_next is more space fits same still =
+    let long : length now ≡ length all = ap (λ (l : List Entry). length l) is in
+    let longer : length next ≡ length (now ++ e ∷ []) = ap (λ (l : List Entry). length l) more in
+    let last = length_more now e in
+    omega (arith, long, longer, last, space, fits, same, still)

@@ -208,6 +208,10 @@ pub ok_both : {A E : Type 0} (P Q R : Type 0) (r : Result A E) → (P → Q → 
 ok_both P Q R (Ok x) f p q = f p q
 ok_both P Q R (Err e) f p q = tt
 
+pub ok_once : {A E : Type 0} (P : A → Type 0) (Q : Type 0) (r : Result A E) → ((x : A) → P x → Q) → IfOk r P → OnOk r Q
+ok_once P Q (Ok x) f p = f x p
+ok_once P Q (Err e) f p = tt
+
 pub ok_each : {A E : Type 0} (P Q : A → Type 0) (r : Result A E) → ((x : A) → P x → Q x) → IfOk r P → IfOk r Q
 ok_each P Q (Ok x) f p = f x p
 ok_each P Q (Err e) f p = tt

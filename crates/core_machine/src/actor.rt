@@ -108,7 +108,7 @@ pub(crate) fn see<S: Stage>(
     Ok(reply)
 }
 
-// The same on another input.
+// The strand is told that it sees a record on another input than 0, and goes on in place.
 #[inline(never)]
 fn see_on<S: Stage>(
     actor: &mut Actor<S>,

@@ -103,7 +103,7 @@ impl<S: Stage> Core<S> {
         }
     }
 
-    // The same for an event of another kind.
+    // Makes an event of another kind that may be, where budget and room allow it.
     #[cold]
     #[inline(never)]
     fn turn_otherwise(
@@ -123,7 +123,7 @@ impl<S: Stage> Core<S> {
         self.turn_on(strand, stream, seen, room)
     }
 
-    // The same for an event of any kind.
+    // Makes an event of any kind that may be, where budget and room allow it.
     #[inline(always)]
     fn turn_on(&mut self, strand: u32, stream: u16, seen: Seen, room: &mut Vec<u8>) -> Turned<S>
         requires may { (e : Event) × (licence_of self.old strand stream ≡ Some e) × (told e ≡ seen) }
@@ -173,11 +173,11 @@ impl<S: Stage> Core<S> {
             self.is_broken = true;
             return Err(NoMemory);
         };
-        let home = self.come_home(strand, place, stage, want, passes);
-        if home.is_err() {
+        let Ok(()) = self.come_home(strand, place, stage, want, passes) else {
             self.is_broken = true;
-        }
-        home
+            return Err(NoMemory);
+        };
+        Ok(())
     }
 
     // Makes an event that may be: the strand is out with the job that is answered.
@@ -295,7 +295,7 @@ fn is_only(out: &[u64], place: u64) -> bool
     }
 }
 
-// The same where others may be there.
+// Takes a place out of the list, where others may be there.
 #[inline(never)]
 fn remove_among(out: &mut Vec<u64>, place: u64)
     ensures items { out.new.items ≡ without place out.old.items }

@@ -30,7 +30,7 @@ impl Ahead {
     ghost use Rattle.std.specs.Prelude.{◌≡◌};
     ghost use Rattle.core_machine.specs.Ahead.{event_ahead};
 
-    /// The same after a strand took a record as soon as it saw it.
+    /// What is known after a strand took a record as soon as it saw it.
     #[inline(always)]
     pub(crate) fn at_once(self) -> Ahead
         ensures { event_ahead result ≡ event_ahead self }
@@ -126,7 +126,7 @@ impl Floor {
         self.desk.make(&mut self.pool, strand, seen);
     }
 
-    // The same where it may settle something for many strands.
+    // Makes what a strand was told, where it may settle something for many strands, and wakes whom it may concern.
     #[cold]
     #[inline(never)]
     fn make_settling(&mut self, strand: u32, seen: Seen)
@@ -182,7 +182,7 @@ impl Floor {
         }
     }
 
-    // The same for a strand that writes: it rests until its record is taken, or its output refuses.
+    // Brings a strand home that writes: it rests until its record is taken, or its output refuses.
     #[inline(always)]
     fn come_writing(&mut self, strand: u32, o: u16, out: &mut Out) -> Result<(), NoMemory>
         requires used { IsInUse self.old.net self.old.desk }
@@ -203,7 +203,7 @@ impl Floor {
         Ok(())
     }
 
-    // The same for a strand that asks for a commit level.
+    // Brings a strand home that asks for a commit level.
     #[cold]
     fn come_settling(&mut self, strand: u32, want: &mut Want) -> Result<(), NoMemory>
         requires used { IsInUse self.old.net self.old.desk }
@@ -298,7 +298,7 @@ impl Floor {
         }
     }
 
-    /// The same by the link at the input, which is this.
+    /// What is known of the least event after a strand took a record, by the link at the input, which is this.
     #[inline(always)]
     pub(crate) fn ahead_of_take_on(&self, strand: u32, its: Link) -> Ahead
         ensures { (d : DeskState) (pool : PoolState) (stream : ℕ) (i : ℕ) (link : ℕ) (asked : Asked) → HasGoneQuietly self.now.net d pool strand stream (Seen.Took i) asked self.now.desk self.now.pool →
@@ -327,7 +327,7 @@ impl Floor {
         }
     }
 
-    /// The same by the link at the output, by its number and what it is.
+    /// What is known of the least event after a strand offered a record, by the link at the output, by its number and what it is.
     #[inline(always)]
     pub(crate) fn ahead_of_offer_on(&self, strand: u32, link: u32, its: Link) -> Ahead
         requires seats { length self.now.desk.seats ≡ length self.now.net.strands }

@@ -7,8 +7,8 @@ use crate::actor::{advance, ask, give_up, put, see};
 use crate::core_state::Core;
 use crate::floor::Ahead;
 use crate::job::RunEnd;
-use crate::relay::{pair_of, relay};
 use crate::settling::ends;
+use crate::showing::{Relayed, pair_of, relay};
 use outside::{Gate, OpenGate};
 use pipe_model::{Entry, NoMemory, Seen, Want};
 use stage_steps::{Reply, Stage};
@@ -55,6 +55,7 @@ impl<S: Stage> Core<S> {
     ghost use Rattle.core_machine.specs.Machine.{licence_of, turned, broke_down, IsLawful};
     ghost use Rattle.core_machine.specs.Answered.{LeastEvent, HasRun, HasRunOnRecords, HasBrokenLeast, HasBrokenOnRecords, HasMade, Ends, IsEndOnRecords};
     ghost use Rattle.core_machine.specs.Runs.{is_made, may_end, HasRunBy, HasBrokenBy, IsEndBy};
+    ghost use Rattle.core_machine.specs.declared.showing.Relayed.TheVariants as Next;
     ghost use Rattle.core_machine.specs.declared.run.Which.TheVariants as Makes;
 
     /// Makes the least event that may be, of the least strand on its least stream, until there is none or the journal
@@ -156,7 +157,7 @@ impl<S: Stage> Core<S> {
         self.run_last(alloc, gate, which, limit)
     }
 
-    // The same where one event has room at most.
+    // Makes the least event that may be, where it is one of these and has room: no second one has any.
     #[cold]
     #[inline(never)]
     fn run_last<G: Gate>(
@@ -267,7 +268,7 @@ impl<S: Stage> Core<S> {
         Ok(ahead)
     }
 
-    // The same where the sight may settle something for many strands.
+    // The strand sees the record at hand on an input, where that may settle something for many strands.
     #[cold]
     #[inline(never)]
     fn see_otherwise<G: Gate>(
@@ -316,8 +317,9 @@ impl<S: Stage> Core<S> {
         if at_once {
             if which.makes_sights() {
                 if self.is_first(strand) {
-                    if self.relay(alloc, gate, strand, o, limit)? {
-                        return Ok(Ahead::Search);
+                    match self.relay(alloc, gate, strand, o, limit)? {
+                        Relayed::Home => return Ok(Ahead::Search),
+                        Relayed::Due => {}
                     }
                     if self.len() + 1 >= limit {
                         return Ok(Ahead::Put(strand, o, false));
@@ -336,8 +338,9 @@ impl<S: Stage> Core<S> {
         self.floor.link_in(strand, 0).is_none()
     }
 
-    // The same as long as records are shown, and maybe not at all. The answer is whether another event follows than that the strand
-    // puts a record on the output.
+    // The strand, to which no link leads, puts a record on an output, which is the least event that may be, and shows the next one
+    // to the strand there, which takes it at once: both go on so as long as they do that, and maybe not at all. The answer is what
+    // follows.
     #[inline(never)]
     fn relay<G: Gate>(
         &mut self,
@@ -346,20 +349,20 @@ impl<S: Stage> Core<S> {
         strand: u32,
         o: u16,
         limit: u64,
-    ) -> Result<bool, NoMemory>
+    ) -> Result<Relayed, NoMemory>
         requires least { LeastEvent self.old (Some (strand, o, Told.Put o)) }
         requires space { length self.old.journal < limit }
         requires limit { limit ≤ self.old.budget }
         requires whole { self.old.is_broken ≡ false }
         ensures goes { OnOk result (HasRunBy (is_made Makes.OfRecords) self.old self.new) }
-        ensures more { IfOk result (λ over. over ≡ true → length self.old.journal < length self.new.journal) }
+        ensures more { IfOk result (λ next. next ≡ Next.Home → length self.old.journal < length self.new.journal) }
         ensures within { OnOk result (length self.new.journal ≤ limit) }
-        ensures due { IfOk result (λ over. over ≡ false → LeastEvent self.new (Some (strand, o, Told.Put o))) }
+        ensures due { IfOk result (λ next. next ≡ Next.Due → LeastEvent self.new (Some (strand, o, Told.Put o))) }
         ensures lacks { OnErr result (HasBrokenBy (is_made Makes.OfRecords) limit self.old self.new) }
         ensures lawful { IsLawful self.new }
     {
         let Some(pair) = pair_of(&self.floor, &self.actors, strand, o) else {
-            return Ok(false);
+            return Ok(Relayed::Due);
         };
         let relayed = relay(
             &mut self.floor,
@@ -424,7 +427,7 @@ impl<S: Stage> Core<S> {
         Ok(ahead)
     }
 
-    // The same where the output leads to no rendezvous.
+    // The strand puts a record on an output that leads to no rendezvous, and its coroutine goes on, in place.
     #[inline(never)]
     fn put_otherwise<G: Gate>(
         &mut self,

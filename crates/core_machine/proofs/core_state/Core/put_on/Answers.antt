@@ -11,7 +11,7 @@ use Rattle.core_machine.proofs.Broken.{breaks_at, breaks_wider, on_err}
 use Rattle.core_machine.proofs.Runs.{IsUnderWay, err_so, least_inside, makes_quiet, ok_so, run_longer, run_then, runs_begin, runs_wider}
 use Rattle.core_machine.proofs.Steps.{made_longer}
 use Rattle.core_machine.proofs.core_state.Core.put_on.Goals as goal
-use Rattle.core_machine.proofs.core_state.Core.put_on.Goals.{then-at_once+then-makes_sights+then-is_first+in_ok-relay+else-branch+else-len-limit, then-at_once+then-makes_sights+else-is_first, then-at_once+else-makes_sights, else-at_once}
+use Rattle.core_machine.proofs.core_state.Core.put_on.Goals.{then-at_once+then-makes_sights+then-is_first+in_ok-relay+in-Due+else-len-limit, then-at_once+then-makes_sights+else-is_first, then-at_once+else-makes_sights, else-at_once}
 
 -- the run so far made all that it may, and the put is due, with room for two events
 abbrev IsPutDue : Which → Machine → ℕ → ℕ → ℕ → Machine → Type 0
@@ -41,24 +41,24 @@ pub returns-then-len-limit-clause-ahead : goal.returns-then-len-limit-clause-ahe
 returns-then-len-limit-clause-ahead g c = λ r named.
     let e : ℕ × ℕ × Seen = (c.args.strand, c.args.o, Put c.args.o) in
     let same : e ≡ r = cc in
-    subst (λ z. LeastEvent c.relay.new.self (Some z)) same (c.in_ok-relay.ensures.due c.if-branch.false)
+    subst (λ z. LeastEvent c.relay.new.self (Some z)) same (c.in_ok-relay.ensures.due c.in-Due.is)
 
 pub put-requires-clause-least : goal.put-requires-clause-least
 put-requires-clause-least g c =
     let due : IsPutDue c.args.which c.args.self.now c.args.limit c.args.strand c.args.o c.if-at_once.self = elim c.if-at_once.branch [
-      | then-at_once+then-makes_sights+then-is_first+in_ok-relay+else-branch+else-len-limit w ↦
+      | then-at_once+then-makes_sights+then-is_first+in_ok-relay+in-Due+else-len-limit w ↦
           let wider = w.makes_sights.ensures w.if-makes_sights.true in
           let few : length w.relay.new.self.journal + 1 < c.args.limit = omega (arith, w.if-len-limit.false, w.len.ensures.length) in
           subst (IsPutDue c.args.which c.args.self.now c.args.limit c.args.strand c.args.o) (sym w.self-is)
-          (relayed c.args.which c.args.self.now w.relay.new.self c.args.limit c.args.strand c.args.o wider w.in_ok-relay.ensures.goes few (w.in_ok-relay.ensures.due w.if-branch.false))
+          (relayed c.args.which c.args.self.now w.relay.new.self c.args.limit c.args.strand c.args.o wider w.in_ok-relay.ensures.goes few (w.in_ok-relay.ensures.due w.in-Due.is))
       | then-at_once+then-makes_sights+else-is_first w ↦ subst (IsPutDue c.args.which c.args.self.now c.args.limit c.args.strand c.args.o) (sym w.self-is) (runs_begin (is_made c.args.which) c.args.self.now, c.requires.space, c.requires.least)
       | then-at_once+else-makes_sights w ↦ subst (IsPutDue c.args.which c.args.self.now c.args.limit c.args.strand c.args.o) (sym w.self-is) (runs_begin (is_made c.args.which) c.args.self.now, c.requires.space, c.requires.least)
       | else-at_once w ↦ subst (IsPutDue c.args.which c.args.self.now c.args.limit c.args.strand c.args.o) (sym w.self-is) (runs_begin (is_made c.args.which) c.args.self.now, c.requires.space, c.requires.least)
     ] in
     due.2
 
-pub returns-then-branch-clause-goes : goal.returns-then-branch-clause-goes
-returns-then-branch-clause-goes g c =
+pub returns-in-Home-clause-goes : goal.returns-in-Home-clause-goes
+returns-in-Home-clause-goes g c =
     runs_wider (is_made OfRecords) (is_made c.args.which) (c.makes_sights.ensures c.if-makes_sights.true) c.args.self.now c.relay.new.self c.in_ok-relay.ensures.goes
 
 pub returns-then-len-limit-clause-goes : goal.returns-then-len-limit-clause-goes
@@ -68,11 +68,11 @@ returns-then-len-limit-clause-goes g c =
 pub returns-clause-goes : goal.returns-clause-goes
 returns-clause-goes g c =
     let due : IsPutDue c.args.which c.args.self.now c.args.limit c.args.strand c.args.o c.if-at_once.self = elim c.if-at_once.branch [
-      | then-at_once+then-makes_sights+then-is_first+in_ok-relay+else-branch+else-len-limit w ↦
+      | then-at_once+then-makes_sights+then-is_first+in_ok-relay+in-Due+else-len-limit w ↦
           let wider = w.makes_sights.ensures w.if-makes_sights.true in
           let few : length w.relay.new.self.journal + 1 < c.args.limit = omega (arith, w.if-len-limit.false, w.len.ensures.length) in
           subst (IsPutDue c.args.which c.args.self.now c.args.limit c.args.strand c.args.o) (sym w.self-is)
-          (relayed c.args.which c.args.self.now w.relay.new.self c.args.limit c.args.strand c.args.o wider w.in_ok-relay.ensures.goes few (w.in_ok-relay.ensures.due w.if-branch.false))
+          (relayed c.args.which c.args.self.now w.relay.new.self c.args.limit c.args.strand c.args.o wider w.in_ok-relay.ensures.goes few (w.in_ok-relay.ensures.due w.in-Due.is))
       | then-at_once+then-makes_sights+else-is_first w ↦ subst (IsPutDue c.args.which c.args.self.now c.args.limit c.args.strand c.args.o) (sym w.self-is) (runs_begin (is_made c.args.which) c.args.self.now, c.requires.space, c.requires.least)
       | then-at_once+else-makes_sights w ↦ subst (IsPutDue c.args.which c.args.self.now c.args.limit c.args.strand c.args.o) (sym w.self-is) (runs_begin (is_made c.args.which) c.args.self.now, c.requires.space, c.requires.least)
       | else-at_once w ↦ subst (IsPutDue c.args.which c.args.self.now c.args.limit c.args.strand c.args.o) (sym w.self-is) (runs_begin (is_made c.args.which) c.args.self.now, c.requires.space, c.requires.least)
@@ -82,11 +82,11 @@ returns-clause-goes g c =
 pub returns-clause-more : goal.returns-clause-more
 returns-clause-more g c =
     let due : IsPutDue c.args.which c.args.self.now c.args.limit c.args.strand c.args.o c.if-at_once.self = elim c.if-at_once.branch [
-      | then-at_once+then-makes_sights+then-is_first+in_ok-relay+else-branch+else-len-limit w ↦
+      | then-at_once+then-makes_sights+then-is_first+in_ok-relay+in-Due+else-len-limit w ↦
           let wider = w.makes_sights.ensures w.if-makes_sights.true in
           let few : length w.relay.new.self.journal + 1 < c.args.limit = omega (arith, w.if-len-limit.false, w.len.ensures.length) in
           subst (IsPutDue c.args.which c.args.self.now c.args.limit c.args.strand c.args.o) (sym w.self-is)
-          (relayed c.args.which c.args.self.now w.relay.new.self c.args.limit c.args.strand c.args.o wider w.in_ok-relay.ensures.goes few (w.in_ok-relay.ensures.due w.if-branch.false))
+          (relayed c.args.which c.args.self.now w.relay.new.self c.args.limit c.args.strand c.args.o wider w.in_ok-relay.ensures.goes few (w.in_ok-relay.ensures.due w.in-Due.is))
       | then-at_once+then-makes_sights+else-is_first w ↦ subst (IsPutDue c.args.which c.args.self.now c.args.limit c.args.strand c.args.o) (sym w.self-is) (runs_begin (is_made c.args.which) c.args.self.now, c.requires.space, c.requires.least)
       | then-at_once+else-makes_sights w ↦ subst (IsPutDue c.args.which c.args.self.now c.args.limit c.args.strand c.args.o) (sym w.self-is) (runs_begin (is_made c.args.which) c.args.self.now, c.requires.space, c.requires.least)
       | else-at_once w ↦ subst (IsPutDue c.args.which c.args.self.now c.args.limit c.args.strand c.args.o) (sym w.self-is) (runs_begin (is_made c.args.which) c.args.self.now, c.requires.space, c.requires.least)
@@ -102,11 +102,11 @@ returns-in_err-relay-clause-lacks g c =
 pub returns-clause-lacks : goal.returns-clause-lacks
 returns-clause-lacks g c =
     let due : IsPutDue c.args.which c.args.self.now c.args.limit c.args.strand c.args.o c.if-at_once.self = elim c.if-at_once.branch [
-      | then-at_once+then-makes_sights+then-is_first+in_ok-relay+else-branch+else-len-limit w ↦
+      | then-at_once+then-makes_sights+then-is_first+in_ok-relay+in-Due+else-len-limit w ↦
           let wider = w.makes_sights.ensures w.if-makes_sights.true in
           let few : length w.relay.new.self.journal + 1 < c.args.limit = omega (arith, w.if-len-limit.false, w.len.ensures.length) in
           subst (IsPutDue c.args.which c.args.self.now c.args.limit c.args.strand c.args.o) (sym w.self-is)
-          (relayed c.args.which c.args.self.now w.relay.new.self c.args.limit c.args.strand c.args.o wider w.in_ok-relay.ensures.goes few (w.in_ok-relay.ensures.due w.if-branch.false))
+          (relayed c.args.which c.args.self.now w.relay.new.self c.args.limit c.args.strand c.args.o wider w.in_ok-relay.ensures.goes few (w.in_ok-relay.ensures.due w.in-Due.is))
       | then-at_once+then-makes_sights+else-is_first w ↦ subst (IsPutDue c.args.which c.args.self.now c.args.limit c.args.strand c.args.o) (sym w.self-is) (runs_begin (is_made c.args.which) c.args.self.now, c.requires.space, c.requires.least)
       | then-at_once+else-makes_sights w ↦ subst (IsPutDue c.args.which c.args.self.now c.args.limit c.args.strand c.args.o) (sym w.self-is) (runs_begin (is_made c.args.which) c.args.self.now, c.requires.space, c.requires.least)
       | else-at_once w ↦ subst (IsPutDue c.args.which c.args.self.now c.args.limit c.args.strand c.args.o) (sym w.self-is) (runs_begin (is_made c.args.which) c.args.self.now, c.requires.space, c.requires.least)

@@ -3,7 +3,7 @@ use Rattle.std.proofs.Common.{rules, refl}
 use Rattle.std.proofs.lemmas.Option.{slice_get_within}
 use Rattle.core_machine.proofs.Sounds.{actor_at, in_use}
 use Rattle.core_machine.proofs.Rounds.{offer_held}
-use Rattle.core_machine.proofs.relay.pair_of.Goals as goal
+use Rattle.core_machine.proofs.showing.pair_of.Goals as goal
 
 pub rendezvous_at-requires-clause-used : goal.rendezvous_at-requires-clause-used
 rendezvous_at-requires-clause-used g c =

@@ -1,4 +1,4 @@
-//! Strands that pass records on: what their steps do to the floor, where two changes of it are made in one.
+//! Changes of the floor that are two or three in one: a strand passes a record on, takes one as it sees it, or shows the next one.
 ghost use Rattle.std.specs.Prelude.{◌≡◌, IfSome};
 ghost use Rattle.pipe_model.specs.declared.step.Out.TheVariants as Outs;
 ghost use Rattle.pipe_model.specs.declared.step.Want.TheVariants as Asks;
@@ -6,8 +6,11 @@ ghost use Rattle.pipe_model.specs.declared.step.Want.TheVariants as Asks;
 use crate::floor::{Ahead, Floor};
 use pipe_model::{Kind, NoMemory, Out, Rec, Seen, Want};
 
-// The sight of a record of more bytes is work of its own, which others needn't wait for.
-const SHORT_RECORD: usize = 1_024;
+// No record of more bytes is shown: so `Stage::show` promises, and `Floor::refill` asks for it.
+pub(crate) const MOST_SHOWN: usize = 256;
+
+// The sight of a record of more bytes is long: it is work of its own, which others needn't wait for.
+const LONG_SIGHT: usize = 1_024;
 
 // So is that of a SPECS of more items.
 const FEW_ITEMS: usize = 32;
@@ -63,7 +66,7 @@ impl Floor {
         if self.has_long_sights(strand) {
             return true;
         }
-        self.desk.size_at_hand(&self.pool, strand, i) > SHORT_RECORD
+        self.desk.size_at_hand(&self.pool, strand, i) > LONG_SIGHT
     }
 
     /// Whether a strand's work on a record of any size may take more than some five microseconds. Nothing is proved of the
@@ -281,7 +284,8 @@ impl Floor {
         self.desk.show(to, link);
     }
 
-    /// The same, and it takes that record and asks to look at the next one.
+    /// The record that was taken on a link is put, the next one is offered by its grip, and the strand at the other end sees it,
+    /// takes it, and asks to look at the next one.
     #[inline(always)]
     pub(crate) fn relay(&mut self, link: u32)
         requires link { link < length self.old.desk.wires }
