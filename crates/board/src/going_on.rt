@@ -14,14 +14,14 @@ use std::sync::Wait;
 
 /// A job is brought home, and the core goes on by steps by which a record is taken or put, or, where the gate is open, seen.
 #[derive(Drop)]
-struct GoingOn<S: Stage> {
+struct GoingOn<'a, S: Stage, G: Gate> {
     alloc: Global,
     done: Finished<S>,
-    gate_is_open: bool,
+    gate: &'a G,
     at_once: AtOnce,
 }
 
-impl<S: Stage> Task<S> for GoingOn<S> {
+impl<'a, S: Stage, G: Gate> Task<S> for GoingOn<'a, S, G> {
     ghost use Rattle.board.specs.declared.answers.TryFinish.TheVariants.{Busy};
     ghost use Rattle.board.specs.Calls.{most_after};
     ghost use Rattle.board.specs.Tasks.{MayFinish, GoOnDid};
@@ -32,7 +32,7 @@ impl<S: Stage> Task<S> for GoingOn<S> {
 
     ghost may = { λ t m. MayFinish S.stands t.done m };
 
-    ghost did = { λ t _ m answer n _ c. GoOnDid t.gate_is_open (most_after t.at_once m t.done.place) m t.done.place answer n c };
+    ghost did = { λ t _ m answer n _ c. GoOnDid (G.is_open t.gate.now) (most_after t.at_once m t.done.place) m t.done.place answer n c };
 
     ghost left = { λ t. Busy t.done };
 
@@ -46,7 +46,7 @@ impl<S: Stage> Task<S> for GoingOn<S> {
         let GoingOn {
             alloc,
             done,
-            gate_is_open,
+            gate,
             at_once,
         } = self;
         let place = done.place();
@@ -56,7 +56,7 @@ impl<S: Stage> Task<S> for GoingOn<S> {
         }
         let most = at_once.most_beside(core.out_count());
         let start = core.len();
-        match core.run_on_records(alloc, gate_is_open, most) {
+        match core.run_on_records(alloc, gate.is_open(), most) {
             Ok(made) => {
                 bell.note_steps(made == 0 || made != at_once.beside);
                 let len = core.len();
@@ -110,7 +110,7 @@ impl<S: Stage> Board<S> {
         let task = GoingOn {
             alloc,
             done,
-            gate_is_open: gate.is_open(),
+            gate,
             at_once,
         };
         self.call(Awake(rt), pass, task, &mut ())
