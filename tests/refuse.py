@@ -1,4 +1,4 @@
-# A program with its n-th request for memory refused, and no other one:
+# A program with its n-th request for memory refused, and no other one, on x86-64:
 #
 #     N=n IN=FILE OUT=FILE DIAG=FILE gdb -q -batch -x tests/refuse.py --args PROGRAM [WORD..]
 #
