@@ -3,7 +3,7 @@ use Rattle.std.proofs.Common.{◌≡◌, refl, codes, [], ◌∷◌}
 use Rattle.std.specs.Prelude.{Some, None}
 use Rattle.clap.proofs.OnLiterals.{clap_on_literals}
 use Rattle.call_words.specs.Command.{command_of}
-use Rattle.call_words.specs.declared.command.Command.TheVariants.{Run, Check, Lint, Sample}
+use Rattle.call_words.specs.declared.command.Command.TheVariants.{Run, Check, Lint, Sample, Sets}
 
 only_a_spec : command_of (codes "x" ∷ []) ≡ Some (Run (codes "x") 4 4000000 None)
 unfolding clap_on_literals
@@ -120,3 +120,39 @@ lint_and_sample = refl
 lint_alone : command_of (codes "--lint" ∷ []) ≡ None
 unfolding clap_on_literals
 lint_alone = refl
+
+the_sets : command_of (codes "--sets" ∷ codes "s" ∷ []) ≡ Some (Sets (codes "s") 4 100000)
+unfolding clap_on_literals
+the_sets = refl
+
+sets_in_steps : command_of (codes "--sets" ∷ codes "s" ∷ codes "--steps" ∷ codes "11" ∷ codes "--workers" ∷ codes "2" ∷ []) ≡ Some (Sets (codes "s") 2 11)
+unfolding clap_on_literals
+sets_in_steps = refl
+
+sets_and_spec : command_of (codes "--sets" ∷ codes "s" ∷ codes "x" ∷ []) ≡ None
+unfolding clap_on_literals
+sets_and_spec = refl
+
+sets_and_sample : command_of (codes "--sets" ∷ codes "s" ∷ codes "--sample" ∷ codes "5" ∷ []) ≡ None
+unfolding clap_on_literals
+sets_and_sample = refl
+
+sets_and_trace : command_of (codes "--sets" ∷ codes "s" ∷ codes "--trace" ∷ codes "t" ∷ []) ≡ None
+unfolding clap_on_literals
+sets_and_trace = refl
+
+sets_and_check : command_of (codes "--sets" ∷ codes "s" ∷ codes "--check" ∷ codes "c" ∷ []) ≡ None
+unfolding clap_on_literals
+sets_and_check = refl
+
+sets_and_lint : command_of (codes "--sets" ∷ codes "s" ∷ codes "--lint" ∷ []) ≡ None
+unfolding clap_on_literals
+sets_and_lint = refl
+
+sets_of_no_name : command_of (codes "--sets" ∷ codes "" ∷ []) ≡ None
+unfolding clap_on_literals
+sets_of_no_name = refl
+
+sets_in_no_steps : command_of (codes "--sets" ∷ codes "s" ∷ codes "--steps" ∷ codes "0" ∷ []) ≡ None
+unfolding clap_on_literals
+sets_in_no_steps = refl

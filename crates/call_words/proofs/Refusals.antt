@@ -2,10 +2,11 @@
 use Rattle.std.proofs.Common.{◌≡◌, ◌∙◌, List, [], ◌∷◌, inl, inr, refl, subst, sym, true, ap, codes}
 use Rattle.std.specs.Prelude.{Option, Some, None, Ok, Err, IfOk, IfErr}
 use Rattle.std.specs.declared.result.Result.{Result}
-use Rattle.clap.specs.Words.{App, Row, Text, first_of, first_value, fault_of, kind_of, matches_of, rows_of, is_simple_and_free}
+use Rattle.clap.specs.Words.{App, HasMatchesOf, Row, Text, first_of, first_value, fault_of, found_of, is_simple, kind_of, matches_of, rows_of, is_simple_and_free}
 use Rattle.clap.specs.Kinds.{HasKind, Kinds}
 use Rattle.clap.specs.declared.error.Error.{Error}
 use Rattle.clap.specs.declared.error.kind.ErrorKind.TheVariants.{OutOfMemory}
+use Rattle.clap.specs.declared.parser.matches.ArgMatches.{ArgMatches}
 use Rattle.clap.specs.declared.parser.matches.Found.{Found}
 use Rattle.clap.proofs.OnLiterals.{clap_on_literals}
 use Rattle.clap.proofs.WalkLemmas.{first_value-rows}
@@ -30,6 +31,10 @@ pub refused_at : (made : App) (words : List Text) (error : Error) (fault : Words
 refused_at made words error fault same has =
     refused_by (fault_of app words) error fault (subst (λ (a : App). is_simple_and_free a ≡ true → HasKind (fault_of a words) error) same has app_is_simple)
 
+-- the matches of a command as it was built are those of the command that it equals
+pub rows_at : (made wanted : App) (words : List Text) (matches : ArgMatches) → made ≡ wanted → is_simple wanted ≡ true → HasMatchesOf made words matches → rows_of (found_of matches) ≡ matches_of wanted words
+rows_at made wanted words matches same simple has = (subst (λ (a : App). HasMatchesOf a words matches) same has simple).0
+
 pub none_where_faulty : (words : List Text) → IsFaulty (fault_of app words) → command_of words ≡ None
 none_where_faulty words faulty = by_kinds (fault_of app words) _ faulty
   where
@@ -38,7 +43,7 @@ none_where_faulty words faulty = by_kinds (fault_of app words) _ faulty
     by_kinds (kind ∷ kinds) command faulty = refl
 
 same_given : (f g : Text → Option Text) → ((id : Text) → f id ≡ g id) → given_by f ≡ given_by g
-same_given f g same = rw (same (codes "spec"), same (codes "workers"), same (codes "steps"), same (codes "trace"), same (codes "check"), same (codes "sample"), same (codes "lint")) refl
+same_given f g same = rw (same (codes "spec"), same (codes "workers"), same (codes "steps"), same (codes "trace"), same (codes "check"), same (codes "sample"), same (codes "sets"), same (codes "lint")) refl
 
 -- the command of words in which clap found these matches
 pub read_of : (words : List Text) (found : Found) → fault_of app words ≡ [] → rows_of found ≡ matches_of app words → command_of words ≡ demanded (given_by (first_value found))

@@ -6,7 +6,7 @@ use Rattle.clap.specs.Kinds.{Kinds}
 use Rattle.clap.specs.declared.builder.action.ArgAction.TheVariants.{SetTrue}
 use Rattle.argument_parts.specs.Numbers.{decimal}
 use Rattle.call_words.specs.declared.command.Command.{Command}
-use Rattle.call_words.specs.declared.command.Command.TheVariants.{Run, Check, Lint, Sample}
+use Rattle.call_words.specs.declared.command.Command.TheVariants.{Run, Check, Lint, Sample, Sets}
 
 -- ---- what clap reads
 
@@ -18,7 +18,7 @@ option name = record (new_rule name) { long = Some name }
 abbrev pub flag : Text → Rule
 flag name = record (new_rule name) { long = Some name; action = Some SetTrue }
 
--- one optional positional, five options and a flag, with no help flag; the words are those after the program's name
+-- one optional positional, six options and a flag, with no help flag; the words are those after the program's name
 abbrev pub app : App
 app =
     let named = new_app (codes "pipe") in
@@ -29,7 +29,8 @@ app =
     let trace = with_rule steps (option (codes "trace")) in
     let check = with_rule trace (option (codes "check")) in
     let sample = with_rule check (option (codes "sample")) in
-    with_rule sample (flag (codes "lint"))
+    let sets = with_rule sample (option (codes "sets")) in
+    with_rule sets (flag (codes "lint"))
 
 -- the positional and the options' values, where they are given
 pub record Given : Type 0 where
@@ -39,6 +40,7 @@ pub record Given : Type 0 where
   pub trace : Option Text
   pub check : Option Text
   pub sample : Option Text
+  pub sets : Option Text
   pub lint : Option Text
 
 -- each by its id
@@ -50,6 +52,7 @@ given_by value = record {
   trace = value (codes "trace");
   check = value (codes "check");
   sample = value (codes "sample");
+  sets = value (codes "sets");
   lint = value (codes "lint");
 }
 
@@ -73,6 +76,10 @@ workers_in = number_or 4 1 64
 -- 1 to 50,000,000, and 4,000,000 by default
 abbrev pub steps_in : Option Text → Option ℕ
 steps_in = number_or 4000000 1 50000000
+
+-- 1 to 50,000,000 a set, and 100,000 by default
+abbrev pub set_steps_in : Option Text → Option ℕ
+set_steps_in = number_or 100000 1 50000000
 
 -- a name is 1 to 255 bytes
 abbrev pub name_in : Text → Option Text
@@ -113,21 +120,32 @@ sample_of lines given =
     option_map (Sample lines workers)
     (steps_in given.steps)) (workers_in given.workers)) (number_in 1 200000 lines)
 
+-- the sets of a file: --trace doesn't stand with --sets
+abbrev pub sets_of : Text → Given → Option Command
+sets_of name given =
+    if is_some given.trace then None
+    else option_and_then (λ name.
+    option_and_then (λ workers.
+    option_map (Sets name workers)
+    (set_steps_in given.steps)) (workers_in given.workers)) (name_in name)
+
 -- the lint of a specification: no option stands with --lint
 abbrev pub lint_of : Given → Option Command
 lint_of given =
-    if is_some given.workers || is_some given.steps || is_some given.trace || is_some given.check || is_some given.sample then None
+    if is_some given.workers || is_some given.steps || is_some given.trace || is_some given.check || is_some given.sample || is_some given.sets then None
     else option_map Lint given.spec
 
--- by SPEC, --check and --sample, where --lint isn't there: SPEC is there exactly where --sample isn't, and --check doesn't stand with --sample
-abbrev pub form_of : Option Text → Option Text → Option Text → Given → Option Command
-form_of (Some spec) None None given = run_of spec given
-form_of (Some spec) (Some name) None given = check_of spec name given
-form_of None None (Some lines) given = sample_of lines given
-form_of _ _ _ given = None
+-- by SPEC, --check, --sample and --sets, where --lint isn't there: SPEC is there exactly where neither --sample nor --sets is, --check stands
+-- with SPEC alone, and --sample doesn't stand with --sets
+abbrev pub form_of : Option Text → Option Text → Option Text → Option Text → Given → Option Command
+form_of (Some spec) None None None given = run_of spec given
+form_of (Some spec) (Some name) None None given = check_of spec name given
+form_of None None (Some lines) None given = sample_of lines given
+form_of None None None (Some name) given = sets_of name given
+form_of _ _ _ _ given = None
 
 abbrev pub demanded : Given → Option Command
-demanded given = if is_on given.lint then lint_of given else form_of given.spec given.check given.sample given
+demanded given = if is_on given.lint then lint_of given else form_of given.spec given.check given.sample given.sets given
 
 -- clap finds a fault
 abbrev pub IsFaulty : Kinds → Type 0
@@ -143,9 +161,10 @@ unless_faulty (kind ∷ kinds) command = None
 abbrev pub command_of : List Text → Option Command
 command_of words = unless_faulty (fault_of app words) (demanded (given_by (λ id. first_of id (matches_of app words))))
 
--- a run and a sample have 1 to 64 workers and at most 50,000,000 steps
+-- a run, a sample and sets have 1 to 64 workers and at most 50,000,000 steps, and sets have at least one step
 abbrev pub IsWithinRanges : Command → Type 0
 IsWithinRanges (Run spec workers steps trace) = (0 < workers) × (workers ≤ 64) × (steps ≤ 50000000)
 IsWithinRanges (Check spec name) = ⊤
 IsWithinRanges (Lint spec) = ⊤
 IsWithinRanges (Sample lines workers steps) = (0 < workers) × (workers ≤ 64) × (steps ≤ 50000000)
+IsWithinRanges (Sets name workers steps) = (0 < workers) × (workers ≤ 64) × (0 < steps) × (steps ≤ 50000000)

@@ -26,6 +26,13 @@ pub enum Command {
         workers: u32,
         steps: u64,
     },
+    /// To run each line of the file of this name, 1 to 255 bytes, as a specification of its own, by so many workers, 1 to 64, each
+    /// in so many steps at most, 1 to 50,000,000.
+    Sets {
+        name: Rec,
+        workers: u32,
+        steps: u64,
+    },
 }
 
 /// Why words are no command.

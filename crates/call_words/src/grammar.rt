@@ -33,7 +33,7 @@ fn fault_of_kind(kind: ErrorKind) -> WordsFault
     }
 }
 
-// The program's command line: one optional positional, five options and a flag.
+// The program's command line: one optional positional, six options and a flag.
 fn command<'a>(alloc: Global) -> Result<Command<'a>, NoMemory>
     ensures { IfOk result (λ command. app_of command ≡ app) }
 {
@@ -46,7 +46,8 @@ fn command<'a>(alloc: Global) -> Result<Command<'a>, NoMemory>
     let trace = steps.arg(option(alloc, "trace"))?;
     let check = trace.arg(option(alloc, "check"))?;
     let sample = check.arg(option(alloc, "sample"))?;
-    Ok(sample.arg(flag(alloc, "lint"))?)
+    let sets = sample.arg(option(alloc, "sets"))?;
+    Ok(sets.arg(flag(alloc, "lint"))?)
 }
 
 // An option of this name, with one value.

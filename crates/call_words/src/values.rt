@@ -1,5 +1,5 @@
 ghost use Rattle.std.specs.Prelude.{◌≡◌, ◌<◌, ◌≤◌, IfSome, option_map};
-ghost use Rattle.call_words.specs.Command.{is_on, name_if, name_in, number_in, number_or, steps_in, workers_in};
+ghost use Rattle.call_words.specs.Command.{is_on, name_if, name_in, number_in, number_or, set_steps_in, steps_in, workers_in};
 ghost use Rattle.call_words.specs.Gives.{Gives};
 
 use crate::command::WordsFault;
@@ -25,6 +25,14 @@ pub fn steps_in(word: Option<&str>) -> Option<u64>
     ensures few { IfSome result (λ steps. steps ≤ 50000000) }
 {
     number_or(4_000_000, 1, 50_000_000, word)
+}
+
+// The number of steps of a set, 100,000 where there is no word.
+pub fn set_steps_in(word: Option<&str>) -> Option<u64>
+    ensures steps { result ≡ set_steps_in (option_map (λ word. word.now) word.entry) }
+    ensures few { IfSome result (λ steps. (0 < steps) × (steps ≤ 50000000)) }
+{
+    number_or(100_000, 1, 50_000_000, word)
 }
 
 // The number of lines of the sample.

@@ -15,4 +15,5 @@ returns c =
     let trace = c.in_ok-trace.ensures.shape c.option-3.ensures.own ∙ ap₂ with_rule steps c.option-3.ensures.rule in
     let check = c.in_ok-check.ensures.shape c.option-4.ensures.own ∙ ap₂ with_rule trace c.option-4.ensures.rule in
     let sample = c.in_ok-sample.ensures.shape c.option-5.ensures.own ∙ ap₂ with_rule check c.option-5.ensures.rule in
-    c.in_ok-arg.ensures.shape c.flag.ensures.own ∙ ap₂ with_rule sample c.flag.ensures.rule
+    let sets = c.in_ok-sets.ensures.shape c.option-6.ensures.own ∙ ap₂ with_rule sample c.option-6.ensures.rule in
+    c.in_ok-arg.ensures.shape c.flag.ensures.own ∙ ap₂ with_rule sets c.flag.ensures.rule
