@@ -14,20 +14,22 @@ use Rattle.call_meaning.specs.Effects.{Before, Effect}
 use Rattle.call_meaning.specs.Status.{status_of}
 use Rattle.call_meaning.specs.Devices.{Outside, AllSteady, NoneFailed, Steady, Failed, IsDone}
 use Rattle.call_meaning.specs.Meaning.{CheckMeans, ComesTo, IsTooLarge, Means, RunMeans, fed_size, input_limit, net_on}
-use Rattle.call_meaning.specs.Meaning.ComesTo.{ran, checked, linted, sampled}
-use Rattle.call_meaning.specs.Meaning.Means.{unrun as means_unrun, unchecked as means_unchecked, too_large as means_large, came as means_came}
+use Rattle.call_meaning.specs.Meaning.ComesTo.{ran, checked, linted, sampled, ran_sets}
+use Rattle.call_meaning.specs.Meaning.Means.{unrun as means_unrun, unfit as means_unfit, too_large as means_large, came as means_came}
+use Rattle.call_meaning.specs.Sets.{all_of}
 use Rattle.call_meaning.specs.Answer.{HasCause, HasDone, HasUsed, IsTold, IsTorn, IsUsed, Decides, Reports, Answers}
-use Rattle.call_meaning.specs.Answer.HasCause.{unrun, unchecked, too_large, came, fetch_failed, read_failed, write_failed, no_memory}
+use Rattle.call_meaning.specs.Answer.HasCause.{unrun, unfit, too_large, came, fetch_failed, read_failed, write_failed, no_memory}
 use Rattle.call_meaning.specs.Answer.HasDone.{whole, half}
 use Rattle.call_meaning.specs.Answer.IsTorn.{torn_failed, torn_memory}
 use Rattle.call_meaning.proofs.Headlines.{headline}
 use Rattle.call_meaning.proofs.Unread.{fed_unread}
+use Rattle.call_meaning.proofs.UnreadSets.{sets_unread}
 
 -- an outcome that is no fault was decided without one
 module _ (words : List (List ℕ)) (old new : Outside) (given : Before) (effect : Effect) (decided : Outcome) (no_read : decided ≢ ReadFault) (no_write : decided ≢ WriteFault) (no_shelf : (name : List ℕ) → decided ≢ ShelfFault name) where
   unfailed_cause : HasCause words old new given effect decided → AllSteady old new
   unfailed_cause (unrun why unread done steady) = steady
-  unfailed_cause (unchecked why unread done steady) = steady
+  unfailed_cause (unfit why unread done steady) = steady
   unfailed_cause (too_large large is done steady) = steady
   unfailed_cause (came comes used steady) = steady
   unfailed_cause (fetch_failed name fetching unread is done input output failed) = absurd (no_shelf name is)
@@ -110,6 +112,19 @@ module _ (words : List (List ℕ)) (old new : Outside) where
     }))
     come_meant (linted l) used = at_some old.input.bytes (λ all. means_came (linted l))
     come_meant (sampled s) used = at_some old.input.bytes (λ all. means_came (sampled s))
+    come_meant (ran_sets r) used = used_meant (all_of r.nets) used (ran_sets r) (λ leaves all. ran_sets (record {
+      specs = r.specs;
+      steps = r.steps;
+      workers = r.workers;
+      runs = r.runs;
+      nets = r.nets;
+      nets_are = r.nets_are;
+      fits = unread_fits d.given (all_of r.nets) leaves all r.fits;
+      ends = r.ends;
+      mean = sets_unread d.given all r.steps r.workers r.specs r.nets r.ends r.nets_are leaves r.mean;
+      outcome_is = r.outcome_is;
+      effect_is = r.effect_is;
+    }))
 
     large_meant : IsTooLarge words d.given → (all : List ℕ) → length d.given.input ≤ length all → IsTooLarge words (on_all d.given all)
     large_meant large all more = record { net = large.net; feeds = large.feeds; large = more_fed (reads_any large.net) _ _ _ more large.large }
@@ -118,7 +133,7 @@ module _ (words : List (List ℕ)) (old new : Outside) where
     module _ (none : NoneFailed old new) (some : decided ≢ NoMemory) where
       all_meant_by : HasCause words old new d.given d.effect decided → IfSome old.input.bytes Meant
       all_meant_by (unrun why unread done steady) = at_some old.input.bytes (λ all. means_unrun why done)
-      all_meant_by (unchecked why unread done steady) = at_some old.input.bytes (λ all. means_unchecked why done)
+      all_meant_by (unfit why unread done steady) = at_some old.input.bytes (λ all. means_unfit why done)
       all_meant_by (too_large large is done steady) =
           weaker_some old.input.bytes (λ all more. means_large (large_meant large all more) is done) (some_given d.given.input old.input.bytes new.input.bytes d.gave)
       all_meant_by (came comes used steady) = come_meant comes used
@@ -130,7 +145,7 @@ module _ (words : List (List ℕ)) (old new : Outside) where
       -- and for what they mean on what it gave
       given_meant_by : HasCause words old new d.given d.effect decided → Means words d.given decided d.effect
       given_meant_by (unrun why unread done steady) = means_unrun why done
-      given_meant_by (unchecked why unread done steady) = means_unchecked why done
+      given_meant_by (unfit why unread done steady) = means_unfit why done
       given_meant_by (too_large large is done steady) = means_large large is done
       given_meant_by (came comes used steady) = means_came comes
       given_meant_by (fetch_failed name fetching unread is done input output failed) = absurd (none.shelf failed)

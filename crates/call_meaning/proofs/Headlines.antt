@@ -21,24 +21,29 @@ use Rattle.stall_lint.specs.declared.told.Lint.TheVariants as Answers
 use Rattle.stall_lint.specs.Never.{NeverStalls}
 use Rattle.stall_lint.proofs.Telling.{never_told}
 use Rattle.call_words.specs.Command.{command_of}
-use Rattle.call_words.specs.declared.command.Command.TheVariants.{Lint, Run, Sample}
+use Rattle.call_words.specs.declared.command.Command.TheVariants.{Sample}
+use Rattle.call_meaning.specs.declared.calls.Call.TheVariants as Asked
 use Rattle.call_meaning.specs.declared.status.Outcome.{Outcome}
 use Rattle.call_meaning.specs.declared.status.Outcome.TheVariants.{Done, Spent}
 use Rattle.call_meaning.specs.Effects.{Before, Effect, effect_of, no_effect, output_of, traced}
-use Rattle.call_meaning.specs.Headline.{HasOneSummary, Headline, IsEnded, IsHeadline, IsOneReading, IsReplyOf, IsStall}
+use Rattle.call_meaning.specs.Headline.{HasOneSummary, HaveAnswers, Headline, IsEnded, IsHeadline, IsOneReading, IsReplyOf, IsSetAnswer, IsStall}
 use Rattle.call_meaning.specs.Headline.HasOneAnswer.{reads, spends}
 use Rattle.call_meaning.specs.Headline.HasOneSummary.{sums_up as one_sum, falls_short}
-use Rattle.call_meaning.specs.Meaning.{Exhausts, Finishes, IsCommittedFirst, IsNetOf, LintsNet, Means, RunMeans, RunsNet, SampleMeans, fed_size, input_limit, lint_line, net_on, outcome_by, outcome_of, summed_up}
+use Rattle.call_meaning.specs.Headline.IsSetAnswer.{is_refused, is_run}
+use Rattle.call_meaning.specs.Meaning.{AreNetsOf, Exhausts, Finishes, IsCommittedFirst, IsNetOf, LintsNet, Means, RunMeans, RunsNet, RunsSets, SampleMeans, SetMeans, fed_size, input_limit, lint_line, net_on, outcome_by, outcome_of, summed_up}
 use Rattle.call_meaning.specs.Meaning.RunMeans.{finishes, exhausts}
 use Rattle.call_meaning.specs.Meaning.SampleMeans.{sums_up, spends as sample_spends}
+use Rattle.call_meaning.specs.Meaning.SetMeans.{set_ran, set_refused}
 use Rattle.call_meaning.specs.Sample.{sample_spec, sample_text}
+use Rattle.call_meaning.specs.Sets.{SetEnd, all_of}
 use Rattle.call_meaning.proofs.Journals.{goes_further}
 use Rattle.call_meaning.proofs.Lists.{some_lists}
-use Rattle.call_meaning.proofs.Meanings.{IfFits, lint_called, meaning_at, run_called}
+use Rattle.call_meaning.proofs.Meanings.{IfFits, LinesMean, lines_meaning, meaning_at, run_called, sample_called}
 use Rattle.call_meaning.proofs.OneTexts.{net_formed}
 use Rattle.call_meaning.proofs.SampleNets.{sample_has_net, sample_net}
 use Rattle.call_meaning.proofs.SampleRuns.{fed_code, fed_ends, fed_plain, fed_whole}
 use Rattle.call_meaning.proofs.Untraced.{traced_by, untraced_is}
+use Rattle.call_meaning.proofs.Zips.{zip_too}
 
 -- The outcome of a reply
 
@@ -188,6 +193,13 @@ module _ (net : Net) (steps workers : ℕ) (formed : IsWellFormed net) (settled 
           ∙ ap (summed_up count (reply net (play net done.journal)).console (length done.journal)) is_done)
       summary_net (sample_spends spent outcome_is effect_is) = falls_short (none_short spent outcome_is) outcome_is effect_is
 
+-- A line of a file of sets
+
+set_answer : (given : Before) (steps workers : ℕ) (spec : List ℕ) (ended : SetEnd) → SetMeans given steps workers spec ended → IsSetAnswer given steps workers spec ended
+set_answer given steps workers spec ended (set_refused fault least outcome_is effect_is) = is_refused fault least outcome_is effect_is
+set_answer given steps workers spec ended (set_ran net is means) =
+    is_run net is means (λ settled. headline_net (net_on given net) steps workers (fed_formed given.input given.files net (net_formed spec net is)) settled None ended.outcome ended.effect means)
+
 -- A lint
 
 -- the line of a net that never stalls is no other
@@ -203,7 +215,7 @@ is_never Answers.Never same = refl
 module _ (words : List (List ℕ)) (given : Before) (outcome : Outcome) (effect : Effect) (means : Means words given outcome effect) where
   by_run : (net : Net) (steps : ℕ) (trace : Option (List ℕ)) (runs : RunsNet words net steps trace) → IsSettled (net_on given net) → fed_size given net ≤ input_limit →
       IsHeadline (net_on given net) steps runs.run.workers trace outcome effect
-  by_run net steps trace runs settled fits = by (meaning_at words given (Run runs.spec runs.run.workers steps trace) net (run_called words net steps trace runs) outcome effect means)
+  by_run net steps trace runs settled fits = by (meaning_at words given (Asked.Run net runs.run.workers steps trace) (run_called words net steps trace runs) outcome effect means)
     where
       by : IfFits given net outcome effect (RunMeans (net_on given net) steps runs.run.workers trace outcome effect) → IsHeadline (net_on given net) steps runs.run.workers trace outcome effect
       by (inl large) = (let past = large.0 in absurd (omega (arith, fits, past)))
@@ -211,7 +223,7 @@ module _ (words : List (List ℕ)) (given : Before) (outcome : Outcome) (effect 
 
   by_lint : (net : Net) → LintsNet words net → effect ≡ output_of (lint_line Answers.Never) → NeverStalls net
   by_lint net lints never =
-      let meant = meaning_at words given (Lint lints.spec) net (lint_called words net lints) outcome effect means in
+      let meant = meaning_at words given (Asked.Lint net) lints outcome effect means in
       never_told net (net_formed lints.spec net lints.net_of) meant.answer meant.told (is_never meant.answer (sym meant.effect_is ∙ never))
 
   by_sample : (count workers steps : ℕ) → command_of words ≡ Some (Sample count workers steps) →
@@ -223,8 +235,21 @@ module _ (words : List (List ℕ)) (given : Before) (outcome : Outcome) (effect 
         sample_has_net,
         summary_net (with_input input net) steps workers (fed_whole input net sample_has_net) (fed_plain input net sample_has_net).settled None outcome effect (fed_plain input net sample_has_net)
             (λ es legal complete. (fed_ends input net sample_has_net es legal complete, fed_code input net sample_has_net es legal complete)) count
-            (meaning_at words given (Sample count workers steps) net (record { command_is = command; net_of = sample_has_net }) outcome effect means),
+            (meaning_at words given (Asked.Sample net count workers steps) (sample_called words net count steps (record { workers = workers; command = command; net_of = sample_has_net })) outcome effect means),
       )
 
+  by_sets : (specs : List (List ℕ)) (steps workers : ℕ) (nets : List Net) → RunsSets words given.files specs steps workers → AreNetsOf specs nets → fed_size given (all_of nets) ≤ input_limit →
+      HaveAnswers given steps workers specs outcome effect
+  by_sets specs steps workers nets runs are fits = by (lines_meaning words given specs steps workers nets runs are outcome effect means)
+    where
+      by : IfFits given (all_of nets) outcome effect (LinesMean given steps workers specs outcome effect) → HaveAnswers given steps workers specs outcome effect
+      by (inl large) = (let past = large.0 in absurd (omega (arith, fits, past)))
+      by (inr have) = record {
+        ends = have.1.ends;
+        each = zip_too (SetMeans given steps workers) (IsSetAnswer given steps workers) (set_answer given steps workers) specs have.1.ends have.1.mean;
+        outcome_is = have.1.outcome_is;
+        effect_is = have.1.effect_is;
+      }
+
   pub headline : Headline words given outcome effect
-  headline = record { runs = by_run; lints = by_lint; samples = by_sample }
+  headline = record { runs = by_run; lints = by_lint; sets = by_sets; samples = by_sample }

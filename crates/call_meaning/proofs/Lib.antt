@@ -17,5 +17,10 @@ pub mod SampleAnswers
 pub mod SampleNets
 pub mod SampleRuns
 pub mod SampleTexts
+pub mod SetEnds
+pub mod SetLines
 pub mod Unread
+pub mod UnreadSets
+pub mod Unreplaced
 pub mod Untraced
+pub mod Zips

@@ -8,14 +8,14 @@ use Rattle.net_graph.specs.Line.{line_net}
 use Rattle.net_graph.proofs.Feeds.{fed_formed}
 use Rattle.net_graph.proofs.StraightGraphs.{straight_graph}
 use Rattle.pipe_model.specs.WellFormed.{IsWellFormed}
-use Rattle.call_words.specs.declared.command.Command.TheVariants.{Run}
+use Rattle.call_meaning.specs.declared.calls.Call.TheVariants.{Run}
 use Rattle.call_meaning.specs.declared.status.Outcome.{Outcome}
 use Rattle.call_meaning.specs.Effects.{Before, Effect, effect_of, no_effect}
 use Rattle.call_meaning.specs.Meaning.{Finishes, IsLineOutcome, IsNetOf, IsRunOf, Means, RunMeans, input_limit, net_on, outcome_of}
 use Rattle.call_meaning.specs.Meaning.RunMeans.{finishes, exhausts}
 use Rattle.call_meaning.proofs.LineFed.{line_fed, line_size}
 use Rattle.call_meaning.proofs.LineReply.{line_replies}
-use Rattle.call_meaning.proofs.Meanings.{IfFits, meaning_at}
+use Rattle.call_meaning.proofs.Meanings.{IfFits, meaning_at, run_called}
 use Rattle.call_meaning.proofs.OneTexts.{net_formed}
 use Rattle.call_meaning.proofs.Untraced.{untraced_is}
 
@@ -46,7 +46,7 @@ module _ (words : List (List ℕ)) (spec : List ℕ) (steps : ℕ) (strings : Li
 
   pub line_means : (outcome : Outcome) (effect : Effect) → Means words before outcome effect → Told outcome effect
   line_means outcome effect means =
-      by (meaning_at words before (Run spec run.workers steps trace) (line_net [] strings) (record { command_is = run.command; net_of = line }) outcome effect means)
+      by (meaning_at words before (Run (line_net [] strings) run.workers steps trace) (run_called words (line_net [] strings) steps trace (record { spec = spec; run = run; net_of = line })) outcome effect means)
     where
       by : IfFits before (line_net [] strings) outcome effect (RunMeans (net_on before (line_net [] strings)) steps run.workers trace outcome effect) → Told outcome effect
       by (inl large) = subst (λ o. Told o effect) (sym large.1) (subst (λ n. input_limit < n) (line_size before strings) large.0, large.2)

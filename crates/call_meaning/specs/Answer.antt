@@ -1,6 +1,7 @@
 -- What a call must answer, from its words and what there was before it to its status, its effect and the text of its status.
 use Rattle.std.specs.Prelude.{◌≡◌, ◌≢◌, ◌⊎◌, ℕ, ◌<◌, ◌≤◌, true, false, List, [], ◌++◌, length}
 use Rattle.std.specs.Option.{IfSome}
+use Rattle.std.specs.declared.option.Option.TheVariants.{Some}
 use Rattle.std.specs.Io.KnownBytes.{Consumes, Appends}
 use Rattle.outside.specs.Device.{Device}
 use Rattle.outside.specs.Faults.{Rose}
@@ -9,14 +10,17 @@ use Rattle.pipe_model.specs.declared.net.Net.{Net}
 use Rattle.net_graph.specs.Fed.{reads_any}
 use Rattle.call_meaning.specs.declared.status.Status.{Status}
 use Rattle.call_meaning.specs.declared.status.Status.TheVariants as Told
+use Rattle.call_words.specs.Command.{command_of}
+use Rattle.call_words.specs.declared.command.Command.TheVariants.{Sets}
 use Rattle.call_meaning.specs.declared.status.Outcome.{Outcome}
 use Rattle.call_meaning.specs.declared.status.Outcome.TheVariants.{ReadFault, WriteFault, ShelfFault, NoMemory, InputTooLarge}
 use Rattle.call_meaning.specs.Effects.{Before, Effect, no_effect, output_of}
 use Rattle.call_meaning.specs.Status.{status_of, text_of}
 use Rattle.call_meaning.specs.Devices.{Outside, Steady, Failed, IsRead, AllSteady, NoneFailed, IsDone, IsPartDone}
 use Rattle.call_meaning.specs.Headline.{Headline}
-use Rattle.call_meaning.specs.Meaning.{ChecksNet, ComesTo, FeedsNet, HasRun, IsNextFile, IsTooLarge, IsUnchecked, IsUnrun, fed_size, input_limit}
-use Rattle.call_meaning.specs.Meaning.ComesTo.{ran, checked, linted, sampled}
+use Rattle.call_meaning.specs.Meaning.{ChecksNet, ComesTo, FeedsNet, IsNextFile, IsTooLarge, IsUnfit, IsUnrun, fed_size, input_limit}
+use Rattle.call_meaning.specs.Meaning.ComesTo.{ran, checked, linted, sampled, ran_sets}
+use Rattle.call_meaning.specs.Sets.{all_of}
 
 -- the bytes are the front of these and not all of them
 pub record IsCutShort (front whole : List ℕ) : Type 0 where
@@ -35,6 +39,8 @@ pub data IsFetching (words : List (List ℕ)) (files : Files) (name : List ℕ) 
   of_stage : (net : Net) → FeedsNet words files net → IsNextFile net files name → IsFetching words files name
   -- or it is to have the journal that they check
   of_journal : (net : Net) → ChecksNet words net name → IsFetching words files name
+  -- or it is the one that has the sets
+  of_sets_file : (workers steps : ℕ) → command_of words ≡ Some (Sets name workers steps) → IsFetching words files name
 
 -- the words read the input, of which no more was read than fits
 pub record IsReading (words : List (List ℕ)) (given : Before) : Type 0 where
@@ -48,12 +54,13 @@ pub data MayRead (words : List (List ℕ)) (given : Before) : Type 0 where
   nothing_read : given.input ≡ [] → MayRead words given
   of_net : (net : Net) → FeedsNet words given.files net → reads_any net ≡ true → MayRead words given
 
--- where the net that is carried out reads the input it was read to its end, and else not at all
+-- where the net that is carried out, or that of a set, reads the input it was read to its end, and else not at all
 abbrev pub HasUsed : (words : List (List ℕ)) (given : Before) (outcome : Outcome) (effect : Effect) → ComesTo words given outcome effect → Device → Type 0
 HasUsed words given outcome effect (ran run) input = IsUsed run.net given input
 HasUsed words given outcome effect (checked check) input = IsUsed check.net given input
 HasUsed words given outcome effect (linted lint) input = given.input ≡ []
 HasUsed words given outcome effect (sampled sample) input = given.input ≡ []
+HasUsed words given outcome effect (ran_sets run) input = IsUsed (all_of run.nets) given input
 
 -- the words come to an outcome and an effect, of whose output not all was written, and of which nothing else was done
 pub record IsHalfWritten (words : List (List ℕ)) (given : Before) (input : Device) (effect : Effect) : Type 0 where
@@ -74,8 +81,8 @@ pub data IsTorn (old new : Outside) (name : List ℕ) (decided : Outcome) : Type
 pub data HasCause (words : List (List ℕ)) (old new : Outside) (given : Before) (effect : Effect) (decided : Outcome) : Type 0 where
   -- the words aren't carried out: nothing is read and nothing done
   unrun : IsUnrun words decided → given.input ≡ [] → effect ≡ no_effect → AllSteady old new → HasCause words old new given effect decided
-  -- they are a check of a file that has no journal: nothing else is read, and nothing done
-  unchecked : IsUnchecked words given.files decided → given.input ≡ [] → effect ≡ no_effect → AllSteady old new → HasCause words old new given effect decided
+  -- they name a file that isn't fit: nothing else is read, and nothing done
+  unfit : IsUnfit words given.files decided → given.input ≡ [] → effect ≡ no_effect → AllSteady old new → HasCause words old new given effect decided
   -- what was read is more than fits
   too_large : IsTooLarge words given → decided ≡ InputTooLarge → effect ≡ no_effect → AllSteady old new → HasCause words old new given effect decided
   -- the words were carried out, and came to this
@@ -92,11 +99,11 @@ pub data HasCause (words : List (List ℕ)) (old new : Outside) (given : Before)
   -- memory was wanted: nothing is done
   no_memory : decided ≡ NoMemory → effect ≡ no_effect → MayRead words given → AllSteady old new → HasCause words old new given effect decided
 
--- a run has an outcome and an effect, of whose files those before the one of this name were replaced
+-- the words come to an outcome and an effect, of whose files those before the one of this name were replaced
 pub record IsHalfReplaced (words : List (List ℕ)) (old new : Outside) (given : Before) (effect : Effect) (decided : Outcome) : Type 0 where
   pub outcome : Outcome
-  pub run : HasRun words given outcome effect
-  pub used : IsUsed run.net given new.input
+  pub comes : ComesTo words given outcome effect
+  pub used : HasUsed words given outcome effect comes new.input
   pub name : List ℕ
   pub done : IsPartDone name effect old new
   pub torn : IsTorn old new name decided

@@ -6,5 +6,6 @@ pub mod Headline
 pub mod Meaning
 pub mod Refusals
 pub mod Sample
+pub mod Sets
 pub mod Status
 pub mod Untouched

@@ -1,6 +1,6 @@
 -- What words mean, where nothing fails.
-use Rattle.std.specs.Prelude.{◌≡◌, ◌⊎◌, ℕ, ◌+◌, ◌<◌, ◌≤◌, Bool, if◌then◌else◌, List, [], ◌∷◌, ◌++◌, length, take, codes, decimal, ℤ, pos, zero}
-use Rattle.std.specs.List.{sum_by}
+use Rattle.std.specs.Prelude.{◌≡◌, ◌⊎◌, ℕ, ◌+◌, ◌<◌, ◌≤◌, Bool, if◌then◌else◌, List, [], ◌∷◌, ◌++◌, length, slice_get, take, codes, decimal, ℤ, pos, zero, suc}
+use Rattle.std.specs.List.{AllZip, sum_by}
 use Rattle.std.specs.Option.{option_map_or}
 use Rattle.std.specs.declared.option.Option.{Option}
 use Rattle.std.specs.declared.option.Option.TheVariants.{Some, None}
@@ -32,13 +32,14 @@ use Rattle.stall_lint.specs.Answer.{IsOneLine, Lints}
 use Rattle.stall_report.specs.Waits.{wait_lines}
 use Rattle.stall_report.specs.Words.{wait_text}
 use Rattle.call_words.specs.declared.command.Command.{Command}
-use Rattle.call_words.specs.declared.command.Command.TheVariants.{Run, Check, Lint, Sample}
+use Rattle.call_words.specs.declared.command.Command.TheVariants.{Run, Check, Lint, Sample, Sets}
 use Rattle.call_meaning.specs.declared.status.Outcome.{Outcome}
-use Rattle.call_meaning.specs.declared.status.Outcome.TheVariants.{Done, Coded, SpecRefused, Stalled, Spent, Usage, InputTooLarge, JournalAbsent, JournalLine, JournalEntry}
+use Rattle.call_meaning.specs.declared.status.Outcome.TheVariants.{Done, Coded, SpecRefused, Stalled, Spent, Usage, InputTooLarge, JournalAbsent, JournalLine, JournalEntry, SetsAbsent, SetsLine}
 use Rattle.call_words.specs.Command.{command_of}
 use Rattle.call_meaning.specs.Effects.{Before, Effect, no_effect, output_of, effect_of, traced, untraced}
 use Rattle.call_meaning.specs.Refusals.{HasLeastFault}
 use Rattle.call_meaning.specs.Sample.{sample_spec, sample_text, summary}
+use Rattle.call_meaning.specs.Sets.{AreFew, SetEnd, all_of, effect_of_sets, outcome_of_sets}
 use Rattle.call_meaning.specs.Status.{line}
 
 -- ---- the words
@@ -49,12 +50,13 @@ pub record IsNetOf (spec : List ℕ) (net : Net) : Type 0 where
   pub reads : Reads spec pipelines
   pub graph : IsGraph pipelines net
 
--- the specification that a command runs, checks a journal of, or tells of whether it may stall
-abbrev pub spec_of : Command → List ℕ
-spec_of (Run spec workers steps trace) = spec
-spec_of (Check spec name) = spec
-spec_of (Lint spec) = spec
-spec_of (Sample lines workers steps) = sample_spec
+-- the specification that a command runs, checks a journal of, or tells of whether it may stall; those of sets stand in a file
+abbrev pub spec_of : Command → Option (List ℕ)
+spec_of (Run spec workers steps trace) = Some spec
+spec_of (Check spec name) = Some spec
+spec_of (Lint spec) = Some spec
+spec_of (Sample lines workers steps) = Some sample_spec
+spec_of (Sets name workers steps) = None
 
 -- the words are a run of a specification, in so many steps at most, whose journal goes to the file of this name, if one is named
 pub record IsRunOf (words : List (List ℕ)) (spec : List ℕ) (steps : ℕ) (trace : Option (List ℕ)) : Type 0 where
@@ -89,7 +91,9 @@ pub record SamplesNet (words : List (List ℕ)) (net : Net) (count steps : ℕ) 
 pub record IsSpecRefused (words : List (List ℕ)) (fault : Fault) : Type 0 where
   pub command : Command
   pub command_is : command_of words ≡ Some command
-  pub refused : HasLeastFault (spec_of command) fault
+  pub spec : List ℕ
+  pub spec_is : spec_of command ≡ Some spec
+  pub refused : HasLeastFault spec fault
 
 -- the words aren't carried out, and this is the outcome
 pub data IsUnrun (words : List (List ℕ)) (outcome : Outcome) : Type 0 where
@@ -98,14 +102,41 @@ pub data IsUnrun (words : List (List ℕ)) (outcome : Outcome) : Type 0 where
   -- or their specification is refused
   refused : (fault : Fault) → IsSpecRefused words fault → outcome ≡ SpecRefused fault.number fault.argument fault.place → IsUnrun words outcome
 
--- ---- the journal of a check
+-- ---- the sets of a file
 
--- the words are a check of a file that has no journal, and this is the outcome
-pub data IsUnchecked (words : List (List ℕ)) (files : Files) (outcome : Outcome) : Type 0 where
-  -- it isn't there
-  absent : (net : Net) (name : List ℕ) → ChecksNet words net name → files name ≡ None → outcome ≡ JournalAbsent → IsUnchecked words files outcome
+-- the words run each line of the file of this name as a specification of its own, in so many steps at most
+pub record RunsSets (words : List (List ℕ)) (files : Files) (specs : List (List ℕ)) (steps workers : ℕ) : Type 0 where
+  pub name : List ℕ
+  pub command : command_of words ≡ Some (Sets name workers steps)
+  pub text : List ℕ
+  pub stored : files name ≡ Some text
+  pub lines_are : lines text ≡ specs
+  pub few : AreFew steps (length specs)
+
+-- these are the nets of the lines that aren't refused
+pub data AreNetsOf : List (List ℕ) → List Net → Type 0 where
+  no_line : AreNetsOf [] []
+  line_refused : (spec : List ℕ) (fault : Fault) → HasLeastFault spec fault → (specs : List (List ℕ)) (nets : List Net) → AreNetsOf specs nets → AreNetsOf (spec ∷ specs) nets
+  line_read : (spec : List ℕ) (net : Net) → IsNetOf spec net → (specs : List (List ℕ)) (nets : List Net) → AreNetsOf specs nets → AreNetsOf (spec ∷ specs) (net ∷ nets)
+
+-- the words run this net: by itself, or as that of a line
+pub data IsRunNet (words : List (List ℕ)) (files : Files) (net : Net) : Type 0 where
+  by_itself : (steps : ℕ) (trace : Option (List ℕ)) → RunsNet words net steps trace → IsRunNet words files net
+  as_a_set : (specs : List (List ℕ)) (steps workers : ℕ) → RunsSets words files specs steps workers → (k : ℕ) (spec : List ℕ) → slice_get specs k ≡ Some spec → IsNetOf spec net → IsRunNet words files net
+
+-- ---- the journal of a check, and what isn't fit to be one, or to be sets
+
+-- the file that the words name isn't fit for what they ask, and this is the outcome
+pub data IsUnfit (words : List (List ℕ)) (files : Files) (outcome : Outcome) : Type 0 where
+  -- the journal of a check isn't there
+  absent : (net : Net) (name : List ℕ) → ChecksNet words net name → files name ≡ None → outcome ≡ JournalAbsent → IsUnfit words files outcome
   -- or this is its first line that isn't of the format
-  unread : (net : Net) (name text : List ℕ) (number : ℕ) → ChecksNet words net name → files name ≡ Some text → IsFirstFault text number → outcome ≡ JournalLine number → IsUnchecked words files outcome
+  unread : (net : Net) (name text : List ℕ) (number : ℕ) → ChecksNet words net name → files name ≡ Some text → IsFirstFault text number → outcome ≡ JournalLine number → IsUnfit words files outcome
+  -- the file of sets isn't there
+  sets_absent : (name : List ℕ) (workers steps : ℕ) → command_of words ≡ Some (Sets name workers steps) → files name ≡ None → outcome ≡ SetsAbsent → IsUnfit words files outcome
+  -- or this is its first line that is one too many
+  sets_many : (name text : List ℕ) (workers steps few : ℕ) → command_of words ≡ Some (Sets name workers steps) → files name ≡ Some text → few < length (lines text) →
+      AreFew steps few → ¬ AreFew steps (suc few) → outcome ≡ SetsLine (suc few) → IsUnfit words files outcome
 
 -- the words are a check of this journal, on a specification with this net
 pub record ChecksJournal (words : List (List ℕ)) (files : Files) (net : Net) (journal : List Entry) : Type 0 where
@@ -114,10 +145,11 @@ pub record ChecksJournal (words : List (List ℕ)) (files : Files) (net : Net) (
   pub is_journal : IsJournal journal
   pub stored : files name ≡ Some (journal_text journal)
 
--- the stages of this net are fed: the words run it, or check a journal on it
+-- the stages of this net are fed: the words run it, or check a journal on it; or the net is that of all sets
 pub data FeedsNet (words : List (List ℕ)) (files : Files) (net : Net) : Type 0 where
   of_run : (steps : ℕ) (trace : Option (List ℕ)) → RunsNet words net steps trace → FeedsNet words files net
   of_check : (journal : List Entry) → ChecksJournal words files net journal → FeedsNet words files net
+  of_sets : (specs : List (List ℕ)) (steps workers : ℕ) (nets : List Net) → RunsSets words files specs steps workers → AreNetsOf specs nets → net ≡ all_of nets → FeedsNet words files net
 
 -- ---- what the stages of a net are fed
 
@@ -290,17 +322,37 @@ pub record HasSampled (words : List (List ℕ)) (outcome : Outcome) (effect : Ef
   pub samples : SamplesNet words net count steps
   pub means : SampleMeans count (with_input (sample_text count) net) steps samples.workers outcome effect
 
+-- what a line of a file of sets comes to on what there was before, whatever the others hold: its refusal, or a run
+pub data SetMeans (before : Before) (steps workers : ℕ) (spec : List ℕ) (ended : SetEnd) : Type 0 where
+  set_refused : (fault : Fault) → HasLeastFault spec fault → ended.outcome ≡ SpecRefused fault.number fault.argument fault.place → ended.effect ≡ no_effect → SetMeans before steps workers spec ended
+  set_ran : (net : Net) → IsNetOf spec net → RunMeans (net_on before net) steps workers None ended.outcome ended.effect → SetMeans before steps workers spec ended
+
+-- the words run the lines of a file, which come to this
+pub record HasRunSets (words : List (List ℕ)) (before : Before) (outcome : Outcome) (effect : Effect) : Type 0 where
+  pub specs : List (List ℕ)
+  pub steps : ℕ
+  pub workers : ℕ
+  pub runs : RunsSets words before.files specs steps workers
+  pub nets : List Net
+  pub nets_are : AreNetsOf specs nets
+  pub fits : fed_size before (all_of nets) ≤ input_limit
+  pub ends : List SetEnd
+  pub mean : AllZip (SetMeans before steps workers) specs ends
+  pub outcome_is : outcome ≡ outcome_of_sets ends
+  pub effect_is : effect ≡ effect_of_sets ends
+
 -- the words are carried out, and come to this
 pub data ComesTo (words : List (List ℕ)) (before : Before) (outcome : Outcome) (effect : Effect) : Type 0 where
   ran : HasRun words before outcome effect → ComesTo words before outcome effect
   checked : HasChecked words before outcome effect → ComesTo words before outcome effect
   linted : HasLinted words outcome effect → ComesTo words before outcome effect
   sampled : HasSampled words outcome effect → ComesTo words before outcome effect
+  ran_sets : HasRunSets words before outcome effect → ComesTo words before outcome effect
 
 -- the outcome and the effect that words have, by what there was before
 pub data Means (words : List (List ℕ)) (before : Before) (outcome : Outcome) (effect : Effect) : Type 0 where
   unrun : IsUnrun words outcome → effect ≡ no_effect → Means words before outcome effect
-  unchecked : IsUnchecked words before.files outcome → effect ≡ no_effect → Means words before outcome effect
+  unfit : IsUnfit words before.files outcome → effect ≡ no_effect → Means words before outcome effect
   too_large : IsTooLarge words before → outcome ≡ InputTooLarge → effect ≡ no_effect → Means words before outcome effect
   came : ComesTo words before outcome effect → Means words before outcome effect
 

@@ -2,7 +2,7 @@
 use Rattle.std.specs.Prelude.{ℕ, ◌==◌, if◌then◌else◌, List, [], ◌∷◌, ◌++◌, codes, decimal}
 use Rattle.std.specs.Fmt.{signed_decimal}
 use Rattle.call_meaning.specs.declared.status.Status.{Status}
-use Rattle.call_meaning.specs.declared.status.Status.TheVariants.{Zero, Coded, SpecRefused, Stalled, Spent, ReadFault, WriteFault, ShelfFault, NoMemory, Usage, InputTooLarge, JournalRefused}
+use Rattle.call_meaning.specs.declared.status.Status.TheVariants.{Zero, Coded, SpecRefused, Stalled, Spent, ReadFault, WriteFault, ShelfFault, NoMemory, Usage, InputTooLarge, JournalRefused, SomeSet, SetsRefused}
 use Rattle.call_meaning.specs.declared.status.Outcome.{Outcome}
 use Rattle.call_meaning.specs.declared.status.Outcome.TheVariants as Was
 use Rattle.spec_scanner.specs.declared.fault.SpecFaultKind.TheVariants.{BadArguments}
@@ -22,6 +22,8 @@ number_of NoMemory = 8
 number_of Usage = 9
 number_of InputTooLarge = 10
 number_of JournalRefused = 11
+number_of SomeSet = 14
+number_of SetsRefused = 15
 
 -- a line with its line feed
 abbrev pub line : List ℕ → List ℕ
@@ -33,7 +35,7 @@ fault_number number argument = decimal number ++ (if number == Faults.number_of 
 
 -- how the program is called
 abbrev pub usage : List ℕ
-usage = codes "usage: pipe SPEC [--workers N] [--steps N] [--trace NAME] [--check NAME] [--lint] | pipe --sample N"
+usage = codes "usage: pipe SPEC [--workers N] [--steps N] [--trace NAME] [--check NAME] [--lint] | pipe --sample N | pipe --sets NAME"
 
 -- what an outcome tells: the status that is answered, and the text on standard error
 pub record Facts : Type 0 where
@@ -58,6 +60,9 @@ facts_of Was.InputTooLarge = facts InputTooLarge (line (codes "input too large")
 facts_of Was.JournalAbsent = facts JournalRefused (line (codes "journal absent"))
 facts_of (Was.JournalLine number) = facts JournalRefused (line (codes "journal line " ++ decimal number))
 facts_of (Was.JournalEntry number) = facts JournalRefused (line (codes "journal entry " ++ decimal number))
+facts_of (Was.SomeSet lines) = facts SomeSet lines
+facts_of Was.SetsAbsent = facts SetsRefused (line (codes "sets absent"))
+facts_of (Was.SetsLine number) = facts SetsRefused (line (codes "sets line " ++ decimal number))
 
 abbrev pub status_of : Outcome → Status
 status_of outcome = (facts_of outcome).status

@@ -1,105 +1,101 @@
-ghost use Rattle.std.specs.Prelude.{◌≡◌, ℕ, List, [], Err, map, MatchResult, IfOk};
+ghost use Rattle.std.specs.Prelude.{◌≡◌, [], Err, map, MatchResult, IfOk};
 ghost use Rattle.std.specs.String.{string_bytes};
-ghost use Rattle.pipe_model.specs.WellFormed.{IsWellFormed};
-ghost use Rattle.spec_scanner.specs.declared.piece.Piece.{Piece};
-ghost use Rattle.spec_scanner.specs.Reads.{Reads, Refuses as IsTextRefusedBy};
-ghost use Rattle.net_graph.specs.Faults.{Refuses as AreRefusedBy};
-ghost use Rattle.net_graph.specs.Fed.{AreUnfiled};
-ghost use Rattle.call_words.specs.Command.{IsWithinRanges};
-ghost use Rattle.call_meaning.specs.Meaning.{IsNetOf, spec_of};
-ghost use Rattle.call_meaning.specs.Refusals.{IsTextOutcome};
-ghost use Rattle.call_meaning.specs.Calls.{IsCall, StopsWords};
+ghost use Rattle.call_meaning.specs.Calls.{IsCall, IsSound, StopsWords};
 
+use crate::nets::net_of;
 use crate::status::Outcome;
 use call_words::{Command, WordsFault, read_words};
-use net_graph::{NetFault, build};
-use pipe_model::Net;
-use spec_scanner::{SpecFault, scan};
+use pipe_model::{Net, Rec};
 use std::alloc::Global;
 
 /// The specification of the sample.
 const SAMPLE_SPEC: &str =
     "(endchar ?) console | a: locate /7/ | change /7/77/ | b: faninany | console ? a: | b:";
 
-/// A command and the net of its specification, whose stages are fed nothing yet.
+/// What words ask for: a command with the net of its specification, whose stages are fed nothing yet. The specifications of sets stand in a file.
 #[derive(Drop)]
-pub struct Call {
-    pub command: Command,
-    pub net: Net,
+pub enum Call {
+    Run {
+        net: Net,
+        workers: u32,
+        steps: u64,
+        trace: Option<Rec>,
+    },
+    Check {
+        net: Net,
+        name: Rec,
+    },
+    Lint {
+        net: Net,
+    },
+    Sample {
+        net: Net,
+        lines: u32,
+        workers: u32,
+        steps: u64,
+    },
+    Sets {
+        name: Rec,
+        workers: u32,
+        steps: u64,
+    },
 }
 
-/// The command that words mean, and its net. An error is that they aren't carried out, or want of memory.
+/// What words ask for. An error is that they aren't carried out, or want of memory.
 pub fn called(alloc: Global, words: &[String]) -> Result<Call, Outcome>
-    ensures called { MatchResult result (λ call. IsCall (map (λ word. string_bytes word) words.now) call.command call.net) (λ outcome. StopsWords (map (λ word. string_bytes word) words.now) outcome) }
+    ensures called { MatchResult result (λ call. IsCall (map (λ word. string_bytes word) words.now) call) (λ outcome. StopsWords (map (λ word. string_bytes word) words.now) outcome) }
     ensures none { words.now ≡ [] → result ≡ Err Outcome.Usage }
-    ensures whole { IfOk result (λ call. IsWellFormed call.net) }
-    ensures unfiled { IfOk result (λ call. AreUnfiled call.net) }
-    ensures few { IfOk result (λ call. IsWithinRanges call.command) }
+    ensures whole { IfOk result IsSound }
 {
     let command = match read_words(alloc, words) {
         Ok(command) => command,
         Err(WordsFault::Usage) => return Err(Outcome::Usage),
         Err(WordsFault::NoMemory) => return Err(Outcome::NoMemory),
     };
-    let net = net_of(alloc, spec_of(&command))?;
-    Ok(Call { command, net })
-}
-
-// The specification that a command runs, checks a journal of, or tells of whether it may stall.
-fn spec_of(command: &Command) -> &[u8]
-    ensures { result.now ≡ spec_of command.now }
-{
     match command {
-        Command::Run { spec, .. } => spec.bytes(),
-        Command::Check { spec, .. } => spec.bytes(),
-        Command::Lint { spec } => spec.bytes(),
-        Command::Sample { .. } => SAMPLE_SPEC.as_bytes(),
-    }
-}
-
-// The net of a specification's text, or the outcome of its refusal.
-fn net_of(alloc: Global, spec: &[u8]) -> Result<Net, Outcome>
-    ensures made { MatchResult result (λ net. IsNetOf spec.now net) (λ outcome. IsTextOutcome spec.now outcome) }
-    ensures whole { IfOk result IsWellFormed }
-{
-    let scanned = match scan(alloc, spec) {
-        Ok(scanned) => scanned,
-        Err(fault) => return Err(unread(fault)),
-    };
-    match build(alloc, scanned) {
-        Ok(net) => Ok(net),
-        Err(fault) => Err(unbuilt(fault)),
-    }
-}
-
-// The outcome of a text that isn't read.
-fn unread(fault: SpecFault) -> Outcome
-    ensures { (spec : List ℕ) → IsTextRefusedBy spec fault → IsTextOutcome spec result }
-{
-    match fault {
-        SpecFault::NoMemory => Outcome::NoMemory,
-        SpecFault::Refused { number, place } => Outcome::SpecRefused {
-            number,
-            argument: 0,
-            place,
-        },
-    }
-}
-
-// The outcome of pieces that make no net.
-fn unbuilt(fault: NetFault) -> Outcome
-    ensures { (spec : List ℕ) (pipelines : List (List Piece)) → Reads spec pipelines → AreRefusedBy pipelines fault → IsTextOutcome spec result }
-{
-    match fault {
-        NetFault::NoMemory => Outcome::NoMemory,
-        NetFault::Refused {
-            number,
-            argument,
-            place,
-        } => Outcome::SpecRefused {
-            number,
-            argument,
-            place,
-        },
+        Command::Run {
+            spec,
+            workers,
+            steps,
+            trace,
+        } => {
+            let net = net_of(alloc, spec.bytes())?;
+            Ok(Call::Run {
+                net,
+                workers,
+                steps,
+                trace,
+            })
+        }
+        Command::Check { spec, name } => {
+            let net = net_of(alloc, spec.bytes())?;
+            Ok(Call::Check { net, name })
+        }
+        Command::Lint { spec } => {
+            let net = net_of(alloc, spec.bytes())?;
+            Ok(Call::Lint { net })
+        }
+        Command::Sample {
+            lines,
+            workers,
+            steps,
+        } => {
+            let net = net_of(alloc, SAMPLE_SPEC.as_bytes())?;
+            Ok(Call::Sample {
+                net,
+                lines,
+                workers,
+                steps,
+            })
+        }
+        Command::Sets {
+            name,
+            workers,
+            steps,
+        } => Ok(Call::Sets {
+            name,
+            workers,
+            steps,
+        }),
     }
 }

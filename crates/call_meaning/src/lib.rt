@@ -6,12 +6,14 @@ mod calls;
 mod laws;
 mod lints;
 mod meaning;
+mod nets;
 mod sample;
 mod status;
 
 pub use calls::{Call, called};
-pub use laws::{all_is_meant, no_fault_without_its_status, one_plain_reply};
+pub use laws::{all_is_meant, each_set_as_alone, no_fault_without_its_status, one_plain_reply};
 pub use lints::lint_answers;
 pub use meaning::{one_meaning, straight_line_is_plain, straight_line_means};
+pub use nets::{Set, sets_of};
 pub use sample::{sample_answers, sample_completes, sample_reads};
 pub use status::{Outcome, Status};

@@ -6,12 +6,12 @@ ghost use Rattle.net_graph.specs.Line.{line_net};
 ghost use Rattle.spec_scanner.specs.Straight.{IsStraight};
 ghost use Rattle.call_meaning.specs.declared.status.Outcome.{Outcome as OutcomeIs};
 ghost use Rattle.call_meaning.specs.Effects.{Before, Effect};
-ghost use Rattle.call_meaning.specs.Meaning.{AreOneEffect, IsLineOutcome, IsRunOf, Means, RunsNet, net_on};
+ghost use Rattle.call_meaning.specs.Meaning.{AreOneEffect, IsLineOutcome, IsRunNet, IsRunOf, Means, net_on};
 
-/// Words mean one outcome and one effect at most on what there was before, but for the file of a journal, where the net that they run, if
-/// they do, is settled. Of a lint all effects tell one line of the table.
+/// Words mean one outcome and one effect at most on what there was before, but for the file of a journal, where the nets that they run, if
+/// they do, are settled. Of a lint all effects tell one line of the table.
 pub fn one_meaning()
-    ensures { (words : List (List ℕ)) (before : Before) → ((net : Net) (steps : ℕ) (trace : Option (List ℕ)) → RunsNet words net steps trace → IsSettled (net_on before net)) →
+    ensures { (words : List (List ℕ)) (before : Before) → ((net : Net) → IsRunNet words before.files net → IsSettled (net_on before net)) →
         (a b : OutcomeIs) (x y : Effect) → Means words before a x → Means words before b y → (a ≡ b) × AreOneEffect words x y }
 {}
 

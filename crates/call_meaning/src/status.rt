@@ -30,6 +30,10 @@ pub enum Status {
     InputTooLarge = 10,
     /// A file has no journal, or one that the specification doesn't allow.
     JournalRefused = 11,
+    /// Some set of a file of sets has another status than `Zero`.
+    SomeSet = 14,
+    /// The file of sets isn't there, or has too many lines for the steps of each.
+    SetsRefused = 15,
 }
 
 impl Status {
@@ -67,6 +71,12 @@ pub enum Outcome {
     JournalLine(u64),
     /// The first entry without a licence after those before it, counted from 1.
     JournalEntry(u64),
+    /// Some set has another status than `Zero`: the lines of all such sets, each with its line feed.
+    SomeSet(Rec),
+    /// The file of sets isn't there.
+    SetsAbsent,
+    /// The first line of the file of sets that is one too many. Line 1 is the first.
+    SetsLine(u64),
 }
 
 impl Outcome {
@@ -89,6 +99,8 @@ impl Outcome {
             Outcome::JournalAbsent | Outcome::JournalLine(_) | Outcome::JournalEntry(_) => {
                 Status::JournalRefused
             }
+            Outcome::SomeSet(_) => Status::SomeSet,
+            Outcome::SetsAbsent | Outcome::SetsLine(_) => Status::SetsRefused,
         }
     }
 }

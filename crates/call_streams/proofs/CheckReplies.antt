@@ -23,9 +23,9 @@ use Rattle.call_meaning.specs.Meaning.{CheckMeans, ChecksJournal, ChecksNet, Fee
 use Rattle.call_meaning.specs.Meaning.CheckMeans.{legal, illegal}
 use Rattle.call_meaning.specs.Meaning.ComesTo.{checked}
 use Rattle.call_meaning.specs.Meaning.FeedsNet.{of_check}
-use Rattle.call_meaning.specs.Meaning.IsUnchecked.{absent, unread}
+use Rattle.call_meaning.specs.Meaning.IsUnfit.{absent, unread}
 use Rattle.call_meaning.specs.Answer.{Decides, HasCause}
-use Rattle.call_meaning.specs.Answer.HasCause.{unchecked, came, fetch_failed, write_failed, no_memory}
+use Rattle.call_meaning.specs.Answer.HasCause.{unfit, came, fetch_failed, write_failed, no_memory}
 use Rattle.call_meaning.specs.Answer.HasDone.{whole}
 use Rattle.call_meaning.specs.Answer.IsFetching.{of_journal}
 use Rattle.call_meaning.specs.Answer.MayRead.{nothing_read}
@@ -41,7 +41,7 @@ use Rattle.call_streams.proofs.Replies.{unreplaced}
 -- The file of the journal was fetched.
 
 -- nothing was fetched before
-none_known : (old : Option Files) (empty : List Found) → empty ≡ [] → AreOf (files_known old empty) empty
+pub none_known : (old : Option Files) (empty : List Found) → empty ≡ [] → AreOf (files_known old empty) empty
 none_known old empty none = subst (λ (found : List Found). AreOf (files_known old found) found) (sym none) (All-nil (λ (file : Found). files_known old [] file.name ≡ file.bytes))
 
 module _ (name : List ℕ) (old new : Store) where
@@ -122,9 +122,9 @@ module _ (words : List (List ℕ)) (net : Net) (name : List ℕ) (checks : Check
   -- there is no journal
   unfound : (files : Files) (outcome : Outcome) → StopsFinding name files shelf middle outcome → HasCause words old (outside input output middle) (record { input = []; files = files }) no_effect outcome
   unfound files (ShelfFault other) stops = fetch_failed name (of_journal net checks) refl (ap ShelfFault stops.0) refl refl refl stops.1
-  unfound files JournalAbsent stops = unchecked (absent net name checks stops.0 refl) refl refl (record { input = refl; output = refl; shelf = stops.1 })
+  unfound files JournalAbsent stops = unfit (absent net name checks stops.0 refl) refl refl (record { input = refl; output = refl; shelf = stops.1 })
   unfound files (JournalLine number) stops =
-      unchecked (unread net name stops.0.0 number checks stops.0.1 stops.0.2 refl) refl refl (record { input = refl; output = refl; shelf = stops.1 })
+      unfit (unread net name stops.0.0 number checks stops.0.1 stops.0.2 refl) refl refl (record { input = refl; output = refl; shelf = stops.1 })
   unfound files NoMemory stops = no_memory refl refl (nothing_read refl) (record { input = refl; output = refl; shelf = stops })
   unfound files _ stops = absurd stops
 

@@ -1,14 +1,14 @@
--- The files that a net reads, while they are fetched.
-use Rattle.std.proofs.Common.{◌≡◌, ◌⊎◌, inl, inr, ℕ, zero, suc, ◌+◌, ◌<◌, ◌≤◌, ◌||◌, Bool, true, false, cond, List, [], ◌∷◌, ◌++◌, length, take, drop, refl, sym, ◌∙◌, ap, subst, arith, Option, Some, None, slice_get, get_or, add-one}
+-- The files that strands read, while they are fetched.
+use Rattle.std.proofs.Common.{◌≡◌, ◌⊎◌, inl, inr, ℕ, zero, suc, ◌+◌, ◌<◌, ◌≤◌, ◌||◌, Bool, true, false, cond, List, [], ◌∷◌, ◌++◌, length, take, drop, refl, sym, ◌∙◌, ap, subst, arith, append_assoc, Option, Some, None, slice_get, get_or, add-one, add-zero}
 use Rattle.std.specs.Prelude.{Ok, Err, MatchResult, OnOk}
 use Rattle.std.specs.declared.result.Result.{Result}
-use Rattle.std.specs.List.{All, find, sum_by}
+use Rattle.std.specs.List.{All, find}
 use Rattle.std.specs.Option.{IfSome, option_and_then, option_map_or}
-use Rattle.std.proofs.Math.Seq.{drop-cons}
-use Rattle.std.proofs.lemmas.List.{take-append-drop}
+use Rattle.std.proofs.Math.Seq.{drop-cons, take-suc}
+use Rattle.std.proofs.lemmas.List.{take-append-drop, take_all}
 use Rattle.std.proofs.lemmas.List.Elements.{All-nil, All-cons, All-head, All-tail, All-push}
-use Rattle.std.proofs.lemmas.List.Sums.{sum_by_more, sum_by-take-le}
-use Rattle.std.proofs.lemmas.Option.{get_or_from_slice_get, slice_get_within}
+use Rattle.std.proofs.lemmas.List.Sums.{sum_by-append}
+use Rattle.std.proofs.lemmas.Option.{get_or_from_slice_get, slice_get-get_or, slice_get_within}
 use Rattle.std.proofs.lemmas.Slice.Eq.{bytes_eq-Decides}
 use Rattle.outside.specs.Faults.{Rose}
 use Rattle.outside.specs.Files.{Files}
@@ -25,10 +25,10 @@ use Rattle.call_meaning.specs.declared.status.Outcome.{Outcome}
 use Rattle.call_meaning.specs.declared.status.Outcome.TheVariants.{ShelfFault, NoMemory, InputTooLarge}
 use Rattle.call_streams.specs.declared.text.Told.{Told}
 use Rattle.call_meaning.specs.Devices.{Store}
-use Rattle.call_meaning.specs.Meaning.{IsNextFile, file_size, files_size, input_limit, strands_size}
-use Rattle.call_streams.specs.Fetched.{AreFetched, AreFetchedPart, AreOf, IsGiven, IsUngiven, StopsFetching, StopsGiving, fetched_files, file_for, files_known, has_name}
+use Rattle.call_meaning.specs.Meaning.{file_size, input_limit, strands_size}
+use Rattle.call_streams.specs.Fetched.{AreFetched, AreFetchedPart, AreOf, IsGiven, IsNextBehind, IsUngiven, StopsFetching, StopsGiving, fetched_files, file_for, files_known, has_name}
 use Rattle.call_streams.specs.Texts.{IsToldAs, wants_memory}
-use Rattle.call_streams.proofs.Feds.{net_with, with_all, with_at, with_more, with_same}
+use Rattle.call_streams.proofs.Feds.{net_with, with_all, with_at, with_length, with_more, with_same}
 
 -- Files that were fetched
 
@@ -136,10 +136,10 @@ fetched_again shelf found kind name bytes file (Err told) is finds same = record
 -- One kind
 
 -- a kind that is given a file reads one
-pub given_reads : (files : Files) (kind : Kind) (bytes : List ℕ) → Some bytes ≡ file_for files (line_of kind).feed → (reads_input kind || reads_file kind) ≡ true
-given_reads files (FileIn name old) bytes is = refl
-given_reads files (ConsoleIn old) bytes is = refl
-given_reads files _ bytes is = cc
+kind_reads : (files : Files) (kind : Kind) (bytes : List ℕ) → Some bytes ≡ file_for files (line_of kind).feed → (reads_input kind || reads_file kind) ≡ true
+kind_reads files (FileIn name old) bytes is = refl
+kind_reads files (ConsoleIn old) bytes is = refl
+kind_reads files _ bytes is = cc
 
 given_kind : (files : Files) (kind : Kind) (bytes : List ℕ) → Some bytes ≡ file_for files (line_of kind).feed → with_bytes bytes kind ≡ filed_kind files kind
 given_kind files (FileIn name old) bytes is = ap (λ file. FileIn name file) is
@@ -161,143 +161,249 @@ absent_size files Unfed is = refl
 absent_size files Input is = refl
 absent_size files (OfFile name) is = ap (λ file. option_map_or (λ (bytes : List ℕ). length bytes) file 0) (sym is)
 
--- Nets of which the first strands are given their files
-
--- how many bytes these files give to the first strands
-abbrev pub front_size : Files → ℕ → Net → ℕ
-front_size files k net = strands_size files (take k net.strands)
-
-pub record AreFiled (net : Net) (k : ℕ) (now : Net) (size : ℕ) (found : List Found) : Type 0 where
-  pub net_is : (files : Files) → AreOf files found → now ≡ net_with (filed_kind files) k net
-  pub size_is : (files : Files) → AreOf files found → size ≡ front_size files k net
-
-module _ (net : Net) (k : ℕ) (now : Net) (size : ℕ) (found : List Found) (was : AreFiled net k now size found) (p : Strand) (at : slice_get now.strands k ≡ Some p) where
-  strand_was : (files : Files) → AreOf files found → slice_get net.strands k ≡ Some p
-  strand_was files are = with_at (filed_kind files) k net now p (was.net_is files are) at
-
-  -- the size with that of one strand more
-  size_more : (files : Files) → AreOf files found → front_size files (k + 1) net ≡ size + file_size files (line_of p.kind).feed
-  size_more files are =
-      let there = strand_was files are in
-      sum_by_more (λ (q : Strand). file_size files (line_of q.kind).feed) net.strands k p (slice_get_within net.strands k p there)
-      ∙ ap (λ (q : Strand). front_size files k net + file_size files (line_of q.kind).feed) (get_or_from_slice_get net.strands k p p there)
-      ∙ ap (λ n. n + file_size files (line_of p.kind).feed) (sym (was.size_is files are))
-
-  -- the file of the strand is the next one of the net
-  file_next : size ≤ input_limit → (files : Files) → AreOf files found → (name : List ℕ) → (line_of p.kind).feed ≡ OfFile name → IsNextFile net files name
-  file_next fits files are name is =
-      let there = strand_was files are in
-      let here : drop k net.strands ≡ p ∷ drop (suc k) net.strands =
-      drop-cons net.strands k p (slice_get_within net.strands k p there) ∙ ap (λ q. q ∷ drop (suc k) net.strands) (get_or_from_slice_get net.strands k p p there) in
-      record {
-        before = take k net.strands;
-        strand = p;
-        behind = drop (suc k) net.strands;
-        strands = sym (take-append-drop k net.strands) ∙ ap (λ z. take k net.strands ++ z) here;
-        fed_is = is;
-        fits = subst (λ n. n ≤ input_limit) (was.size_is files are) fits;
-      }
-
-  module _ (old new : Store) (found' : List Found) where
-    -- one strand more that is given no file
-    pub filed_absent : AreUnfiled net → (files : Files) → AreOf files found → IsGiven (line_of p.kind).feed old new found found' None → AreFiled net (k + 1) now size found'
-    filed_absent unfiled some some_are given = record {
-      net_is = λ files are. with_same (filed_kind files) k net now p (was.net_is files (given.more files are)) at
-          (absent_kind files p.kind (unfiled k p (strand_was some some_are)) (given.file files are))
-          ∙ ap (λ n. net_with (filed_kind files) n net) (sym (add-one k));
-      size_is = λ files are. (
-          let more = size_more files (given.more files are) in
-          let none = absent_size files (line_of p.kind).feed (given.file files are) in
-          omega (arith, more, none)
-          );
-    }
-
-    -- and one that is given its file
-    pub filed_more : (bytes shown : List ℕ) (after : Net) → shown ≡ bytes → after ≡ with_kind now k (with_bytes bytes p.kind) → IsGiven (line_of p.kind).feed old new found found' (Some bytes) →
-        AreFiled net (k + 1) after (size + length shown) found'
-    filed_more bytes shown after same is given = record {
-      net_is = λ files are. is
-          ∙ with_more (filed_kind files) k net now p (was.net_is files (given.more files are)) at (with_bytes bytes p.kind) (given_kind files p.kind bytes (given.file files are))
-          ∙ ap (λ n. net_with (filed_kind files) n net) (sym (add-one k));
-      size_is = λ files are. (
-          let more = size_more files (given.more files are) in
-          let len = given_size files (line_of p.kind).feed bytes (given.file files are) in
-          let seen = ap (λ (b : List ℕ). length b) same in
-          omega (arith, more, len, seen)
-          );
-    }
-
-    -- all files give at least as much
-    size_at_least : (bytes : List ℕ) → IsGiven (line_of p.kind).feed old new found found' (Some bytes) → (files : Files) → AreOf files found' → size + length bytes ≤ files_size files net
-    size_at_least bytes given files are =
-        let more = size_more files (given.more files are) in
-        let len = given_size files (line_of p.kind).feed bytes (given.file files are) in
-        let most = sum_by-take-le (λ (q : Strand). file_size files (line_of q.kind).feed) net.strands (k + 1) in
-        omega (arith, more, len, most)
-
--- all are
-pub filed_all : (net now : Net) (size : ℕ) (found : List Found) → AreFiled net (length net.strands) now size found → (files : Files) → AreOf files found → (now ≡ filed files net) × (size ≡ files_size files net)
-filed_all net now size found are files of =
-    (are.net_is files of ∙ with_all (filed_kind files) net, are.size_is files of ∙ ap (sum_by (λ (p : Strand). file_size files (line_of p.kind).feed)) (take_whole net.strands))
-  where
-    take_whole : (ps : List Strand) → take (length ps) ps ≡ ps
-    take_whole [] = refl
-    take_whole (p ∷ ps) = ap (λ z. p ∷ z) (take_whole ps)
-
--- Shelves while the files of a net are fetched
-
 -- what is known is what there is, where it is told
 pub known_there : (old : Option Files) (found : List Found) → IfSome old (λ there. files_known old found ≡ there)
 known_there None found = tt
 known_there (Some files) found = refl
 
-module _ (net : Net) (k : ℕ) (now : Net) (size : ℕ) (found : List Found) (was : AreFiled net k now size found) (p : Strand) (at : slice_get now.strands k ≡ Some p) (old middle new : Store)
-    (kept : middle.files ≡ old.files) (steady : middle.faults ≡ old.faults) (fits : size ≤ input_limit) (known : AreOf (files_known old.files found) found) (before : List Found)
-    (front : (files : Files) → AreOf files found → AreOf files before) where
-  -- a file more is known
-  pub still_known : (found' : List Found) (bytes : Option (List ℕ)) → IsGiven (line_of p.kind).feed middle new found found' bytes → AreOf (files_known old.files found') found'
-  still_known found' bytes given =
-      subst (λ (there : Option Files). AreOf (files_known there found') found') kept (given.known (subst (λ (there : Option Files). AreOf (files_known there found) found) (sym kept) known))
+-- Lists about one element
 
-  -- the fetching ends at a file
-  stops_fetching : (outcome : Outcome) → StopsGiving (line_of p.kind).feed middle new outcome → StopsFetching net old new (files_known old.files found) outcome
-  stops_fetching (ShelfFault name) stops = (file_next net k now size found was p at fits (files_known old.files found) known name stops.0, subst (λ n. Rose n new.faults) steady stops.1)
-  stops_fetching NoMemory stops = stops ∙ steady
-  stops_fetching InputTooLarge stops = absurd stops
-  stops_fetching _ stops = absurd stops
+module _ {A : Type 0} (xs : List A) (k : ℕ) (x : A) (at : slice_get xs k ≡ Some x) where
+  within : k < length xs
+  within = slice_get_within xs k x at
 
-  pub stopped_at : (outcome : Outcome) → IsUngiven (line_of p.kind).feed middle new outcome → AreFetchedPart net before old new outcome
-  stopped_at outcome ungiven = record {
-    files = files_known old.files found;
-    found = known_there old.files found;
-    of = front (files_known old.files found) known;
-    kept = ungiven.kept ∙ kept;
-    stops = stops_fetching outcome ungiven.stops;
-  }
+  read_at : get_or xs k x ≡ x
+  read_at = get_or_from_slice_get xs k x x at
 
-  -- or at one with which they are too large
-  pub stopped_full : (found' : List Found) (bytes : List ℕ) (outcome : Outcome) → IsGiven (line_of p.kind).feed middle new found found' (Some bytes) → input_limit < size + length bytes →
-      outcome ≡ InputTooLarge → AreFetchedPart net before old new outcome
-  stopped_full found' bytes outcome given large is =
-      let there = files_known old.files found' in
-      let of = still_known found' (Some bytes) given in
-      let least = size_at_least net k now size found was p at middle new found' bytes given there of in
-      record {
-        files = there;
-        found = known_there old.files found';
-        of = front there (given.more there of);
-        kept = given.kept ∙ kept;
-        stops = subst (StopsFetching net old new there) (sym is) (omega (arith, large, least), given.steady ∙ steady);
+  pub taken_more : take k xs ++ x ∷ [] ≡ take (k + 1) xs
+  taken_more = sym (ap (λ n. take n xs) (add-one k) ∙ take-suc xs k x within ∙ ap (λ y. take k xs ++ y ∷ []) read_at)
+
+  pub parted_at : take k xs ++ x ∷ drop (suc k) xs ≡ xs
+  parted_at = sym (ap (λ z. take k xs ++ z) (drop-cons xs k x within ∙ ap (λ y. y ∷ drop (suc k) xs) read_at)) ∙ take-append-drop k xs
+
+-- The files of no strand
+
+pub fetched_none : (size : ℕ) (found : List Found) (shelf : Store) → size ≤ input_limit → AreOf (files_known shelf.files found) found → AreFetched [] size size found found shelf shelf
+fetched_none size found shelf fits known = record {
+  kept = refl;
+  steady = refl;
+  wants = refl;
+  sized = λ files are. sym (add-zero size);
+  fits = fits;
+  more = λ files are. are;
+  known = known;
+}
+
+-- The file of one strand
+
+module _ (p : Strand) (size : ℕ) (found : List Found) (old new : Store) (known : AreOf (files_known old.files found) found) where
+  module _ (found' : List Found) where
+    -- it is given none
+    fetched_absent : size ≤ input_limit → IsGiven (line_of p.kind).feed old new found found' None → AreFetched (p ∷ []) size size found found' old new
+    fetched_absent fits given = record {
+      kept = given.kept;
+      steady = given.steady;
+      wants = given.wants;
+      sized = λ files are. (let none = absent_size files (line_of p.kind).feed (given.file files are) in omega (arith, none));
+      fits = fits;
+      more = given.more;
+      known = given.known known;
+    }
+
+    module _ (bytes : List ℕ) (given : IsGiven (line_of p.kind).feed old new found found' (Some bytes)) where
+      -- it is given one, which fits
+      fetched_more : size + length bytes ≤ input_limit → AreFetched (p ∷ []) size (size + length bytes) found found' old new
+      fetched_more fits = record {
+        kept = given.kept;
+        steady = given.steady;
+        wants = given.wants;
+        sized = λ files are. (let len = given_size files (line_of p.kind).feed bytes (given.file files are) in omega (arith, len));
+        fits = fits;
+        more = given.more;
+        known = given.known known;
       }
 
--- it ended behind the last file
-pub fetched_all : (net now : Net) (size : ℕ) (before found : List Found) (old new : Store) → AreFiled net (length net.strands) now size found → AreOf (files_known old.files found) found →
-    ((files : Files) → AreOf files found → AreOf files before) → size ≤ input_limit → new.files ≡ old.files → new.faults ≡ old.faults → new.wants ≡ old.wants →
-    (files : Files) × AreFetched net before old new files × (now ≡ filed files net) × (size ≡ files_size files net)
-fetched_all net now size before found old new are known front fits kept steady wants =
-    let there = files_known old.files found in
-    let all = filed_all net now size found are there known in
-    (there, record { found = known_there old.files found; of = front there known; kept = kept; fits = subst (λ n. n ≤ input_limit) all.1 fits; steady = steady; wants = wants }, all.0, all.1)
+      -- or doesn't
+      stopped_full : input_limit < size + length bytes → AreFetchedPart (p ∷ []) size found old new InputTooLarge
+      stopped_full large =
+          let there = files_known old.files found' in
+          let of = given.known known in
+          let len = given_size there (line_of p.kind).feed bytes (given.file there of) in
+          record {
+            files = there;
+            found = known_there old.files found';
+            of = given.more there of;
+            kept = given.kept;
+            stops = (omega (arith, large, len), given.steady);
+          }
+
+  -- it isn't fetched
+  stops_at : (files : Files) (outcome : Outcome) → size ≤ input_limit → StopsGiving (line_of p.kind).feed old new outcome → StopsFetching (p ∷ []) size old new files outcome
+  stops_at files (ShelfFault name) fits stops = (record { before = []; strand = p; behind = []; strands_are = refl; fed_is = stops.0; fits = omega (arith, fits) }, stops.1)
+  stops_at files NoMemory fits stops = stops
+  stops_at files InputTooLarge fits stops = absurd stops
+  stops_at files _ fits stops = absurd stops
+
+  stopped_at : (outcome : Outcome) → size ≤ input_limit → IsUngiven (line_of p.kind).feed old new outcome → AreFetchedPart (p ∷ []) size found old new outcome
+  stopped_at outcome fits ungiven = record {
+    files = files_known old.files found;
+    found = known_there old.files found;
+    of = known;
+    kept = ungiven.kept;
+    stops = stops_at (files_known old.files found) outcome fits ungiven.stops;
+  }
+
+-- The files of some strands and then of others
+
+module _ {xs : List Strand} {size size' : ℕ} {before found : List Found} {old middle : Store} (first : AreFetched xs size size' before found old middle) where
+  -- what both give
+  both_size : (files : Files) (ys : List Strand) → AreOf files found → size' + strands_size files ys ≡ size + strands_size files (xs ++ ys)
+  both_size files ys are =
+      let one = first.sized files are in
+      let both = sum_by-append (λ (p : Strand). file_size files (line_of p.kind).feed) xs ys in
+      omega (arith, one, both)
+
+  module _ (ys : List Strand) (new : Store) where
+    pub fetched_then : (size'' : ℕ) (found' : List Found) → AreFetched ys size' size'' found found' middle new → AreFetched (xs ++ ys) size size'' before found' old new
+    fetched_then size'' found' next = record {
+      kept = next.kept ∙ first.kept;
+      steady = next.steady ∙ first.steady;
+      wants = next.wants ∙ first.wants;
+      sized = λ files are. next.sized files are ∙ both_size files ys (next.more files are);
+      fits = next.fits;
+      more = λ files are. first.more files (next.more files are);
+      known = subst (λ (there : Option Files). AreOf (files_known there found') found') first.kept next.known;
+    }
+
+    -- the fetching ends among the others
+    next_then : (files : Files) (name : List ℕ) → AreOf files found → IsNextBehind ys size' files name → IsNextBehind (xs ++ ys) size files name
+    next_then files name are next = record {
+      before = xs ++ next.before;
+      strand = next.strand;
+      behind = next.behind;
+      strands_are = ap (λ z. xs ++ z) next.strands_are ∙ sym (append_assoc xs next.before (next.strand ∷ next.behind));
+      fed_is = next.fed_is;
+      fits = subst (λ n. n ≤ input_limit) (both_size files next.before are) next.fits;
+    }
+
+    stops_then : (files : Files) (outcome : Outcome) → AreOf files found → StopsFetching ys size' middle new files outcome → StopsFetching (xs ++ ys) size old new files outcome
+    stops_then files (ShelfFault name) are stops = (next_then files name are stops.0, subst (λ n. Rose n new.faults) first.steady stops.1)
+    stops_then files InputTooLarge are stops = (subst (λ n. input_limit < n) (both_size files ys are) stops.0, stops.1 ∙ first.steady)
+    stops_then files NoMemory are stops = stops ∙ first.steady
+    stops_then files _ are stops = absurd stops
+
+    pub stopped_then : (outcome : Outcome) → AreFetchedPart ys size' found middle new outcome → AreFetchedPart (xs ++ ys) size before old new outcome
+    stopped_then outcome part = record {
+      files = part.files;
+      found = subst (λ (told : Option Files). IfSome told (λ there. part.files ≡ there)) first.kept part.found;
+      of = first.more part.files part.of;
+      kept = part.kept ∙ first.kept;
+      stops = stops_then part.files outcome part.of part.stops;
+    }
+
+-- it ends before other strands
+module _ (xs ys : List Strand) (size : ℕ) (old new : Store) where
+  next_before : (files : Files) (name : List ℕ) → IsNextBehind xs size files name → IsNextBehind (xs ++ ys) size files name
+  next_before files name next = record {
+    before = next.before;
+    strand = next.strand;
+    behind = next.behind ++ ys;
+    strands_are = ap (λ z. z ++ ys) next.strands_are ∙ append_assoc next.before (next.strand ∷ next.behind) ys;
+    fed_is = next.fed_is;
+    fits = next.fits;
+  }
+
+  stops_before : (files : Files) (outcome : Outcome) → StopsFetching xs size old new files outcome → StopsFetching (xs ++ ys) size old new files outcome
+  stops_before files (ShelfFault name) stops = (next_before files name stops.0, stops.1)
+  stops_before files InputTooLarge stops =
+      let large = stops.0 in
+      let both = sum_by-append (λ (p : Strand). file_size files (line_of p.kind).feed) xs ys in
+      (omega (arith, large, both), stops.1)
+  stops_before files NoMemory stops = stops
+  stops_before files _ stops = absurd stops
+
+  pub stopped_before : (before : List Found) (outcome : Outcome) → AreFetchedPart xs size before old new outcome → AreFetchedPart (xs ++ ys) size before old new outcome
+  stopped_before before outcome part = record { files = part.files; found = part.found; of = part.of; kept = part.kept; stops = stops_before part.files outcome part.stops }
+
+-- A net of which the first strands are given their files
+
+pub record IsFilling (net : Net) (k : ℕ) (now : Net) (size size' : ℕ) (before found : List Found) (old new : Store) : Type 0 where
+  pub fetched : AreFetched (take k net.strands) size size' before found old new
+  pub filed : (files : Files) → AreOf files found → now ≡ net_with (filed_kind files) k net
+
+-- none are
+pub filling_none : (net : Net) (size : ℕ) (found : List Found) (shelf : Store) → size ≤ input_limit → AreOf (files_known shelf.files found) found → IsFilling net 0 net size size found found shelf shelf
+filling_none net size found shelf fits known = record { fetched = fetched_none size found shelf fits known; filed = λ files are. refl }
+
+-- all are
+pub filling_all : {net : Net} {k : ℕ} {now : Net} {size size' : ℕ} {before found : List Found} {old new : Store} → IsFilling net k now size size' before found old new → k ≡ length net.strands →
+    AreFetched net.strands size size' before found old new × ((files : Files) → AreOf files found → now ≡ filed files net)
+filling_all {net} {k} {now} {size} {size'} {before} {found} {old} {new} filling all = (
+  subst (λ strands. AreFetched strands size size' before found old new) (take_all k net.strands (omega (arith, all))) filling.fetched,
+  λ files are. filling.filed files are ∙ ap (λ n. net_with (filed_kind files) n net) all ∙ with_all (filed_kind files) net,
+)
+
+module _ {net : Net} {k : ℕ} {now : Net} {size size' : ℕ} {before found : List Found} {old middle : Store} (filling : IsFilling net k now size size' before found old middle) where
+  -- the strands are as many as they were
+  pub as_long : length now.strands ≡ length net.strands
+  as_long = with_length (filed_kind (files_known old.files found)) k net now (filling.filed (files_known old.files found) filling.fetched.known)
+
+  -- the next strand, as it is read
+  pub next_at : (shown : List Strand) (d : Strand) → shown ≡ now.strands → k < length net.strands → slice_get now.strands k ≡ Some (get_or shown k d)
+  next_at shown d same within =
+      let seen = ap (λ (z : List Strand). length z) same in
+      let long = as_long in
+      subst (λ z. slice_get z k ≡ Some (get_or shown k d)) same (slice_get-get_or shown k d (omega (arith, seen, long, within)))
+
+  known_now : AreOf (files_known middle.files found) found
+  known_now = subst (λ (there : Option Files). AreOf (files_known there found) found) (sym filling.fetched.kept) filling.fetched.known
+
+  module _ (p : Strand) (at : slice_get now.strands k ≡ Some p) where
+    -- it is as it was
+    strand_was : slice_get net.strands k ≡ Some p
+    strand_was = with_at (filed_kind (files_known old.files found)) k net now p (filling.filed (files_known old.files found) filling.fetched.known) at
+
+    module _ (new : Store) where
+      stopped_there : (outcome : Outcome) → AreFetchedPart (p ∷ []) size' found middle new outcome → AreFetchedPart net.strands size before old new outcome
+      stopped_there outcome part = subst (λ strands. AreFetchedPart strands size before old new outcome) (parted_at net.strands k p strand_was)
+          (stopped_then filling.fetched (p ∷ drop (suc k) net.strands) new outcome (stopped_before (p ∷ []) (drop (suc k) net.strands) size' middle new found outcome part))
+
+      -- it isn't fetched
+      pub filling_stopped : (outcome : Outcome) → IsUngiven (line_of p.kind).feed middle new outcome → AreFetchedPart net.strands size before old new outcome
+      filling_stopped outcome ungiven = stopped_there outcome (stopped_at p size' found middle new known_now outcome filling.fetched.fits ungiven)
+
+      module _ (found' : List Found) where
+        fetched_next : (size'' : ℕ) → AreFetched (p ∷ []) size' size'' found found' middle new → AreFetched (take (k + 1) net.strands) size size'' before found' old new
+        fetched_next size'' next = subst (λ strands. AreFetched strands size size'' before found' old new) (taken_more net.strands k p strand_was) (fetched_then filling.fetched (p ∷ []) new size'' found' next)
+
+        -- it is given no file
+        pub filling_absent : AreUnfiled net → IsGiven (line_of p.kind).feed middle new found found' None → IsFilling net (k + 1) now size size' before found' old new
+        filling_absent unfiled given = record {
+          fetched = fetched_next size' (fetched_absent p size' found middle new known_now found' filling.fetched.fits given);
+          filed = λ files are. with_same (filed_kind files) k net now p (filling.filed files (given.more files are)) at (absent_kind files p.kind (unfiled k p strand_was) (given.file files are))
+              ∙ ap (λ n. net_with (filed_kind files) n net) (sym (add-one k));
+        }
+
+        module _ (bytes : List ℕ) (given : IsGiven (line_of p.kind).feed middle new found found' (Some bytes)) where
+          -- it has one
+          pub given_reads : (reads_input p.kind || reads_file p.kind) ≡ true
+          given_reads = kind_reads (files_known middle.files found') p.kind bytes (given.file (files_known middle.files found') (given.known known_now))
+
+          module _ (shown : List ℕ) (same : shown ≡ bytes) where
+            -- which is too large
+            pub filling_full : (outcome : Outcome) → outcome ≡ InputTooLarge → input_limit < size' + length shown → AreFetchedPart net.strands size before old new outcome
+            filling_full outcome is large = subst (λ o. AreFetchedPart net.strands size before old new o) (sym is)
+                (stopped_there InputTooLarge (stopped_full p size' found middle new known_now found' bytes given (subst (λ (z : List ℕ). input_limit < size' + length z) same large)))
+
+            -- or is given it
+            pub filling_more : (after : Net) → size' + length shown ≤ input_limit → after ≡ with_kind now k (with_bytes bytes p.kind) → IsFilling net (k + 1) after size (size' + length shown) before found' old new
+            filling_more after fits is = record {
+              fetched = fetched_next (size' + length shown) (subst (λ (z : List ℕ). AreFetched (p ∷ []) size' (size' + length z) found found' middle new) (sym same)
+                  (fetched_more p size' found middle new known_now found' bytes given (subst (λ (z : List ℕ). size' + length z ≤ input_limit) same fits)));
+              filed = λ files are. is
+                  ∙ with_more (filed_kind files) k net now p (filling.filed files (given.more files are)) at (with_bytes bytes p.kind) (given_kind files p.kind bytes (given.file files are))
+                  ∙ ap (λ n. net_with (filed_kind files) n net) (sym (add-one k));
+            }
 
 -- that the files are too large wants no memory to be told
 pub told_too_large : (told : Told) → IsToldAs InputTooLarge told → told.outcome ≡ InputTooLarge

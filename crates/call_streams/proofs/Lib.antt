@@ -1,10 +1,14 @@
 pub mod CheckReplies
 pub mod FedNets
+pub mod FedSets
 pub mod Feds
 pub mod Feedings
 pub mod Fetches
 pub mod LintReplies
+pub mod Listings
 pub mod Orders
 pub mod Replacements
 pub mod Replies
+pub mod SetFillings
+pub mod SetReplies
 pub mod Streams

@@ -1,7 +1,7 @@
 -- The text of an outcome, made before anything is written; it serves the inside.
 use Rattle.std.specs.Prelude.{◌≡◌, ◌⊎◌, ℕ, Bool, true, false, List}
 use Rattle.call_meaning.specs.declared.status.Outcome.{Outcome}
-use Rattle.call_meaning.specs.declared.status.Outcome.TheVariants.{Coded, SpecRefused, Stalled, Spent, ShelfFault, NoMemory, JournalLine, JournalEntry}
+use Rattle.call_meaning.specs.declared.status.Outcome.TheVariants.{Coded, SpecRefused, Stalled, Spent, ShelfFault, NoMemory, JournalLine, JournalEntry, SomeSet, SetsLine}
 use Rattle.call_streams.specs.declared.text.Text.{Text}
 use Rattle.call_streams.specs.declared.text.Text.TheVariants.{Fixed, Made}
 use Rattle.call_streams.specs.declared.text.Told.{Told}
@@ -25,6 +25,8 @@ wants_memory (Spent steps) = true
 wants_memory (ShelfFault name) = true
 wants_memory (JournalLine number) = true
 wants_memory (JournalEntry number) = true
+wants_memory (SomeSet lines) = true
+wants_memory (SetsLine number) = true
 wants_memory _ = false
 
 -- the outcome is told as it is, or memory was wanted for its text

@@ -35,8 +35,10 @@ pub fn feed_net<I: Source, F: Shelf>(
     ensures whole { IfOk result (λ after. IsWellFormed after) }
     ensures text { IfErr result IsTelling }
 {
-    let filed = fetch_files(alloc, net, found, shelf)?;
-    match take_input(alloc, filed.net, input, INPUT_LIMIT - filed.size) {
+    let mut net = net;
+    let mut found = found;
+    let size = fetch_files(alloc, &mut net, &mut found, 0, shelf)?;
+    match take_input(alloc, net, input, INPUT_LIMIT - size) {
         Ok(net) => Ok(net),
         Err(outcome) => Err(tell(alloc, outcome)),
     }

@@ -1,12 +1,12 @@
 //! The files that the stages of a net read, fetched before the run.
-ghost use Rattle.std.specs.Prelude.{◌≡◌, List, [], ◌∷◌, ◌++◌, find, option_copied, IfErr, IfOk, MatchResult, OnOk, None};
+ghost use Rattle.std.specs.Prelude.{◌≡◌, ◌≤◌, List, [], ◌∷◌, ◌++◌, find, option_copied, IfErr, IfOk, MatchResult, OnOk, None};
 ghost use Rattle.outside.specs.Files.{Files};
 ghost use Rattle.pipe_model.specs.Table.{line_of};
 ghost use Rattle.pipe_model.specs.Table.Feed.{OfFile};
 ghost use Rattle.pipe_model.specs.WellFormed.{IsWellFormed};
 ghost use Rattle.net_graph.specs.Fed.{AreUnfiled, filed};
 ghost use Rattle.call_meaning.specs.Devices.{store};
-ghost use Rattle.call_meaning.specs.Meaning.{files_size};
+ghost use Rattle.call_meaning.specs.Meaning.{input_limit};
 ghost use Rattle.call_streams.specs.Fetched.{AreFetched, AreFetchedPart, AreOf, IsGiven, IsUngiven, files_known, has_name};
 ghost use Rattle.call_streams.specs.Texts.{IsTelling};
 
@@ -18,13 +18,6 @@ use outside::{Fetched, Shelf};
 use pipe_model::{Kind, Net, NoMemory, Rec};
 use std::alloc::Global;
 
-/// A net whose `<` have their files, and how many bytes these gave.
-#[derive(Drop)]
-pub(crate) struct Filed {
-    pub net: Net,
-    pub size: usize,
-}
-
 /// A file that was fetched: its bytes, or that it isn't there.
 #[derive(Drop)]
 pub struct Found {
@@ -32,37 +25,38 @@ pub struct Found {
     pub bytes: Option<Rec>,
 }
 
-// Gives each `<` of a net its file, in the order of the strands. A name that several have, or one that was found before, is fetched once.
-// An error is a fault of the shelf, too many bytes or want of memory, with its text.
+// Gives each `<` of a net its file, in the order of the strands, behind so many bytes of others, and answers how many these are with them. A name
+// that several have, or one that was found before, is fetched once. An error is a fault of the shelf, too many bytes or want of memory, with its text.
 pub(crate) fn fetch_files<F: Shelf>(
     alloc: Global,
-    net: Net,
-    found: Vec<Found>,
+    net: &mut Net,
+    found: &mut Vec<Found>,
+    before: usize,
     shelf: &mut F,
-) -> Result<Filed, Told>
-    requires whole { IsWellFormed net }
-    requires unfiled { AreUnfiled net }
-    requires known { AreOf (files_known (F.files shelf.old) found.items) found.items }
+) -> Result<usize, Told>
+    requires whole { IsWellFormed net.old }
+    requires unfiled { AreUnfiled net.old }
+    requires known { AreOf (files_known (F.files shelf.old) found.old.items) found.old.items }
+    requires fits { before ≤ input_limit }
     ensures fetched { let old = store (F.files shelf.old) (F.faults shelf.old) (F.wants shelf.old) in let new = store (F.files shelf.new) (F.faults shelf.new) (F.wants shelf.new) in
-        MatchResult result (λ after. (files : Files) × AreFetched net found.items old new files × (after.net ≡ filed files net) × (after.size ≡ files_size files net)) (λ told. AreFetchedPart net found.items old new told.outcome) }
-    ensures whole { IfOk result (λ after. IsWellFormed after.net) }
+        MatchResult result (λ after. AreFetched net.old.strands before after found.old.items found.new.items old new) (λ told. AreFetchedPart net.old.strands before found.old.items old new told.outcome) }
+    ensures filed { OnOk result ((files : Files) → AreOf files found.new.items → net.new ≡ filed files net.old) }
+    ensures whole { OnOk result (IsWellFormed net.new) }
     ensures text { IfErr result IsTelling }
 {
-    let mut net = net;
-    let mut found = found;
-    let mut size = 0;
+    let mut size = before;
     for strand in 0..net.strands.as_slice().len() {
         let kind = &net.strands.as_slice()[strand].kind;
-        if let Some(bytes) = file_of(alloc, kind, &mut found, shelf)? {
+        if let Some(bytes) = file_of(alloc, kind, found, shelf)? {
             let len = bytes.bytes().len();
             if len > INPUT_LIMIT - size {
                 return Err(tell(alloc, Outcome::InputTooLarge));
             }
             size += len;
-            feed(&mut net, strand as u32, bytes);
+            feed(net, strand as u32, bytes);
         }
     }
-    Ok(Filed { net, size })
+    Ok(size)
 }
 
 // The bytes of the file that a kind reads, if it reads one and that is there.

@@ -24,7 +24,7 @@ pub(crate) fn take_input<I: Source>(
         MatchResult result (λ after. (bytes : List ℕ) × IsTaken limit net old new bytes × (after ≡ with_input bytes net)) (λ outcome. IsTakenPart limit net old new outcome) }
     ensures whole { IfOk result IsWellFormed }
 {
-    if !net.strands.as_slice().iter().any(reads) {
+    if !net_reads(&net) {
         return Ok(net);
     }
     let bytes = read_all(alloc, input, limit)?;
@@ -42,12 +42,28 @@ pub fn feed_input(alloc: Global, net: &mut Net, bytes: Vec<u8>) -> Result<(), No
     ensures whole { OnOk result (IsWellFormed net.new) }
 {
     let input = Rec::shared(alloc, bytes)?;
+    give_input(alloc, net, &input)
+}
+
+// Gives the bytes of the input to all that read it.
+pub(crate) fn give_input(alloc: Global, net: &mut Net, input: &Rec) -> Result<(), NoMemory>
+    requires { IsWellFormed net.old }
+    ensures fed { OnOk result (net.new ≡ with_input input.now net.old) }
+    ensures whole { OnOk result (IsWellFormed net.new) }
+{
     for strand in 0..net.strands.as_slice().len() {
         if reads(&net.strands.as_slice()[strand]) {
             feed(net, strand as u32, input.copy(alloc)?);
         }
     }
     Ok(())
+}
+
+// A CONSOLE of the net reads the input.
+pub(crate) fn net_reads(net: &Net) -> bool
+    ensures { result ≡ reads_any net.now }
+{
+    net.strands.as_slice().iter().any(reads)
 }
 
 // The strand is a CONSOLE that reads.

@@ -8,6 +8,7 @@ mod journal;
 mod lint;
 mod read;
 mod sample;
+mod sets;
 mod text;
 mod write;
 
@@ -17,5 +18,6 @@ pub use input::feed_input;
 pub use journal::{Stored, fetch_journal};
 pub use lint::lint_line;
 pub use sample::sample_input;
+pub use sets::{Listed, feed_sets, fetch_sets};
 pub use text::{Text, Told, add, add_number, no_memory, shelf_fault, tell, with_text, write_fault};
 pub use write::{Answer, give, write_all};

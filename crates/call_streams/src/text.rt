@@ -37,7 +37,7 @@ pub struct Told {
 
 /// How the program is called.
 const USAGE: &str =
-    "usage: pipe SPEC [--workers N] [--steps N] [--trace NAME] [--check NAME] [--lint] | pipe --sample N\n";
+    "usage: pipe SPEC [--workers N] [--steps N] [--trace NAME] [--check NAME] [--lint] | pipe --sample N | pipe --sets NAME\n";
 
 const OUT_OF_MEMORY: &str = "out of memory\n";
 
@@ -102,6 +102,8 @@ fn text_of(alloc: Global, outcome: &Outcome) -> Result<Text, NoMemory>
         Outcome::JournalLine(number) => numbered(alloc, "journal line ", *number)?,
         Outcome::JournalEntry(number) => numbered(alloc, "journal entry ", *number)?,
         Outcome::ShelfFault(name) => shelf_fault(alloc, name.bytes())?,
+        Outcome::SomeSet(lines) => return Ok(Text::Made(lines.copy(alloc)?)),
+        Outcome::SetsLine(number) => numbered(alloc, "sets line ", *number)?,
         Outcome::Done => return Ok(Text::Fixed("")),
         Outcome::ReadFault => return Ok(Text::Fixed("read fault\n")),
         Outcome::WriteFault => return Ok(Text::Fixed(WRITE_FAULT)),
@@ -109,6 +111,7 @@ fn text_of(alloc: Global, outcome: &Outcome) -> Result<Text, NoMemory>
         Outcome::Usage => return Ok(Text::Fixed(USAGE)),
         Outcome::InputTooLarge => return Ok(Text::Fixed("input too large\n")),
         Outcome::JournalAbsent => return Ok(Text::Fixed("journal absent\n")),
+        Outcome::SetsAbsent => return Ok(Text::Fixed("sets absent\n")),
     };
     Ok(Text::Made(Rec::from_vec(made)))
 }

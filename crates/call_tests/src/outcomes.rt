@@ -60,7 +60,7 @@ console | locate /b/ | console,--workers,65;ab\ncd\nb;;;;9;{usage};#\
 console | count bytes | console;{aaaaaaaa*8388608};;;67108864\n;0;;";
 
 const USAGE: &str =
-    "usage: pipe SPEC [--workers N] [--steps N] [--trace NAME] [--check NAME] [--lint] | pipe --sample N\n";
+    "usage: pipe SPEC [--workers N] [--steps N] [--trace NAME] [--check NAME] [--lint] | pipe --sample N | pipe --sets NAME\n";
 
 // What a row says, written out.
 fn written_out(alloc: Global, row: &str) -> Result<String, Fail> {

@@ -9,6 +9,17 @@ use std::thread::yield_now;
 // How often one that waits at the gate lets others run, at most.
 const TURNS: u32 = 1_000_000;
 
+// Whether so many came before the turns were over.
+fn have_come(came: &AtomicU64, many: u64) -> bool {
+    for _ in 0..TURNS {
+        if came.load(Ordering::SeqCst) >= many {
+            return true;
+        }
+        yield_now();
+    }
+    false
+}
+
 // A gate that holds strand 1 until strand 4 came to it, and strand 4 until strand 1 did.
 #[derive(Drop)]
 struct Crossing {
@@ -20,13 +31,9 @@ struct Crossing {
 impl Crossing {
     fn hold(&self, own: &AtomicU64, other: &AtomicU64) {
         own.store(1, Ordering::SeqCst);
-        for _ in 0..TURNS {
-            if other.load(Ordering::SeqCst) == 1 {
-                return;
-            }
-            yield_now();
+        if !have_come(other, 1) {
+            self.given_up.store(1, Ordering::SeqCst);
         }
-        self.given_up.store(1, Ordering::SeqCst);
     }
 }
 
@@ -62,6 +69,49 @@ fn two_workers_work_on_two_strands_at_once(rt: HostRuntime) -> Result<(), Fail> 
     assert_eq!(rt; call(&rt, rt.alloc(), &words, &mut around, &gate)?, 0);
     assert_eq!(rt; gate.first.load(Ordering::SeqCst), 1);
     assert_eq!(rt; gate.second.load(Ordering::SeqCst), 1);
+    assert_eq!(rt; gate.given_up.load(Ordering::SeqCst), 0);
+    Ok(())
+}
+
+// A gate that counts who comes to a strand 1, and holds the first of them until a second comes.
+#[derive(Drop)]
+struct Meeting {
+    came: AtomicU64,
+    given_up: AtomicU64,
+}
+
+impl Gate for Meeting {
+    ghost is_open = { λ _. false };
+
+    fn enter(&self, strand: u32) {
+        if strand == 1
+            && self.came.fetch_add(1, Ordering::SeqCst) == 0
+            && !have_come(&self.came, 2)
+        {
+            self.given_up.store(1, Ordering::SeqCst);
+        }
+    }
+
+    fn is_open(&self) -> bool {
+        false
+    }
+}
+
+// Two sets; the LOCATE of each is its strand 1.
+const SETS: &[u8] = b"literal a | locate /a/ | hole\nliteral b | locate /b/ | hole\n";
+
+// The LOCATE of one set is held at the gate until that of the other comes.
+#[test]
+fn two_workers_work_on_two_sets_at_once(rt: HostRuntime) -> Result<(), Fail> {
+    let gate = Meeting {
+        came: AtomicU64::new(0),
+        given_up: AtomicU64::new(0),
+    };
+    let mut around = in_memory(rt.alloc(), b"", 1)?;
+    around.shelf.preset(b"sets", SETS)?;
+    let words = ["--sets", "sets", "--workers", "2"];
+    assert_eq!(rt; call(&rt, rt.alloc(), &words, &mut around, &gate)?, 0);
+    assert_eq!(rt; gate.came.load(Ordering::SeqCst), 2);
     assert_eq!(rt; gate.given_up.load(Ordering::SeqCst), 0);
     Ok(())
 }

@@ -1,11 +1,14 @@
 -- What a core has done at the end of its run.
 use Rattle.std.proofs.Common.{◌≡◌, ◌⊎◌, inl, inr, ℕ, ◌<◌, ◌≤◌, ltb, Bool, true, false, List, [], ◌∷◌, ◌++◌, refl, sym, ◌∙◌, ap, subst, arith, Some, None, is_some}
 use Rattle.std.proofs.lemmas.Bool.{ltb-false, ltb-true}
+use Rattle.std.specs.Result.{IfOk}
+use Rattle.std.specs.declared.result.Result.{Result}
+use Rattle.std.specs.declared.result.Result.TheVariants.{Ok, Err}
+use Rattle.pipe_model.specs.declared.memory.NoMemory.{NoMemory}
 use Rattle.pipe_model.specs.declared.net.Net.{Net}
 use Rattle.pipe_model.specs.declared.step.Entry.{Entry}
 use Rattle.pipe_model.specs.Licence.{licence, none_left}
 use Rattle.pipe_model.specs.Play.{play, step, IsComplete}
-use Rattle.pipe_model.specs.Reply.{reply}
 use Rattle.pipe_model.specs.Run.{IsRun as IsPlay}
 use Rattle.pipe_model.specs.State.{nothing_yet}
 use Rattle.confluence_laws.proofs.Lengths.{play_last}
@@ -15,9 +18,10 @@ use Rattle.core_machine.specs.Answered.{AreLeast as CoreLeast, Ends, HasRun, Lea
 use Rattle.workers.specs.Driven.{HasAdvanced}
 use Rattle.call_meaning.specs.declared.status.Outcome.{Outcome}
 use Rattle.call_meaning.specs.declared.status.Outcome.TheVariants.{Spent}
-use Rattle.call_meaning.specs.Meaning.{AreLeast, IsLeast, outcome_of}
+use Rattle.call_meaning.specs.Meaning.{AreLeast, IsLeast}
+use Rattle.net_runs.specs.declared.net_run.Ran.{Ran}
 use Rattle.net_runs.specs.Ran.{EndsAs, IsRun}
-use Rattle.net_runs.specs.Ran.EndsAs.{completes, spends}
+use Rattle.net_runs.specs.Ran.EndsAs.{spends}
 
 -- a journal is complete where no strand may have an event
 complete_if : (net : Net) (es : List Entry) → ((s k : ℕ) → licence net (play net es) none_left s k ≡ None) → IsComplete net es
@@ -68,13 +72,23 @@ run_least net steps old new first run =
     let after : new ≡ record (started net steps) { journal = run.more } = run.after ∙ ap (λ (m : Machine). record m { journal = m.journal ++ run.more }) first in
     subst (λ (m : Machine). AreLeast m.net m.journal) (sym after) (least_run (started net steps) refl run.more (subst (λ (m : Machine). CoreLeast m run.more) first run.least))
 
+module _ (steps : ℕ) (core : Machine) (home : core.out ≡ []) (budget : core.budget ≡ steps) where
+  -- its journal was full before its end
+  pub core_spent : Ends End.Spent core → EndsAs steps core (Spent steps)
+  core_spent ends = spends refl (ends.0 ∙ budget)
+      (record { strand = ends.1.0.0; stream = ends.1.0.1 }, subst (λ out. is_some (licence core.net (play core.net core.journal) (left_by core.journal out) ends.1.0.0 ends.1.0.1) ≡ true) home ends.1.1.0)
+
 module _ (net : Net) (steps workers : ℕ) (old new : Machine) (first : old ≡ started net steps) (run : HasAdvanced old new) (lawful : IsLawful new) (alone : workers ≡ 1 → HasRun old new) where
-  budget_is : new.budget ≡ steps
+  pub net_is : new.net ≡ net
+  net_is = run.net ∙ ap (λ (m : Machine). m.net) first
+
+  pub budget_is : new.budget ≡ steps
   budget_is = run.budget ∙ ap (λ (m : Machine). m.budget) first
 
-  run_ended : (outcome : Outcome) → EndsAs steps new outcome → IsRun net steps workers new outcome
+  -- it is a run that ended so
+  pub run_ended : (outcome : Outcome) → EndsAs steps new outcome → IsRun net steps workers new outcome
   run_ended outcome ends = record {
-    net_is = run.net ∙ ap (λ (m : Machine). m.net) first;
+    net_is = net_is;
     legal = lawful.legal;
     home = run.home;
     within = let w = lawful.within in omega (arith, w, budget_is);
@@ -82,11 +96,6 @@ module _ (net : Net) (steps workers : ℕ) (old new : Machine) (first : old ≡ 
     ends = ends;
   }
 
-  -- it came to its end
-  pub run_completed : Ends End.Complete new → (outcome : Outcome) → outcome ≡ outcome_of new.net (reply new.net (state_of new)) → IsRun net steps workers new outcome
-  run_completed stopped outcome of = run_ended outcome (completes stopped of)
-
-  -- its journal was full before
-  pub run_spent : Ends End.Spent new → IsRun net steps workers new (Spent steps)
-  run_spent ends = run_ended (Spent steps) (spends refl (ends.0 ∙ budget_is)
-      (record { strand = ends.1.0.0; stream = ends.1.0.1 }, subst (λ out. is_some (licence new.net (play new.net new.journal) (left_by new.journal out) ends.1.0.0 ends.1.0.1) ≡ true) run.home ends.1.1.0))
+  pub runs_to : {S : Type 0} (made : Result (Ran S) NoMemory) → IfOk made (λ ran. ran.core ≡ new) → IfOk made (λ ran. EndsAs steps ran.core ran.outcome) → IfOk made (λ ran. IsRun net steps workers ran.core ran.outcome)
+  runs_to (Ok ran) is ends = subst (λ (m : Machine). IsRun net steps workers m ran.outcome) (sym is) (run_ended ran.outcome (subst (λ (m : Machine). EndsAs steps m ran.outcome) is ends))
+  runs_to (Err fault) is ends = tt

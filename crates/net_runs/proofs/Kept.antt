@@ -1,9 +1,8 @@
 -- The console's text, as far as a loop over the strands has written it.
-use Rattle.std.proofs.Common.{◌≡◌, ℕ, true, false, suc, ◌+◌, ◌<◌, List, ◌++◌, length, drop, sym, ◌∙◌, ap, subst, arith, Option, Some, slice_get, slice_index_or, add-one, append_assoc, length-append}
+use Rattle.std.proofs.Common.{◌≡◌, ℕ, true, false, suc, ◌+◌, ◌<◌, List, ◌++◌, length, drop, sym, ◌∙◌, ap, Option, Some, slice_get, slice_index_or, add-one, append_assoc}
 use Rattle.std.proofs.KnownBytes.{Appends-trans}
 use Rattle.std.proofs.lemmas.Option.{slice_get-get_or}
 use Rattle.std.specs.Io.KnownBytes.{Appends}
-use Rattle.outside.specs.Faults.{Rose}
 use Rattle.pipe_model.specs.declared.net.Strand.{Strand}
 use Rattle.pipe_model.specs.Reply.{console_from}
 use Rattle.pipe_model.specs.State.{State, Who, past}
@@ -16,6 +15,7 @@ use Rattle.outside.specs.Device.{Device}
 use Rattle.call_meaning.specs.Devices.{Steady}
 use Rattle.call_streams.specs.Written.{IsPartWritten}
 use Rattle.net_runs.proofs.Runs.{console_more, console_less, kept_part}
+use Rattle.net_runs.proofs.Writes.{part_after}
 
 module _ (st : State) (k : Who) (ps : List Strand) (other : Strand) (lt : k < length ps) where
   here : slice_get ps k ≡ Some (slice_index_or ps k other)
@@ -47,21 +47,4 @@ module _ (st : State) (k : Who) (ps : List Strand) (kept : List ℕ) (more : con
 
   pub wrote_part : (old middle new : Device) (outcome : Outcome) → HasWritten st k ps old.bytes middle.bytes → Steady old middle → IsPartWritten kept middle new outcome → IsPartWritten (console_from st 0 ps) old new outcome
   wrote_part old middle new outcome wrote steady part =
-      let rest = console_from st (k + 1) (drop (k + 1) ps) in
-      let more' = part.cut.more in
-      let size = length-append part.cut.rest rest in
-      record {
-        fault = part.fault;
-        wrote = wrote.0 ++ part.wrote;
-        cut = record {
-          rest = part.cut.rest ++ rest;
-          whole_is =
-              sym (kept_more wrote.0 wrote.2)
-              ∙ ap (λ z. (wrote.0 ++ z) ++ rest) part.cut.whole_is
-              ∙ ap (λ z. z ++ rest) (sym (append_assoc wrote.0 part.wrote part.cut.rest))
-              ∙ append_assoc (wrote.0 ++ part.wrote) part.cut.rest rest;
-          more = omega (arith, more', size);
-        };
-        gained = Appends-trans old.bytes middle.bytes new.bytes wrote.0 part.wrote wrote.1 part.gained;
-        failed = subst (λ (z : ℕ). Rose z new.faults) steady part.failed;
-      }
+      part_after (console_from st 0 ps) wrote.0 kept (console_from st (k + 1) (drop (k + 1) ps)) (kept_more wrote.0 wrote.2) old middle new outcome wrote.1 steady part

@@ -7,3 +7,9 @@ pub mod RunEffects
 pub mod RunReplies
 pub mod Runs
 pub mod SampleReplies
+pub mod SetBegins
+pub mod SetPuts
+pub mod SetReplies
+pub mod SetTexts
+pub mod Writes
+pub mod Zips

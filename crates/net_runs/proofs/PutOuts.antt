@@ -22,7 +22,7 @@ use Rattle.call_streams.proofs.Replacements.{part_further, part_last, replaced_a
 use Rattle.net_runs.proofs.RunEffects.{effect_is}
 
 -- why a replacement ended, where those before left the counts as they were
-stops_from : (name : List ℕ) (old now new : Store) (outcome : Outcome) → now.faults ≡ old.faults → now.wants ≡ old.wants → StopsStoring name now new outcome → StopsStoring name old new outcome
+pub stops_from : (name : List ℕ) (old now new : Store) (outcome : Outcome) → now.faults ≡ old.faults → now.wants ≡ old.wants → StopsStoring name now new outcome → StopsStoring name old new outcome
 stops_from name old now new (ShelfFault other) steady wants stops = (stops.0, subst (λ n. Rose n new.faults) steady stops.1)
 stops_from name old now new NoMemory steady wants stops = (stops.0 ∙ steady, subst (λ n. Rose n new.wants) wants stops.1)
 stops_from name old now new _ steady wants stops = absurd stops

@@ -1,4 +1,4 @@
--- From a run that was fed and carried out to what the call decides.
+-- From what was fed and carried out to what the call decides.
 use Rattle.std.proofs.Common.{◌≡◌, ℕ, List, [], refl, sym, ◌∙◌, ap, subst, Option}
 use Rattle.outside.specs.Device.{Device}
 use Rattle.outside.specs.Faults.{Rose}
@@ -8,13 +8,13 @@ use Rattle.call_streams.specs.declared.fetch.Found.{Found}
 use Rattle.net_runs.specs.declared.ready_run.Ready.{Ready}
 use Rattle.call_meaning.specs.declared.status.Outcome.{Outcome}
 use Rattle.call_meaning.specs.declared.status.Outcome.TheVariants.{NoMemory, ShelfFault}
-use Rattle.call_meaning.specs.Answer.{Decides, IsTorn}
+use Rattle.call_meaning.specs.Answer.{Decides, HasUsed, IsTorn}
 use Rattle.call_meaning.specs.Answer.HasCause.{came, write_failed}
 use Rattle.call_meaning.specs.Answer.HasDone.{whole, half}
 use Rattle.call_meaning.specs.Answer.IsTorn.{torn_failed, torn_memory}
 use Rattle.call_meaning.specs.Devices.{Outside, Store, outside}
 use Rattle.call_meaning.specs.Effects.{ArePartReplaced, AreReplaced, Effect, output_of, replaced_by}
-use Rattle.call_meaning.specs.Meaning.{HasRun, RunMeans, RunsNet, net_on}
+use Rattle.call_meaning.specs.Meaning.{ComesTo, HasRun, RunMeans, RunsNet, net_on}
 use Rattle.call_meaning.specs.Meaning.ComesTo.{ran}
 use Rattle.call_streams.specs.Feeding.{IsFed}
 use Rattle.net_runs.specs.ReadyRuns.{IsReady, PutsOut, ready_effect}
@@ -25,22 +25,10 @@ use Rattle.net_runs.proofs.Finishes.{run_means}
 use Rattle.call_streams.proofs.Replacements.{none_replaced}
 use Rattle.net_runs.proofs.RunEffects.{traced_effect}
 
-module _ {S : Type 0} (words : List (List ℕ)) (net : Net) (steps : ℕ) (trace : Option (List ℕ)) (runs : RunsNet words net steps trace) (workers : ℕ) (same : runs.run.workers ≡ workers)
-    (found : List Found) (input input' output : Device) (shelf fed_shelf : Store) (after : Net) (took : IsFed net found (outside input output shelf) (outside input' output fed_shelf) after)
-    (ready : Ready S) (is : IsReady after steps workers trace ready) where
-  abbrev effect : Effect
-  effect = ready_effect ready
+module _ (words : List (List ℕ)) (net : Net) (found : List Found) (input input' output : Device) (shelf fed_shelf : Store) (after : Net) (took : IsFed net found (outside input output shelf) (outside input' output fed_shelf) after) where
+  -- What the words came to on what was fed was carried out, or its last part wasn't
 
-  means : RunMeans (net_on took.given net) steps runs.run.workers trace ready.told.outcome effect
-  means =
-      subst (λ n. RunMeans (net_on took.given net) steps n trace ready.told.outcome effect) (sym same)
-      (subst (λ e. RunMeans (net_on took.given net) steps workers trace ready.told.outcome e) (traced_effect after steps workers trace ready is)
-      (run_means (net_on took.given net) steps workers trace ready.core ready.told.outcome (subst (λ on. IsRun on steps workers ready.core ready.told.outcome) took.after_is is.run)))
-
-  abbrev run : HasRun words took.given ready.told.outcome effect
-  run = record { net = net; steps = steps; trace = trace; runs = runs; fits = took.fits; means = means }
-
-  module _ (output' : Device) (shelf' : Store) where
+  module _ (outcome : Outcome) (effect : Effect) (comes : ComesTo words took.given outcome effect) (used : HasUsed words took.given outcome effect comes input') (output' : Device) (shelf' : Store) where
     abbrev old : Outside
     old = outside input output shelf
 
@@ -53,36 +41,35 @@ module _ {S : Type 0} (words : List (List ℕ)) (net : Net) (steps : ℕ) (trace
     torn name NoMemory stops = torn_memory refl (stops.0 ∙ took.steady.shelf) (subst (λ n. Rose n shelf'.wants) took.wants stops.1)
     torn name _ stops = absurd stops
 
-    pub decides_run : (told : Outcome) → PutsOut effect output output' fed_shelf shelf' ready.told.outcome told → Decides words old new told
-    decides_run told (put_all wrote stored told_is) = subst (λ o. Decides words old new o) (sym told_is) (record {
+    pub decides_put : (told : Outcome) → PutsOut effect output output' fed_shelf shelf' outcome told → Decides words old new told
+    decides_put told (put_all wrote stored told_is) = subst (λ o. Decides words old new o) (sym told_is) (record {
       given = took.given;
       effect = effect;
       gave = took.gave;
       found = took.found;
       done = whole
           (record { output = wrote.gained; files = subst (λ (files : Option Files). AreReplaced (replaced_by effect) files shelf'.files) took.kept stored.replaced })
-          (came (ran run) took.used (record { input = took.steady.input; output = wrote.steady; shelf = stored.steady ∙ took.steady.shelf }));
+          (came comes used (record { input = took.steady.input; output = wrote.steady; shelf = stored.steady ∙ took.steady.shelf }));
     })
-    decides_run told (put_part part kept) = record {
+    decides_put told (put_part part kept) = record {
       given = took.given;
       effect = output_of part.wrote;
       gave = took.gave;
       found = took.found;
       done = whole
           (record { output = part.gained; files = subst (λ (files : Option Files). AreReplaced [] shelf.files files) (sym (ap (λ (s : Store). s.files) kept ∙ took.kept)) (none_replaced shelf.files) })
-          (write_failed
-          (record { outcome = ready.told.outcome; whole = effect; comes = ran run; used = took.used; wrote = part.wrote; cut = part.cut; effect_is = refl })
-          part.fault took.steady.input part.failed (ap (λ (s : Store). s.faults) kept ∙ took.steady.shelf));
+          (write_failed (record { outcome = outcome; whole = effect; comes = comes; used = used; wrote = part.wrote; cut = part.cut; effect_is = refl }) part.fault took.steady.input part.failed
+          (ap (λ (s : Store). s.faults) kept ∙ took.steady.shelf));
     }
-    decides_run told (put_torn name wrote part stops) = record {
+    decides_put told (put_torn name wrote part stops) = record {
       given = took.given;
       effect = effect;
       gave = took.gave;
       found = took.found;
       done = half (record {
-        outcome = ready.told.outcome;
-        run = run;
-        used = took.used;
+        outcome = outcome;
+        comes = comes;
+        used = used;
         name = name;
         done = record { output = wrote.gained; files = subst (λ (files : Option Files). ArePartReplaced name (replaced_by effect) files shelf'.files) took.kept part };
         torn = torn name told stops;
@@ -90,3 +77,18 @@ module _ {S : Type 0} (words : List (List ℕ)) (net : Net) (steps : ℕ) (trace
         output = wrote.steady;
       });
     }
+
+  -- The run of a net
+
+  module _ {S : Type 0} (steps : ℕ) (trace : Option (List ℕ)) (runs : RunsNet words net steps trace) (workers : ℕ) (same : runs.run.workers ≡ workers) (ready : Ready S) (is : IsReady after steps workers trace ready) where
+    means : RunMeans (net_on took.given net) steps runs.run.workers trace ready.told.outcome (ready_effect ready)
+    means =
+        subst (λ n. RunMeans (net_on took.given net) steps n trace ready.told.outcome (ready_effect ready)) (sym same)
+        (subst (λ e. RunMeans (net_on took.given net) steps workers trace ready.told.outcome e) (traced_effect after steps workers trace ready is)
+        (run_means (net_on took.given net) steps workers trace ready.core ready.told.outcome (subst (λ on. IsRun on steps workers ready.core ready.told.outcome) took.after_is is.run)))
+
+    abbrev run : HasRun words took.given ready.told.outcome (ready_effect ready)
+    run = record { net = net; steps = steps; trace = trace; runs = runs; fits = took.fits; means = means }
+
+    pub decides_run : (output' : Device) (shelf' : Store) (told : Outcome) → PutsOut (ready_effect ready) output output' fed_shelf shelf' ready.told.outcome told → Decides words (outside input output shelf) (outside input' output' shelf') told
+    decides_run output' shelf' = decides_put ready.told.outcome (ready_effect ready) (ran run) took.used output' shelf'

@@ -2,13 +2,14 @@
 ghost use Rattle.std.specs.Prelude.{◌≡◌, ◌<◌, ◌≤◌, List, [], ◌∷◌, length, IfOk, MatchOption, MatchResult};
 ghost use Rattle.pipe_model.specs.Reply.{WaitLine, reply, console_from};
 ghost use Rattle.pipe_model.specs.WellFormed.{IsWellFormed};
+ghost use Rattle.core_machine.specs.Answered.{Ends};
 ghost use Rattle.core_machine.specs.Machine.{HasStopped, state_of};
 ghost use Rattle.core_machine.specs.Start.{AreFresh};
 ghost use Rattle.pipe_model.specs.Form.{is_shown};
 ghost use Rattle.net_runs.specs.Kept.{keeping_of};
 ghost use Rattle.outside.specs.Device.{device};
 ghost use Rattle.call_meaning.specs.Meaning.{outcome_of};
-ghost use Rattle.net_runs.specs.Ran.{IsRun};
+ghost use Rattle.net_runs.specs.Ran.{EndsAs, IsRun};
 ghost use Rattle.call_streams.specs.Written.{IsWritten, IsPartWritten};
 
 use call_meaning::Outcome;
@@ -52,6 +53,23 @@ pub(crate) fn run_net<S: Stage + Send, Rt: Threads + Wait + Sync, G: Gate + Sync
     let Some(end) = end else {
         return Err(NoMemory);
     };
+    ran_to(alloc, core, end, steps)
+}
+
+// A core whose run ended so, in so many steps at most, and its outcome.
+pub(crate) fn ran_to<S: Stage>(
+    alloc: Global,
+    core: Core<S>,
+    end: RunEnd,
+    steps: u64,
+) -> Result<Ran<S>, NoMemory>
+    requires few { length core.net.strands ≤ 65536 }
+    requires home { core.out ≡ [] }
+    requires budget { core.budget ≡ steps }
+    requires ends { Ends end core }
+    ensures core { IfOk result (λ ran. ran.core ≡ core) }
+    ensures ends { IfOk result (λ ran. EndsAs steps ran.core ran.outcome) }
+{
     let outcome = match end {
         RunEnd::Complete => outcome_of(alloc, &core)?,
         RunEnd::Spent => Outcome::Spent(steps),

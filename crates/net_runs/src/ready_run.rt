@@ -7,10 +7,10 @@ ghost use Rattle.core_machine.specs.Start.{AreFresh};
 ghost use Rattle.call_meaning.specs.Devices.{store};
 ghost use Rattle.call_streams.specs.Texts.{IsTelling};
 ghost use Rattle.call_streams.specs.Written.{IsPartWritten, IsWritten};
-ghost use Rattle.net_runs.specs.Ran.{run_effect};
+ghost use Rattle.net_runs.specs.Ran.{EndsAs, IsRun, run_effect};
 ghost use Rattle.net_runs.specs.ReadyRuns.{IsReady, PutsOut, ready_effect};
 
-use crate::net_run::{run_net, write_kept};
+use crate::net_run::{Ran, run_net, write_kept};
 use crate::replace::{Put, files_of, replace_files};
 use crate::trace::{Trace, replace_trace, trace_of};
 use call_meaning::Outcome;
@@ -50,6 +50,19 @@ pub fn make_ready<S: Stage + Send, Rt: Threads + Wait + Sync, G: Gate + Sync>(
     ensures { IfOk result (λ ready. IsReady net steps workers trace ready) }
 {
     let ran = run_net(rt, alloc, net, stages, steps, workers, gate)?;
+    ready_of(alloc, ran, trace)
+}
+
+// Makes all texts of a run.
+pub(crate) fn ready_of<S: Stage>(
+    alloc: Global,
+    ran: Ran<S>,
+    trace: Option<Rec>,
+) -> Result<Ready<S>, NoMemory>
+    requires few { length ran.core.net.strands ≤ 65536 }
+    requires ends { (steps : ℕ) × EndsAs steps ran.core ran.outcome }
+    ensures { (net : NetIs) (steps workers : ℕ) → IsRun net steps workers ran.core ran.outcome → IfOk result (λ ready. IsReady net steps workers trace ready) }
+{
     let puts = files_of(alloc, &ran.core, &ran.outcome)?;
     let trace = trace_of(alloc, trace, &ran.core)?;
     let told = with_text(alloc, ran.outcome)?;
@@ -92,7 +105,7 @@ pub fn put_out<S: Stage, O: Sink, F: Shelf>(
 }
 
 // Writes what the run writes: nothing, where too few steps are allowed, and else what its CONSOLE kept. The only error is a write fault.
-fn write_output<S: Stage, O: Sink>(
+pub(crate) fn write_output<S: Stage, O: Sink>(
     output: &mut O,
     core: &Core<S>,
     outcome: &Outcome,

@@ -9,9 +9,9 @@ use crate::check_call::check_call;
 use crate::lint_call::lint_call;
 use crate::run_call::run_call;
 use crate::sample_call::sample_call;
+use crate::sets_call::sets_call;
 use call_meaning::{Call, Status, called};
 use call_streams::{Told, tell, write_all};
-use call_words::Command;
 use outside::{Gate, Shelf, Sink, Source};
 use std::alloc::Global;
 use std::sync::Wait;
@@ -61,26 +61,32 @@ fn run<Rt: Threads + Wait + Sync, I: Source, O: Sink, F: Shelf, G: Gate + Sync>(
         result.outcome }
     ensures text { IsTelling result }
 {
-    let Call { command, net } = match called(alloc, words) {
+    let call = match called(alloc, words) {
         Ok(call) => call,
         Err(outcome) => return tell(alloc, outcome),
     };
-    match command {
-        Command::Run {
+    match call {
+        Call::Run {
+            net,
             workers,
             steps,
             trace,
-            ..
         } => run_call(
             rt, alloc, net, steps, workers, trace, input, output, shelf, gate,
         ),
-        Command::Check { name, .. } => check_call(alloc, net, name, input, output, shelf),
-        Command::Lint { .. } => lint_call(alloc, &net, output),
-        Command::Sample {
+        Call::Check { net, name } => check_call(alloc, net, name, input, output, shelf),
+        Call::Lint { net } => lint_call(alloc, &net, output),
+        Call::Sample {
+            net,
             lines,
             workers,
             steps,
         } => sample_call(rt, alloc, net, lines, steps, workers, output, gate),
+        Call::Sets {
+            name,
+            workers,
+            steps,
+        } => sets_call(rt, alloc, name, steps, workers, input, output, shelf, gate),
     }
 }
 

@@ -54,7 +54,7 @@ module _ (z : TableId) (v : View) where
     seen = subst (λ (x : View). IsPrefix v.seen x.seen) (sym is) (prefix_self v.seen);
   }
 
-  left_works : (n : ℕ) (p q : Pass) → IsWorker z v p → board_of q ≡ board_of p → view q ≡ kept_part n (view p) → n < (view p).tries → IsWorker z v q
+  pub left_works : (n : ℕ) (p q : Pass) → IsWorker z v p → board_of q ≡ board_of p → view q ≡ kept_part n (view p) → n < (view p).tries → IsWorker z v q
   left_works n p q m board is enough = record {
     may = record {
       board = board ∙ m.may.board;
@@ -65,7 +65,7 @@ module _ (z : TableId) (v : View) where
     seen = subst (λ (x : View). IsPrefix v.seen x.seen) (sym is) m.seen;
   }
 
-  right_works : (n : ℕ) (p q : Pass) → IsWorker z v p → board_of q ≡ board_of p → view q ≡ given_part n (view p) → 0 < n → IsWorker z v q
+  pub right_works : (n : ℕ) (p q : Pass) → IsWorker z v p → board_of q ≡ board_of p → view q ≡ given_part n (view p) → 0 < n → IsWorker z v q
   right_works n p q m board is some_tries = record {
     may = record {
       board = board ∙ m.may.board;
@@ -76,7 +76,7 @@ module _ (z : TableId) (v : View) where
     seen = subst (λ (x : View). IsPrefix v.seen x.seen) (sym is) m.seen;
   }
 
-  both_works : (a b q : Pass) → IsWorker z v a → IsWorker z v b → board_of q ≡ board_of a → view q ≡ both (view a) (view b) → IsPrefix (view a).seen (view q).seen → IsWorker z v q
+  pub both_works : (a b q : Pass) → IsWorker z v a → IsWorker z v b → board_of q ≡ board_of a → view q ≡ both (view a) (view b) → IsPrefix (view a).seen (view q).seen → IsWorker z v q
   both_works a b q m n board is seen = record {
     may = record {
       board = board ∙ m.may.board;

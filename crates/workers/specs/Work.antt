@@ -35,12 +35,6 @@ EndsSo Broken v room = v.is_broken ≡ true
 EndsSo Tired v room = v.tries < 3
 EndsSo NoMemory v room = (v.is_broken ≡ true) ⊎ ((n : ℕ) × LacksRoom v room n)
 
--- Inside
-
--- the same, but for the job of one place, which is out
-abbrev pub Owes : View → ℕ → Type 0
-Owes v place = (p : ℕ) → times p v.mine ≡ times p v.home + times p v.lost + times p (place ∷ [])
-
 -- the pass made an entry and brought its job home, and then the core went on by steps on records, with sights only where that is said
 pub record HasTurned (sights : Bool) (v w : View) : Type 0 where
   pub made : View
@@ -55,6 +49,12 @@ abbrev pub TurnsSo : Bool → AfterTurn → View → ℕ → View → ℕ → Ty
 TurnsSo sights Done v before w after = HasTurned sights v w ⊎ ((n : ℕ) × LacksRoom w before n × (n ≤ after))
 TurnsSo sights Idle v before w after = (w.is_broken ≡ false) × LeastReady (machine_of w) None × (0 < length w.out)
 TurnsSo sights (Ended end) v before w after = EndsSo end w after
+
+-- Inside
+
+-- each job of an entry that the pass made is home or lost, but for the job of one place, which is out
+abbrev pub Owes : View → ℕ → Type 0
+Owes v place = (p : ℕ) → times p v.mine ≡ times p v.home + times p v.lost + times p (place ∷ [])
 
 -- a job came home and the core went on, or it is broken for want of memory
 abbrev pub ComesSo : Bool → ℕ → AfterTurn → View → View → Type 0

@@ -23,8 +23,8 @@ pub(crate) struct Hand {
     pub end: Option<WorkEnd>,
 }
 
-// The tries of each worker's pass; of so many, 64 workers have all.
-const TRIES: u64 = 1 << 57;
+/// The tries of each worker's pass; of so many, 64 workers have all.
+pub const WORKER_TRIES: u64 = 1 << 57;
 
 impl Hand {
     fn new(alloc: Global, pass: Pass) -> Hand
@@ -62,7 +62,7 @@ pub(crate) fn deal<S: Stage>(
     };
     let mut rest = pass;
     for _ in 1..workers {
-        let (left, right) = board.split(rest, TRIES);
+        let (left, right) = board.split(rest, WORKER_TRIES);
         rest = left;
         hands.push_reserved(Hand::new(alloc, right));
     }

@@ -8,4 +8,6 @@ mod waits;
 mod working;
 
 pub use driving::{drive, drive_kept};
+pub use hands::WORKER_TRIES;
+pub use turns::{AfterTurn, FEWEST_TRIES, take_turn};
 pub use working::{WorkEnd, work};

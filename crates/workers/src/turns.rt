@@ -17,16 +17,22 @@ use std::sync::Wait;
 
 /// What came of a turn.
 #[derive(Clone, Copy, Debug, PartialEq, Eq)]
-pub(crate) enum AfterTurn {
+pub enum AfterTurn {
     /// A job was run and is home, or the room has grown.
     Done,
     /// No strand may have an event, and others have jobs that are out.
     Idle,
+    /// There is nothing left to do for anyone, or this worker can do no more.
     Ended(WorkEnd),
 }
 
-// Makes the least event that may be, and does what comes of it.
-pub(crate) fn take_turn<S: Stage, R: Wait, G: Gate>(
+/// The fewest tries with which a turn is begun, so that one is left after the finish.
+pub const FEWEST_TRIES: u64 = 3;
+
+/// Makes the least event that may be, enters the gate where a record was seen, goes on with the coroutine and brings it
+/// home, with the steps on records that follow and are short. Where the gate isn't always open, no record is seen by these.
+/// The room is for the record that is looked at, and grows where it is longer: then no event is made.
+pub fn take_turn<S: Stage, R: Wait, G: Gate>(
     rt: &R,
     alloc: Global,
     board: &Board<S>,

@@ -2,7 +2,7 @@ ghost use Rattle.std.specs.Prelude.{◌≡◌, ◌<◌, vec_capacity};
 ghost use Rattle.board.specs.Names.{view, board_of, board_id};
 ghost use Rattle.workers.specs.Work.{IsSettled, HasWorked, EndsSo};
 
-use crate::turns::{AfterTurn, take_turn};
+use crate::turns::{AfterTurn, FEWEST_TRIES, take_turn};
 use crate::waits::Waits;
 use board::{Board, Pass};
 use outside::Gate;
@@ -24,9 +24,6 @@ pub enum WorkEnd {
     /// Its pass has fewer than three tries.
     Tired,
 }
-
-// The fewest tries with which a turn is begun, so that one is left after the finish.
-const FEWEST_TRIES: u64 = 3;
 
 /// Makes the least event that may be, enters the gate where a record was seen, goes on with the coroutine and brings it
 /// home, with the steps on records that follow and are short, again and again, until there is nothing left to do for anyone.

@@ -1,6 +1,6 @@
-use Rattle.std.proofs.Common.{inl, refl}
+use Rattle.std.proofs.Common.{inl, refl, subst}
 use Rattle.call_meaning.specs.declared.status.Outcome.TheVariants.{NoMemory}
-use Rattle.call_meaning.proofs.Commands.{call_runs, call_samples}
+use Rattle.call_meaning.specs.Calls.{IsCall}
 use Rattle.call_streams.proofs.Replies.{decides_told, decides_words}
 use Rattle.pipe_cli.proofs.main_call.run.Goals as goal
 
@@ -12,8 +12,13 @@ returns-in-Err-clause-decides g c =
 
 pub returns-in-Run-clause-decides : goal.returns-in-Run-clause-decides
 returns-in-Run-clause-decides g c =
-    c.run_call.ensures.decides _ (call_runs _ c.in-Ok.call.command c.in-Ok.call.net c.in-Ok.ensures.called c.in-Run.spec c.in-Run.workers c.in-Run.steps c.in-Run.trace c.in-Run.is) refl
+    let is = subst (IsCall _) c.in-Run.is c.in-Ok.ensures.called in
+    c.run_call.ensures.decides _ is.0 is.1
 
-pub returns-clause-decides : goal.returns-clause-decides
-returns-clause-decides g c =
-    c.sample_call.ensures.decides _ _ _ (call_samples _ c.in-Ok.call.command c.in-Ok.call.net c.in-Ok.ensures.called c.in-Sample.lines c.in-Sample.workers c.in-Sample.steps c.in-Sample.is) refl
+pub returns-in-Sample-clause-decides : goal.returns-in-Sample-clause-decides
+returns-in-Sample-clause-decides g c =
+    let is = subst (IsCall _) c.in-Sample.is c.in-Ok.ensures.called in
+    c.sample_call.ensures.decides _ _ _ is.0 is.1
+
+pub returns-in-Sets-clause-decides : goal.returns-in-Sets-clause-decides
+returns-in-Sets-clause-decides g c = c.sets_call.ensures.decides _ (subst (IsCall _) c.in-Sets.is c.in-Ok.ensures.called)

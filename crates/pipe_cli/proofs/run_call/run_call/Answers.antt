@@ -13,7 +13,7 @@ returns-in-Err-clause-decides g c = λ words runs same.
 pub returns-in-Ok-run_fed-clause-decides : goal.returns-in-Ok-run_fed-clause-decides
 returns-in-Ok-run_fed-clause-decides g c = λ words runs same.
     let output : Device = device (g.O.Sink.written c.args.output.now) (g.O.Sink.faults c.args.output.now) in
-    decides_run words c.args.net c.args.steps c.args.trace runs c.args.workers same _ _ _ output _ _ c.in-Ok.net (c.in-Ok.ensures.fed output) c.in-Ok-run_fed.ready c.in-Ok-run_fed.ensures _ _ c.put_out.result.outcome c.put_out.ensures.puts
+    decides_run words c.args.net _ _ _ output _ _ c.in-Ok.net (c.in-Ok.ensures.fed output) c.args.steps c.args.trace runs c.args.workers same c.in-Ok-run_fed.ready c.in-Ok-run_fed.ensures _ _ c.put_out.result.outcome c.put_out.ensures.puts
 
 pub returns-in-Err-run_fed-clause-decides : goal.returns-in-Err-run_fed-clause-decides
 returns-in-Err-run_fed-clause-decides g c = λ words runs same.

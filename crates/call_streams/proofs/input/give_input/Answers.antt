@@ -2,12 +2,12 @@ use Rattle.std.proofs.Common.{◌≡◌, suc, ◌+◌, ◌<◌, ◌||◌, length
 use Rattle.std.proofs.lemmas.Option.{slice_get_read}
 use Rattle.net_graph.specs.Fed.{input_kind, reads_file, with_bytes, with_kind}
 use Rattle.call_streams.proofs.Feds.{kind_read, kind_unread, net_with, with_all, with_length, with_more, with_same}
-use Rattle.call_streams.proofs.input.feed_input.Goals as goal
-use Rattle.call_streams.proofs.input.feed_input.Goals.{then-reads+in_ok-copy, else-reads}
+use Rattle.call_streams.proofs.input.give_input.Goals as goal
+use Rattle.call_streams.proofs.input.give_input.Goals.{then-reads+in_ok-copy, else-reads}
 
 pub bounds-as_slice-strand : goal.bounds-as_slice-strand
 bounds-as_slice-strand c =
-    let size = with_length (input_kind c.args.bytes.items) c.loop-strand.strand c.args.net.now c.loop-strand.net c.loop-strand.invariant.fed in
+    let size = with_length (input_kind c.args.input.now) c.loop-strand.strand c.args.net.now c.loop-strand.net c.loop-strand.invariant.fed in
     let shown = ap (λ xs. length xs) c.as_slice.ensures in
     let end = c.loop-strand.invariant.end in
     let some = c.loop-strand-test.true in
@@ -15,7 +15,7 @@ bounds-as_slice-strand c =
 
 pub feed-requires : goal.feed-requires
 feed-requires c =
-    let size = with_length (input_kind c.args.bytes.items) c.loop-strand.strand c.args.net.now c.loop-strand.net c.loop-strand.invariant.fed in
+    let size = with_length (input_kind c.args.input.now) c.loop-strand.strand c.args.net.now c.loop-strand.net c.loop-strand.invariant.fed in
     let shown = ap (λ xs. length xs) c.as_slice.ensures in
     let end = c.loop-strand.invariant.end in
     let some = c.loop-strand-test.true in
@@ -31,7 +31,7 @@ feed-requires c =
 
 pub loop-strand-preserved : goal.loop-strand-preserved
 loop-strand-preserved c =
-    let change = input_kind c.args.bytes.items in
+    let change = input_kind c.args.input.now in
     let k = c.loop-strand.strand in
     let now = c.loop-strand.net in
     let p = c.index-as_slice-strand.result in
@@ -50,8 +50,8 @@ loop-strand-preserved c =
             end = end;
             fed =
                 w.feed.ensures.fed p at
-                ∙ ap (λ bytes. with_kind now k (with_bytes bytes p.kind)) (w.in_ok-copy.ensures ∙ c.in_ok-input.ensures)
-                ∙ with_more change k c.args.net.now now p c.loop-strand.invariant.fed at (with_bytes c.args.bytes.items p.kind) (kind_read c.args.bytes.items p.kind (sym c.reads.ensures ∙ w.if-reads.true))
+                ∙ ap (λ bytes. with_kind now k (with_bytes bytes p.kind)) w.in_ok-copy.ensures
+                ∙ with_more change k c.args.net.now now p c.loop-strand.invariant.fed at (with_bytes c.args.input.now p.kind) (kind_read c.args.input.now p.kind (sym c.reads.ensures ∙ w.if-reads.true))
                 ∙ ap (λ n. net_with change n c.args.net.now) next;
             whole = w.feed.ensures.whole c.loop-strand.invariant.whole;
           })
@@ -60,7 +60,7 @@ loop-strand-preserved c =
             within = omega (arith, end, some);
             end = end;
             fed =
-                with_same change k c.args.net.now now p c.loop-strand.invariant.fed at (kind_unread c.args.bytes.items p.kind (sym c.reads.ensures ∙ w.if-reads.false))
+                with_same change k c.args.net.now now p c.loop-strand.invariant.fed at (kind_unread c.args.input.now p.kind (sym c.reads.ensures ∙ w.if-reads.false))
                 ∙ ap (λ n. net_with change n c.args.net.now) next;
             whole = c.loop-strand.invariant.whole;
           })
@@ -73,5 +73,5 @@ returns-clause-fed c =
     let none = c.loop-strand-test.false in
     let all : c.loop-strand.strand ≡ length c.args.net.now.strands = omega (arith, end, within, none) in
     c.loop-strand.invariant.fed
-    ∙ ap (λ k. net_with (input_kind c.args.bytes.items) k c.args.net.now) all
-    ∙ with_all (input_kind c.args.bytes.items) c.args.net.now
+    ∙ ap (λ k. net_with (input_kind c.args.input.now) k c.args.net.now) all
+    ∙ with_all (input_kind c.args.input.now) c.args.net.now
