@@ -4,7 +4,7 @@
 _pipe_stages='< > between block buffer change chop collate console copy count dam deal deblock drop duplicate elastic fanin
     faninany fanout fblock find frlabel gate gather hole inside join juxtapose literal locate lookup merge nfind nlocate overlay
     pad reverse sort specs split strip synchronise take tolabel unique xlate'
-_pipe_options='--steps --workers --trace --check --lint --sample'
+_pipe_options='--steps --workers --trace --check --lint --sample --sets'
 
 # _pipe_files TEXT BYTES: the files whose names begin so, and folders with a slash behind them, but for those that have a blank or one of these bytes: a
 # specification can't hold their names as they are.
@@ -76,7 +76,7 @@ _pipe() {
     esac
     case $tool,$before in
     pipe-journal,--check) ;;
-    *,'<' | *,'>' | *,'>>' | *,'2>' | *,--trace | *,--check)
+    *,'<' | *,'>' | *,'>>' | *,'2>' | *,--trace | *,--check | *,--sets)
         _pipe_any_file "$2"
         return
         ;;

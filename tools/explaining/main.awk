@@ -22,6 +22,10 @@ function status_of(line) {
         return 10
     if (line == "journal absent" || line ~ /^journal (line|entry) [0-9]+$/)
         return 11
+    if (is_set_line(line))
+        return 14
+    if (line == "sets absent" || line ~ /^sets line [0-9]+$/)
+        return 15
     return ""
 }
 
@@ -41,6 +45,8 @@ function explain(   line, count, k, found, status, is_stall) {
             print all_lines[k]
         return 0
     }
+    if (explain_sets(count))
+        return 0
     for (k = 1; k <= count; k++)
         if (all_lines[k] == "stall" || all_lines[k] ~ /^wait [0-9]+ [^ ]+ (read|write|commit|join) -?[0-9]+$/ || all_lines[k] ~ /^wait [0-9]+ [^ ]+ (any|gate|primed)$/)
             is_stall = 1
@@ -81,6 +87,7 @@ function explain(   line, count, k, found, status, is_stall) {
 BEGIN {
     docs = ENVIRON["EXPLAIN_DOCS"]
     table_tool = ENVIRON["EXPLAIN_TABLE"]
+    this_tool = ENVIRON["EXPLAIN_SELF"]
     read_pages()
     read_other_names(ENVIRON["EXPLAIN_OTHERS"])
     if (ARGV[1] == "stage")

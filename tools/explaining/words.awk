@@ -21,7 +21,7 @@ function read_words(count,   k, word, option, value, ended, seen, has) {
         has = index(word, "=")
         if (has)
             option = substr(word, 1, has - 1)
-        if (option !~ /^--(workers|steps|trace|check|lint|sample)$/) {
+        if (option !~ /^--(workers|steps|trace|check|lint|sample|sets)$/) {
             blame(quoted(word) " is no option.")
             continue
         }
@@ -44,16 +44,22 @@ function read_words(count,   k, word, option, value, ended, seen, has) {
         blame("The words are those behind `pipe`, without it.")
     else if (specs > 1)
         blame("There are " specs " words where one specification should be: " listed ". Quotes around the whole make one word of it.")
-    if (!specs && !sampled)
+    if (!specs && !sampled && !seen["--sets"])
         blame("There is no specification.")
-    if (seen["--check"] && (sampled || seen["--lint"] || seen["--trace"] || seen["--steps"] || seen["--workers"]))
+    if (seen["--check"] && (sampled || seen["--sets"] || seen["--lint"] || seen["--trace"] || seen["--steps"] || seen["--workers"]))
         blame("`--check` stands without other options.")
-    else if (seen["--lint"] && (sampled || seen["--trace"] || seen["--steps"] || seen["--workers"]))
+    else if (seen["--lint"] && (sampled || seen["--sets"] || seen["--trace"] || seen["--steps"] || seen["--workers"]))
         blame("`--lint` stands without other options.")
     if (sampled && seen["--trace"])
         blame("`--sample` stands without `--trace`.")
+    if (seen["--sets"] && sampled)
+        blame("`--sets` stands without `--sample`.")
+    if (seen["--sets"] && seen["--trace"])
+        blame("`--sets` stands without `--trace`.")
     if (specs && sampled)
         blame("`--sample` stands without a specification.")
+    if (specs && seen["--sets"])
+        blame("`--sets` stands without a specification.")
 }
 
 function blame(text) {
@@ -62,11 +68,13 @@ function blame(text) {
 
 # Whether an option may have the value.
 function judge(option, value,   most) {
-    if (option == "--trace" || option == "--check") {
+    if (option == "--trace" || option == "--check" || option == "--sets") {
         if (value == "" || length(value) > 255)
             blame("The name behind `" option "` has 1 to 255 bytes.")
         if (option == "--check")
             journal = value
+        else if (option == "--sets")
+            sets_file = value
         else
             kept = value
         return
