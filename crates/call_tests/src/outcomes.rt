@@ -36,6 +36,24 @@ const TURNS: &str = "\
 (endchar ?) < a | f: fanin | > x | console ? < b | f: ? console | > y,--trace,t;3\n;a=1\n,b=2\n,x=old,y=old,t=old;0006;1\n2\n;0;;x=1\n2\n,y=3\n#\
 (endchar ?) < a | f: fanin | > x | console ? < b | f: ? console | > y,--trace,t;3\n;a=1\n,b=2\n,x=old,y=old,t=old;0014;1\n2\n;6;;x=1\n2\n,t=old";
 
+// The same of a file of three sets, of which one reads the input, two write the output, and two replace a file; and the text of
+// two, of which one is refused.
+const SETS: &str = "\
+--sets,s;3\n;s=< a | > x\nconsole | > y | console\n< b | console\n,a=1\n,b=2\n,x=old,y=old;1000;;5;read fault\n;x=old,y=old#\
+--sets,s;3\n;s=< a | > x\nconsole | > y | console\n< b | console\n,a=1\n,b=2\n,x=old,y=old;2000;;5;read fault\n;x=old,y=old#\
+--sets,s;3\n;s=< a | > x\nconsole | > y | console\n< b | console\n,a=1\n,b=2\n,x=old,y=old;3000;3\n2\n;0;;x=1\n,y=3\n#\
+--sets,s;3\n;s=< a | > x\nconsole | > y | console\n< b | console\n,a=1\n,b=2\n,x=old,y=old;0100;;6;write fault\n;x=old,y=old#\
+--sets,s;3\n;s=< a | > x\nconsole | > y | console\n< b | console\n,a=1\n,b=2\n,x=old,y=old;0200;3\n;6;write fault\n;x=old,y=old#\
+--sets,s;3\n;s=< a | > x\nconsole | > y | console\n< b | console\n,a=1\n,b=2\n,x=old,y=old;0300;3\n2\n;0;;x=1\n,y=3\n#\
+--sets,s;3\n;s=< a | > x\nconsole | > y | console\n< b | console\n,a=1\n,b=2\n,x=old,y=old;0010;3\n2\n;0;;x=1\n,y=3\n#\
+--sets,s;3\n;s=< a | > x\nconsole | > y | console\n< b | console\n,a=1\n,b=2\n,x=old,y=old;0001;;7;shelf fault s\n;x=old,y=old#\
+--sets,s;3\n;s=< a | > x\nconsole | > y | console\n< b | console\n,a=1\n,b=2\n,x=old,y=old;0002;;7;shelf fault a\n;x=old,y=old#\
+--sets,s;3\n;s=< a | > x\nconsole | > y | console\n< b | console\n,a=1\n,b=2\n,x=old,y=old;0003;;7;shelf fault b\n;x=old,y=old#\
+--sets,s;3\n;s=< a | > x\nconsole | > y | console\n< b | console\n,a=1\n,b=2\n,x=old,y=old;0004;3\n2\n;7;shelf fault x\n;y=old#\
+--sets,s;3\n;s=< a | > x\nconsole | > y | console\n< b | console\n,a=1\n,b=2\n,x=old,y=old;0005;3\n2\n;7;shelf fault y\n;x=1\n#\
+--sets,s;3\n;s=< a | > x\nconsole | > y | console\n< b | console\n,a=1\n,b=2\n,x=old,y=old;0006;3\n2\n;0;;x=1\n,y=3\n#\
+--sets,s;;s=literal a | console\nliteral a | nosuch\n;0010;a\n;6;;";
+
 const JOURNALS: &str = "\
 literal a | console,--check,j;;;;;11;journal absent\n;#\
 literal a | console,--check,j;;j=;;;11;journal line 1\n;#\
@@ -141,6 +159,11 @@ fn faults_of_devices_are_told(rt: HostRuntime) -> Result<(), Fail> {
 #[test]
 fn each_call_may_fail(rt: HostRuntime) -> Result<(), Fail> {
     plays(&rt, rt.alloc(), TURNS)
+}
+
+#[test]
+fn each_call_of_sets_may_fail(rt: HostRuntime) -> Result<(), Fail> {
+    plays(&rt, rt.alloc(), SETS)
 }
 
 #[test]
