@@ -1,5 +1,5 @@
 -- What is still to be given, as more comes, as it is given, and at the end of input.
-use Rattle.std.proofs.Common.{◌≡◌, ℕ, zero, suc, ◌+◌, ◌<◌, ◌≤◌, List, [], ◌∷◌, ◌++◌, length, map, take, drop, replicate, refl, sym, ◌∙◌, ap, subst, arith, Option, Some, None, length-append}
+use Rattle.std.proofs.Common.{◌≡◌, ℕ, zero, suc, Bool, true, false, ◌+◌, ◌<◌, ◌≤◌, List, [], ◌∷◌, ◌++◌, length, map, take, drop, replicate, refl, sym, ◌∙◌, ap, subst, arith, Option, Some, None, length-append}
 use Rattle.std.specs.List.{concat}
 use Rattle.std.proofs.lemmas.List.{append-nil, map-append, drop-append-le, drop-take, length-drop, append_assoc}
 use Rattle.std.proofs.lemmas.List.Folds.{concat-append}
@@ -12,10 +12,13 @@ use Rattle.pipe_model.specs.Row.{Act}
 use Rattle.pipe_model.specs.Row.Act.{Writes}
 use Rattle.pipe_model.specs.Search.{begins}
 use Rattle.pipe_model.specs.Shape.{Records, Stream, acts_of, last_pairs, writes}
+use Rattle.stage_steps.specs.Lists.{IsSpent, Tells}
+use Rattle.block_stages.specs.declared.blocks.Blocks.{Blocks}
+use Rattle.block_stages.specs.declared.blocks.Rest.TheVariants.{Growing}
 use Rattle.block_stages.specs.declared.cuts.Cut.{Cut}
 use Rattle.block_stages.specs.declared.cuts.Cuts.{Cuts}
 use Rattle.block_stages.specs.declared.cuts.Cuts.TheVariants.{Every, At, ByLengths}
-use Rattle.block_stages.specs.Blocks.{text_by, parts_so_far, IsStreamOf, ArePending, TellsEnd}
+use Rattle.block_stages.specs.Blocks.{BlocksStand, text_by, parts_so_far, pending, is_over, IsStreamOf, ArePending, TellsEnd}
 use Rattle.block_stages.specs.Cutting.{parts_by, rest_by, stops_by, code_by, IsFirst, IsSearched}
 use Rattle.block_stages.proofs.AtString.{begins_stays}
 use Rattle.block_stages.proofs.Firsts.{first_by}
@@ -96,6 +99,11 @@ module _ (cuts : Cuts) where
   none_given all text acts are is =
       let none : acts ≡ [] = are.2 ∙ ap (λ ps. writes (all_on 0 (without_last ps))) is in
       (none, (are.0, are.1, sym none ∙ are.2))
+
+-- where none is complete and it goes on, nothing is left
+pub none_left : (x : Blocks) → x.rest ≡ Growing → Tells BlocksStand x false (λ t recs. t.stops recs) → IsFirst (parts_by x.cuts) (pending x) None → IsSpent BlocksStand x
+none_left x growing goes_on none true t recs acts is = absurd (let over = is.2 in let before = ap is_over growing in cc (over, before))
+none_left x growing goes_on none false t recs acts is = ((none_given x.cuts (text_by x.image recs) (pending x) acts is.3.0 none).0, sym (goes_on false t recs acts is))
 
 -- Places that were searched
 

@@ -128,6 +128,15 @@ impl Lists for Blocks {
         Rec::from_slice(alloc, front(behind(&self.text, self.from), self.size))
     }
 
+    // A record that is cut elsewhere than by its length is searched for when it is asked for, and not twice.
+    #[inline(always)]
+    fn is_spent(&self) -> bool {
+        match self.rest {
+            Rest::Growing => !self.stops() && self.cuts.is_short(behind(&self.text, self.at)),
+            Rest::Due | Rest::Nothing => false,
+        }
+    }
+
     #[inline(always)]
     fn halts(&self) -> bool {
         false

@@ -56,7 +56,7 @@ fn first_before(string: &Delimiter, text: &[u8], searched: usize) -> Option<Cut>
 }
 
 impl Cuts {
-    ghost use Rattle.std.specs.Prelude.{◌≡◌, None, IfSome};
+    ghost use Rattle.std.specs.Prelude.{◌≡◌, true, None, IfSome};
     ghost use Rattle.pipe_model.specs.Parts.{last_part};
     ghost use Rattle.block_stages.specs.Cutting.{parts_by, stops_by, code_by, IsFirst, IsSearched, IsWithin};
 
@@ -70,6 +70,17 @@ impl Cuts {
             Cuts::Every { size, fill: _ } => first_block(*size, text),
             Cuts::At(string) => first_before(string, text, searched),
             Cuts::ByLengths => first_by_length(text),
+        }
+    }
+
+    // Whether no record of a text is complete, where its length alone tells so.
+    #[inline(always)]
+    pub(crate) fn is_short(&self, text: &[u8]) -> bool
+        ensures { result ≡ true → IsFirst (parts_by self.now) text.now None }
+    {
+        match self {
+            Cuts::Every { size, fill: _ } => first_block(*size, text).is_none(),
+            _ => false,
         }
     }
 

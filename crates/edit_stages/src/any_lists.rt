@@ -162,7 +162,7 @@ impl Lists for AnyLists {
             AnyLists::Edit(lists) => lists.is_spent(),
             AnyLists::Chop(lists) => lists.is_spent(),
             AnyLists::Split(lists) => lists.is_spent(),
-            AnyLists::Join(_) => false,
+            AnyLists::Join(lists) => lists.is_spent(),
         }
     }
 

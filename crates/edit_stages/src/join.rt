@@ -109,6 +109,11 @@ impl Lists for Joins {
         Ok(mem::replace(&mut self.new, Rec::from_vec(Vec::new(alloc))))
     }
 
+    #[inline(always)]
+    fn is_spent(&self) -> bool {
+        !self.due
+    }
+
     fn halts(&self) -> bool {
         false
     }

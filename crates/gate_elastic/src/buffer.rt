@@ -80,6 +80,11 @@ impl Lists for Buffers {
         }
     }
 
+    #[inline(always)]
+    fn is_spent(&self) -> bool {
+        !self.is_over
+    }
+
     fn halts(&self) -> bool {
         false
     }

@@ -59,6 +59,15 @@ impl Lists for GateLists {
         }
     }
 
+    // A copy is written of each record.
+    #[inline(always)]
+    fn is_spent(&self) -> bool {
+        match self {
+            GateLists::Copy(_) => false,
+            GateLists::Buffer(lists) => lists.is_spent(),
+        }
+    }
+
     #[inline(always)]
     fn halts(&self) -> bool {
         false

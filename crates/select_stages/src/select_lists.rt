@@ -82,7 +82,7 @@ impl Lists for SelectLists {
     fn is_spent(&self) -> bool {
         match self {
             SelectLists::Pick(lists) => lists.is_spent(),
-            SelectLists::Hold(_) => false,
+            SelectLists::Hold(lists) => lists.is_spent(),
         }
     }
 

@@ -154,6 +154,11 @@ impl Lists for Window {
     }
 
     #[inline(always)]
+    fn is_spent(&self) -> bool {
+        matches!(self.due, Due::Nothing)
+    }
+
+    #[inline(always)]
     fn halts(&self) -> bool {
         false
     }

@@ -1,5 +1,5 @@
 -- What a driver of lists answers to the sight of a record.
-use Rattle.std.proofs.Common.{◌≡◌, ℕ, Bool, true, List, [], ◌∷◌, refl, sym, ap, subst, Some, None, Option, option_map, ◌⊎◌, inl, inr}
+use Rattle.std.proofs.Common.{◌≡◌, ℕ, Bool, true, List, ◌∷◌, refl, sym, subst, Option, option_map, ◌⊎◌, inl, inr}
 use Rattle.pipe_model.specs.declared.step.Seen.TheVariants.{Saw}
 use Rattle.pipe_model.specs.declared.step.Want.{Want}
 use Rattle.pipe_model.specs.declared.net.Strand.{Strand}
@@ -10,7 +10,6 @@ use Rattle.stage_steps.specs.declared.listed.Listed.{Listed}
 use Rattle.stage_steps.specs.declared.place.Place.{Place}
 use Rattle.stage_steps.specs.declared.place.Place.TheVariants.{Looking, Passing}
 use Rattle.stage_steps.specs.declared.reply.Reply.{Reply}
-use Rattle.stage_steps.specs.declared.reply.Reply.TheVariants as Reply
 use Rattle.stage_steps.specs.declared.walk.Walk.{Walk}
 use Rattle.stage_steps.specs.Coroutine.{Resumes}
 use Rattle.stage_steps.specs.Drivers.{ListedStands}

@@ -8,12 +8,10 @@ use Rattle.pipe_model.specs.Members.{flag_at}
 use Rattle.pipe_model.specs.Row.{Act}
 use Rattle.pipe_model.specs.Shape.{Records, Stream, at_hand_of}
 use Rattle.stage_steps.specs.declared.group.Group.{Group}
-use Rattle.stage_steps.specs.declared.group.Repeat.{Repeat}
-use Rattle.stage_steps.specs.declared.order.Order.{Order}
+use Rattle.stage_steps.specs.declared.order.Order.TheVariants.{WritesFirst}
 use Rattle.stage_steps.specs.declared.place.Follow.TheVariants.{Take}
 use Rattle.stage_steps.specs.declared.place.Place.TheVariants.{Looking, Writing, Taking, Passing, Ending}
 use Rattle.stage_steps.specs.declared.reply.Reply.{Reply}
-use Rattle.stage_steps.specs.declared.reply.Reply.TheVariants as Reply
 use Rattle.stage_steps.specs.declared.walk.Walk.{Walk}
 use Rattle.stage_steps.specs.KeptText.{KeptText}
 use Rattle.stage_steps.specs.Kept.{kept_after}
@@ -28,7 +26,7 @@ none_kept : (kept : Option KeptText) → is_some kept ≡ false → kept ≡ Non
 none_kept None is = refl
 none_kept (Some k) is = let no : true ≡ false = is in cc
 
-module _ {L : Type 0} (stands : L → Bool → Stream → Records → List Act → Type 0) (made : L → Option (List ℕ)) (looks : Bool) (x : L) (w : Walk) (plain : LooksPlainly w) (bytes : List ℕ) (between y : L) (sees : Sees stands looks x between bytes) (on : GoesOn stands y) where
+module _ {L : Type 0} (stands : L → Bool → Stream → Records → List Act → Type 0) (made : L → Option (List ℕ)) (looks : Bool) (x : L) (w : Walk) (plain : LooksPlainly w) (first : w.order ≡ WritesFirst) (bytes : List ℕ) (between y : L) (sees : Sees stands looks x between bytes) (on : GoesOn stands y) where
   abbrev flags : List Bool
   flags = w.outputs.flags.items
 
@@ -50,7 +48,7 @@ module _ {L : Type 0} (stands : L → Bool → Stream → Records → List Act �
   tells : Leaves → Tells stands between (Writing Take) (sight_place w.order)
   tells leaves over t recs acts is =
       let left = leaves over t recs acts is in
-      sym (ap (λ halts. cond halts (Ending (t.code recs)) (place_with w.order)) (sym (on.1 over t recs left.0 left.1)) ∙ ap place_with plain.2)
+      sym (ap (λ halts. cond halts (Ending (t.code recs)) (place_with w.order)) (sym (on.1 over t recs left.0 left.1)) ∙ ap place_with first)
 
   fetches : (given : Option Group) → Fetches stands made flags between None y given → FetchesOne given
   fetches given = subst (λ hand. Fetches stands made flags between hand y given) (sym plain.1)
@@ -66,7 +64,7 @@ module _ {L : Type 0} (stands : L → Bool → Stream → Records → List Act �
     sees,
     tells leaves,
     (y, None, fetches None fetched, (refl, plain.1, λ t recs acts is. refl, refl)),
-    (refl, ((inl refl, plain.2, λ over t recs acts is. sym (on.0 over t recs acts is).1), is)),
+    (refl, (inl (inl refl, first, λ over t recs acts is. sym (on.0 over t recs acts is).1), is)),
   )
 
   -- the lists give nothing
@@ -99,7 +97,7 @@ module _ {L : Type 0} (stands : L → Bool → Stream → Records → List Act �
 
       -- and is passed on, where nothing is kept
       pub passes_on : is_some w.kept ≡ false → (v : Walk) (asked : Want) → v ≡ record w { place = Passing } → asked ≡ Asked.Write output (Same 0) → SiftsOn stands made looks x w bytes y v asked Reply.Passes
-      passes_on keeps v asked is asked_is = writes v asked Reply.Passes (asked_is, ((inl refl, none_kept w.kept keeps, plain.1, plain.2, on.0), is))
+      passes_on keeps v asked is asked_is = writes v asked Reply.Passes (asked_is, ((inl refl, none_kept w.kept keeps, plain.1, first, on.0), is))
 
       pub asks_on : (v : Walk) (asked : Want) → v ≡ at_writing → asked ≡ Asked.Write output (Same 0) → SiftsOn stands made looks x w bytes y v asked Reply.Asks
       asks_on v asked is asked_is = writes v asked Reply.Asks (asked_is, is)

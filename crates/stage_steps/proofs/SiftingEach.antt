@@ -1,5 +1,5 @@
 -- The lists of a stage that only writes pairs for each record see a record, or sift it, as the stage does.
-use Rattle.std.proofs.Common.{◌≡◌, Bool, List, [], ◌∷◌, ◌++◌, ℕ, Some, None, Option, sym, ap, subst}
+use Rattle.std.proofs.Common.{Bool, List, [], ◌∷◌, ◌++◌, ℕ, Some, None, Option, sym, ap, subst}
 use Rattle.pipe_model.specs.Row.{Act}
 use Rattle.pipe_model.specs.Shape.{Records, Outs, Stream, acts_of}
 use Rattle.stage_steps.specs.declared.each.Each.{Each}

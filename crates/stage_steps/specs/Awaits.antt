@@ -12,6 +12,7 @@ use Rattle.pipe_model.specs.Shape.{Records, Stream}
 use Rattle.stage_steps.specs.Lists.{Sifts}
 use Rattle.stage_steps.specs.Replies.{Replies}
 use Rattle.stage_steps.specs.Walk.{LooksPlainly}
+use Rattle.stage_steps.specs.declared.order.Order.TheVariants.{WritesFirst}
 use Rattle.stage_steps.specs.declared.place.Place.TheVariants.{Looking}
 use Rattle.stage_steps.specs.declared.reply.Reply.TheVariants.{Takes}
 use Rattle.stage_steps.specs.declared.sifted.Sifted.TheVariants.{Passes}
@@ -25,9 +26,9 @@ TakesWithout stands x string = (bytes : List ℕ) → holds string bytes ≡ fal
 abbrev pub PassesWithout : {L : Type 0} → (L → Bool → Stream → Records → List Act → Type 0) → (L → Option (List ℕ)) → Bool → L → List ℕ → Type 0
 PassesWithout stands made looks x string = (bytes : List ℕ) → holds string bytes ≡ false → Sifts stands made looks x x bytes (Passes 1)
 
--- it looks plainly at the next record, has nothing to hand on, keeps no text, and the output isn't open
+-- it looks plainly at the next record, writes before it takes, has nothing to hand on, keeps no text, and the output isn't open
 abbrev pub TakesPlainly : Walk → ℕ → Type 0
-TakesPlainly w output = LooksPlainly w × (w.place ≡ Looking) × (w.kept ≡ None) × (flag_at w.outputs.flags.items output ≡ false)
+TakesPlainly w output = LooksPlainly w × (w.order ≡ WritesFirst) × (w.place ≡ Looking) × (w.kept ≡ None) × (flag_at w.outputs.flags.items output ≡ false)
 
 -- the first so many bytes of a part, where they are any, don't hold the string
 abbrev pub IsClear : List ℕ → List ℕ → ℕ → Type 0

@@ -1,5 +1,5 @@
 -- What a coroutine promises by its answer to the sight of a record of input 0.
-use Rattle.std.specs.Prelude.{◌≡◌, ℕ, ◌+◌, ◌<◌, List, [], length}
+use Rattle.std.specs.Prelude.{ℕ, ◌+◌, ◌<◌, List, [], length}
 use Rattle.pipe_model.specs.declared.net.Strand.{Strand}
 use Rattle.pipe_model.specs.declared.step.Seen.TheVariants.{Saw, Took}
 use Rattle.pipe_model.specs.declared.step.Want.{Want}

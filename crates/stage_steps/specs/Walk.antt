@@ -16,13 +16,14 @@ use Rattle.stage_steps.specs.declared.group.Group.{Group}
 use Rattle.stage_steps.specs.declared.group.Group.TheVariants.{AtHand, New}
 use Rattle.stage_steps.specs.declared.group.Repeat.{Repeat}
 use Rattle.stage_steps.specs.declared.order.Order.{Order}
-use Rattle.stage_steps.specs.declared.order.Order.TheVariants.{WritesFirst}
+use Rattle.stage_steps.specs.declared.order.Order.TheVariants.{WritesFirst, TakesFirst}
 use Rattle.stage_steps.specs.declared.place.Follow.{Follow}
 use Rattle.stage_steps.specs.declared.place.Follow.TheVariants.{Take, Look, End}
 use Rattle.stage_steps.specs.declared.place.Place.{Place}
 use Rattle.stage_steps.specs.declared.place.Place.TheVariants.{Starting, Committing, Looking, Writing, Taking, Passing, Ending}
 use Rattle.stage_steps.specs.declared.reply.Reply.{Reply}
-use Rattle.stage_steps.specs.declared.reply.Reply.TheVariants as Reply
+use Rattle.stage_steps.specs.declared.sifted.Sifted.{Sifted}
+use Rattle.stage_steps.specs.declared.sifted.Sifted.TheVariants.{Drops, Passes, Gives}
 use Rattle.stage_steps.specs.declared.walk.Walk.{Walk}
 use Rattle.stage_steps.specs.Group.{group_acts, held_acts, is_due, less_one, IsHeld, IsOfRecord, IsLeftOfRecord}
 use Rattle.stage_steps.specs.Kept.{kept_after}
@@ -61,9 +62,17 @@ abbrev pub IsPassing : {L : Type 0} → (L → Bool → Stream → Records → L
 IsPassing stands x w v false = v ≡ w
 IsPassing stands x w v true = CanPass stands x w × (v ≡ record w { place = Passing })
 
+-- it has written the pairs of the record at hand, waits until that is taken, and doesn't stop behind it
+abbrev pub HasWrittenFirst : {L : Type 0} → (L → Bool → Stream → Records → List Act → Type 0) → L → Walk → Type 0
+HasWrittenFirst stands x w = ((w.place ≡ Taking) ⊎ (w.place ≡ Passing)) × (w.order ≡ WritesFirst) × Tells stands x false (λ t recs. t.stops recs)
+
+-- it takes the record at hand before it writes the pairs of that, of which there are none
+abbrev pub HasNoneToWrite : {L : Type 0} → (L → Bool → Stream → Records → List Act → Type 0) → L → Walk → Type 0
+HasNoneToWrite stands x w = (w.place ≡ Taking) × (w.order ≡ TakesFirst) × (w.hand ≡ None) × IsSpent stands x
+
 -- it waits until the record at hand is taken, and all that it does then is to look at the next one
 abbrev pub CanGoOn : {L : Type 0} → (L → Bool → Stream → Records → List Act → Type 0) → L → Walk → Type 0
-CanGoOn stands x w = ((w.place ≡ Taking) ⊎ (w.place ≡ Passing)) × (w.order ≡ WritesFirst) × Tells stands x false (λ t recs. t.stops recs)
+CanGoOn stands x w = HasWrittenFirst stands x w ⊎ HasNoneToWrite stands x w
 
 -- whether it does so, and where it stands then, with what it keeps counted as taken
 abbrev pub IsGoingOn : {L : Type 0} → (L → Bool → Stream → Records → List Act → Type 0) → L → Walk → Walk → Bool → Type 0
@@ -97,9 +106,15 @@ abbrev pub Asks : {L : Type 0} → (L → Bool → Stream → Records → List A
 Asks {L} stands made flags x hand (Writing follow) z hand' place asked = (y : L) × (given : Option Group) × Fetches stands made flags x hand y given × Turns stands made follow y given z hand' place asked
 Asks stands made flags x hand from z hand' place asked = (z ≡ x) × (hand' ≡ hand) × (place ≡ from) × (asked ≡ want_at from)
 
--- it looks at the next record, writes the pairs of a record before it takes that, and has nothing in hand
+-- it looks at the next record, and has nothing in hand
 abbrev pub LooksPlainly : Walk → Type 0
-LooksPlainly w = ((w.place ≡ Looking) ⊎ (w.place ≡ Passing)) × (w.hand ≡ None) × (w.order ≡ WritesFirst)
+LooksPlainly w = ((w.place ≡ Looking) ⊎ (w.place ≡ Passing)) × (w.hand ≡ None)
+
+-- it is said at once what the lists give only where that is written before the record is taken
+abbrev pub IsGivenBy : Order → Sifted → Type 0
+IsGivenBy order Drops = order ≡ WritesFirst
+IsGivenBy order (Passes output) = order ≡ WritesFirst
+IsGivenBy order Gives = Unit {0}
 
 -- it writes pairs, has nothing in hand and keeps no text, and output 0 is open
 abbrev pub WritesPlainly : Walk → Type 0

@@ -4,8 +4,8 @@ ghost use Rattle.stage_steps.specs.declared.place.Place.TheVariants.{Writing};
 ghost use Rattle.stage_steps.specs.Outputs.{none_left};
 ghost use Rattle.stage_steps.specs.Group.{less, less_one, IsHeld};
 ghost use Rattle.stage_steps.specs.Places.{look_place, sight_place, taken_place};
-ghost use Rattle.stage_steps.specs.Lists.{Tells};
-ghost use Rattle.stage_steps.specs.Walk.{IsBegun, Hears, CanPass, IsPassing, CanGoOn, IsGoingOn, Fetches, Puts, Asks, TellsBehind, LooksPlainly, WritesPlainly, IsReply, SiftsOn};
+ghost use Rattle.stage_steps.specs.Lists.{Sifts, Tells};
+ghost use Rattle.stage_steps.specs.Walk.{IsBegun, Hears, CanPass, IsPassing, CanGoOn, IsGoingOn, Fetches, Puts, Asks, TellsBehind, LooksPlainly, WritesPlainly, IsReply, IsGivenBy, SiftsOn};
 ghost use Rattle.stage_steps.specs.Kept.{kept_after};
 ghost use Rattle.stage_steps.specs.Awaits.{TakesPlainly};
 ghost use Rattle.stage_steps.specs.declared.place.Place.TheVariants.{Looking};
@@ -182,9 +182,14 @@ pub(crate) fn passes<L: Lists>(lists: &L, walk: &mut Walk) -> bool
 fn can_go_on<L: Lists>(lists: &L, walk: &Walk) -> bool
     ensures { result ≡ true → CanGoOn L.stands lists.now walk.now }
 {
-    matches!(walk.place, Place::Taking | Place::Passing)
-        && matches!(walk.order, Order::WritesFirst)
-        && !lists.stops()
+    match walk.order {
+        Order::WritesFirst => {
+            matches!(walk.place, Place::Taking | Place::Passing) && !lists.stops()
+        }
+        Order::TakesFirst => {
+            matches!(walk.place, Place::Taking) && walk.hand.is_none() && lists.is_spent()
+        }
+    }
 }
 
 // Whether it goes on to the next record, when the one at hand was taken. It stands there then, and what it keeps of that
@@ -357,14 +362,12 @@ pub(crate) fn writes_plainly(walk: &Walk) -> bool
         && walk.outputs.is_open(0)
 }
 
-// Whether it looks at the next record, writes the pairs of a record before it takes that, and has nothing in hand.
+// Whether it looks at the next record, and has nothing in hand.
 #[inline(always)]
 pub(crate) fn looks_plainly(walk: &Walk) -> bool
     ensures { result ≡ true → LooksPlainly walk.now }
 {
-    matches!(walk.place, Place::Looking | Place::Passing)
-        && matches!(walk.order, Order::WritesFirst)
-        && walk.hand.is_none()
+    matches!(walk.place, Place::Looking | Place::Passing) && walk.hand.is_none()
 }
 
 // Whether it takes a record as it sees it that is for this output, and is then as before.
@@ -374,6 +377,7 @@ pub(crate) fn takes_plainly(walk: &Walk, output: u16) -> bool
 {
     matches!(walk.place, Place::Looking)
         && looks_plainly(walk)
+        && matches!(walk.order, Order::WritesFirst)
         && walk.kept.is_none()
         && !walk.outputs.is_open(output)
 }
@@ -405,6 +409,27 @@ fn take_on(walk: &mut Walk) -> Reply
     Reply::Takes
 }
 
+// The lists see a record, and may say at once what they give for it, where that is written before the record is taken.
+#[inline(always)]
+fn sift_by<L: Lists>(
+    lists: &mut L,
+    order: Order,
+    alloc: Global,
+    bytes: &[u8],
+) -> Result<Sifted, NoMemory>
+    ensures looks_same { L.is_looking lists.new ≡ L.is_looking lists.old }
+    ensures sifts { IfOk result (λ sifted. Sifts L.stands L.made (L.is_looking lists.old) lists.old lists.new bytes.now sifted) }
+    ensures given { IfOk result (λ sifted. IsGivenBy order sifted) }
+{
+    match order {
+        Order::WritesFirst => lists.sift(alloc, bytes),
+        Order::TakesFirst => {
+            lists.see(alloc, bytes)?;
+            Ok(Sifted::Gives)
+        }
+    }
+}
+
 // It sees a record, where it looks plainly at it, and what it keeps of that is kept.
 #[inline(always)]
 pub(crate) fn sift<L: Lists>(
@@ -418,7 +443,7 @@ pub(crate) fn sift<L: Lists>(
     ensures looks_same { L.is_looking lists.new ≡ L.is_looking lists.old }
     ensures sifts { IfOk result (λ reply. SiftsOn L.stands L.made (L.is_looking lists.old) lists.old walk.old bytes.now lists.new walk.new asked.new reply) }
 {
-    match lists.sift(alloc, bytes)? {
+    match sift_by(lists, walk.order, alloc, bytes)? {
         Sifted::Drops => Ok(take_on(walk)),
         Sifted::Passes(output) => if !walk.outputs.is_open(output) {
             Ok(take_on(walk))

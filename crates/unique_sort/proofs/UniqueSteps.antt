@@ -1,5 +1,5 @@
 -- What UNIQUE gives when it sees one more record, or the end of input.
-use Rattle.std.proofs.Common.{◌≡◌, ℕ, ◌<◌, Bool, true, false, not, List, [], ◌∷◌, ◌++◌, length, refl, sym, ◌∙◌, ap, subst, arith, Some}
+use Rattle.std.proofs.Common.{◌≡◌, ℕ, ◌<◌, Bool, true, false, not, List, [], ◌∷◌, ◌++◌, length, refl, sym, ◌∙◌, ap, subst, arith, Some, None}
 use Rattle.std.specs.Prelude.{◌==◌, if◌then◌else◌}
 use Rattle.std.proofs.lemmas.Bool.{ne_eqb}
 use Rattle.std.proofs.lemmas.List.{length_push}
@@ -7,8 +7,9 @@ use Rattle.pipe_model.specs.declared.kind.Keep.TheVariants.{First}
 use Rattle.pipe_model.specs.OrderRows.{unique}
 use Rattle.pipe_model.specs.Row.Act.{Writes}
 use Rattle.pipe_model.specs.Shape.{Records, Stream, writes, acts_of, last_pairs, at_hand_of}
-use Rattle.stage_steps.specs.Lists.{Sees, SeesEach, Finishes}
+use Rattle.stage_steps.specs.Lists.{Sees, SeesEach, SiftsEach, Finishes}
 use Rattle.stage_steps.specs.Waiting.{waiting_act, IsWaiting}
+use Rattle.stage_steps.specs.declared.sifted.Sifted.TheVariants.{Passes}
 use Rattle.stage_steps.proofs.Walks.{at_hand}
 use Rattle.unique_sort.specs.declared.run.Run.{Run}
 use Rattle.unique_sort.specs.declared.unique.Firsts.{Firsts}
@@ -53,6 +54,15 @@ sees_first x y bytes belongs next waits = λ outs recs rec is room came.
           ∙ sym (ap (λ w. waiting_act w (at_hand_of all)) waits ∙ ap (λ o. Writes o (at_hand_of all) ∷ []) output ∙ ap (λ r. Writes (if goes_on range (last_run range recs) rec then 1 else 0) r ∷ []) (at_hand recs rec)),
       subst (λ w. IsWaiting w all) (sym waits) (some_there recs rec),
     )
+
+-- or the record is given at once
+pub sifts_first : (x y : Firsts) (bytes : List ℕ) (belongs : Bool) (output : ℕ) → IsNextRun x.run y.run bytes belongs → output ≡ (if belongs then 1 else 0) → y.waiting ≡ None → SiftsEach FirstsStand (λ _. None) true x y bytes (Passes output)
+sifts_first x y bytes belongs output next output_is none = (
+  record y { waiting = Some output },
+  sees_first x (record y { waiting = Some output }) bytes belongs next (ap Some output_is),
+  (tt, λ over outs recs acts stood. ([], stood.3, (stood.0, stood.1, stood.2, sym (ap (λ w. waiting_act w (at_hand_of recs)) none), subst (λ w. IsWaiting w recs) (sym none) tt), stood.4)),
+  λ outs recs acts stood. stood.3 ∙ ap (λ w. waiting_act w (at_hand_of recs)) none,
+)
 
 -- the run that is held, as it is
 holds_run : (x : Holds) (recs : Records) → IsHolding x recs → (x.run.count, x.last) ≡ last_run x.run.range recs

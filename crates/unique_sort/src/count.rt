@@ -128,6 +128,11 @@ impl Lists for Counts {
         Ok(mem::replace(&mut self.new, Rec::from_vec(Vec::new(alloc))))
     }
 
+    #[inline(always)]
+    fn is_spent(&self) -> bool {
+        !self.due
+    }
+
     fn halts(&self) -> bool {
         false
     }

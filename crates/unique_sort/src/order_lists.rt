@@ -4,7 +4,7 @@ use crate::count::Counts;
 use crate::sort::Sorts;
 use crate::unique::{Firsts, Holds};
 use pipe_model::{Keep, Kind, NoMemory, Rec};
-use stage_steps::{Each, Group, Lists, Order};
+use stage_steps::{Each, Group, Lists, Order, Sifted};
 use std::alloc::Global;
 
 /// The lists of UNIQUE, SORT or COUNT. They are one type to the driver, so that a further stage adds no driver to the loop
@@ -80,6 +80,18 @@ impl Lists for OrderLists {
         }
     }
 
+    // The others take each record before they write.
+    #[inline(always)]
+    fn sift(&mut self, alloc: Global, bytes: &[u8]) -> Result<Sifted, NoMemory> {
+        match self {
+            OrderLists::First(lists) => lists.sift(alloc, bytes),
+            _ => {
+                self.see(alloc, bytes)?;
+                Ok(Sifted::Gives)
+            }
+        }
+    }
+
     fn end(&mut self, alloc: Global) -> Result<(), NoMemory> {
         match self {
             OrderLists::First(lists) => lists.end(alloc),
@@ -108,12 +120,13 @@ impl Lists for OrderLists {
         }
     }
 
-    // The others aren't asked, since they take each record before they write.
     #[inline(always)]
     fn is_spent(&self) -> bool {
         match self {
             OrderLists::First(lists) => lists.is_spent(),
-            _ => false,
+            OrderLists::Hold(lists) => lists.is_spent(),
+            OrderLists::Sort(lists) => lists.is_spent(),
+            OrderLists::Count(lists) => lists.is_spent(),
         }
     }
 

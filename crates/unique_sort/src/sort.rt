@@ -105,6 +105,11 @@ impl Lists for Sorts {
         }
     }
 
+    #[inline(always)]
+    fn is_spent(&self) -> bool {
+        !self.is_over
+    }
+
     fn halts(&self) -> bool {
         false
     }

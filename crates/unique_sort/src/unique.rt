@@ -5,7 +5,7 @@ ghost use Rattle.unique_sort.specs.Runs.{output_in};
 use crate::run::Run;
 use itoa::Buffer;
 use pipe_model::{Keep, NoMemory, Range, Rec};
-use stage_steps::{Each, EachRecord, Group, Lists, take_waiting};
+use stage_steps::{Each, EachRecord, Group, Lists, Sifted, take_waiting};
 use std::alloc::Global;
 use std::mem;
 
@@ -57,6 +57,13 @@ impl EachRecord for Firsts {
         let goes_on = self.run.add(bytes)?;
         self.waiting = Some(first_output(goes_on));
         Ok(())
+    }
+
+    #[inline(always)]
+    fn sift(&mut self, _alloc: Global, bytes: &[u8]) -> Result<Sifted, NoMemory> {
+        let goes_on = self.run.add(bytes)?;
+        self.waiting = None;
+        Ok(Sifted::Passes(first_output(goes_on)))
     }
 
     fn next(&mut self) -> Option<Group> {
@@ -193,6 +200,11 @@ impl Lists for Holds {
 
     fn hand_over(&mut self, alloc: Global) -> Result<Rec, NoMemory> {
         Ok(mem::replace(&mut self.new, Rec::from_vec(Vec::new(alloc))))
+    }
+
+    #[inline(always)]
+    fn is_spent(&self) -> bool {
+        self.due.is_none()
     }
 
     fn halts(&self) -> bool {

@@ -1,4 +1,4 @@
-use Rattle.std.proofs.Common.{◌≡◌, ◌<◌, ◌+◌, List, [], ◌∷◌, ◌++◌, length, Some, refl, ◌∙◌, ap, arith}
+use Rattle.std.proofs.Common.{◌≡◌, ◌<◌, ◌+◌, [], ◌∷◌, ◌++◌, length, Some, refl, ap, arith}
 use Rattle.std.proofs.lemmas.List.{length-append}
 use Rattle.pipe_model.specs.Shape.{Outs, acts_of}
 use Rattle.stage_steps.specs.declared.copies.Copies.{Copies}
