@@ -6,3 +6,4 @@ pub mod Reached
 pub mod Numbering
 pub mod CycleSteps
 pub mod Giving
+pub mod Hands

@@ -1,4 +1,5 @@
 pub mod Output
+pub mod Hands
 pub mod Desks
 pub mod Cycles
 pub mod SpecsLists

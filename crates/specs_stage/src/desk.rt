@@ -5,13 +5,13 @@ ghost use Rattle.pipe_model.specs.Shape.{Records};
 ghost use Rattle.pipe_model.specs.SpecsRows.{counter, origin_of, amount_of, effect, run, at_first, begun, closed, first_of_all, has_unwritten};
 ghost use Rattle.specs_stage.specs.Desks.{desk_of, set_value, with_counter, origin_from, is_read, before_read, with_output_written, with_written};
 
+use crate::hand::{Hand, Word};
 use crate::hex_digits::{add_from_hex, add_to_hex};
 use crate::numbers::{
     add_in_ten_places, add_signed_decimal, counter_after, number_in, without_blanks,
 };
 use crate::output::put;
 use pipe_model::{Align, Amount, Convert, Item, NoMemory, Origin, Rec, SetOp, Spot};
-use stage_steps::part_of;
 use std::alloc::Global;
 use std::mem;
 
@@ -30,6 +30,8 @@ pub struct Desk {
     // Room for the digits of a field, and for a field that is converted.
     digits: Vec<u8>,
     room: Vec<u8>,
+    // Room for the words of a record.
+    words: Vec<Word>,
 }
 
 // Makes `room` what is made of a field, where it can be converted. Where it can't, `false` says so.
@@ -74,18 +76,19 @@ fn stripped(strip: bool, field: &[u8]) -> &[u8]
 }
 
 // The bytes of an origin; `digits` is for those of a number.
-fn origin_of<'a>(
+fn origin_of<'a, 'rec: 'a>(
     origin: &'a Origin,
     number: u64,
     counter: i64,
-    hand: &'a [u8],
+    hand: &mut Hand<'rec>,
     digits: &'a mut Vec<u8>,
 ) -> Result<&'a [u8], NoMemory>
-    ensures { IfOk result (λ bytes. bytes.now ≡ origin_from origin.now number counter hand.now) }
+    ensures stays { hand.new ≡ hand.old }
+    ensures bytes { IfOk result (λ bytes. bytes.now ≡ origin_from origin.now number counter hand.old) }
 {
     digits.clear();
     match origin {
-        Origin::Cut(range) => Ok(part_of(*range, hand)),
+        Origin::Cut(range) => hand.part(*range),
         Origin::Text(text) => Ok(text.bytes()),
         Origin::Number => {
             add_in_ten_places(digits, number)?;
@@ -126,6 +129,7 @@ impl Desk {
             written: Vec::new(alloc),
             digits: Vec::new(alloc),
             room: Vec::new(alloc),
+            words: Vec::new(alloc),
         }
     }
 
@@ -183,20 +187,32 @@ impl Desk {
     }
 
     // A value for a counter, where the part of the record at hand spells one.
-    fn amount(&self, amount: Amount, hand: &[u8]) -> Option<i64>
-        ensures { (coming : Records) → result ≡ amount_of amount (desk_of self.now hand.now coming) }
+    fn amount(&self, amount: Amount, hand: &mut Hand<'_>) -> Result<Option<i64>, NoMemory>
+        ensures stays { hand.new ≡ hand.old }
+        ensures value { IfOk result (λ value. (coming : Records) → value ≡ amount_of amount (desk_of self.now hand.old coming)) }
     {
-        match amount {
+        Ok(match amount {
             Amount::Whole(value) => Some(value),
             Amount::Counter(k) => Some(self.counter(k)),
-            Amount::Number(range) => number_in(part_of(range, hand)),
-        }
+            Amount::Number(range) => number_in(hand.part(range)?),
+        })
     }
+
     // The number that a SET gives its counter, where there is one.
-    fn set_value(&self, k: u8, op: SetOp, amount: Amount, hand: &[u8]) -> Option<i64>
-        ensures { (coming : Records) → result ≡ set_value k op amount (desk_of self.now hand.now coming) }
+    fn set_value(
+        &self,
+        k: u8,
+        op: SetOp,
+        amount: Amount,
+        hand: &mut Hand<'_>,
+    ) -> Result<Option<i64>, NoMemory>
+        ensures stays { hand.new ≡ hand.old }
+        ensures value { IfOk result (λ value. (coming : Records) → value ≡ set_value k op amount (desk_of self.now hand.old coming)) }
     {
-        counter_after(op, self.counter(k), self.amount(amount, hand)?)
+        match self.amount(amount, hand)? {
+            Some(value) => Ok(counter_after(op, self.counter(k), value)),
+            None => Ok(None),
+        }
     }
 
     // Gives a counter a value.
@@ -230,14 +246,15 @@ impl Desk {
     // Puts a field into the output. Where it can't be converted, `false` says so.
     fn put_field(
         &mut self,
-        hand: &[u8],
+        hand: &mut Hand<'_>,
         origin: &Origin,
         strip: bool,
         convert: Option<Convert>,
         spot: Spot,
         align: Align,
     ) -> Result<bool, NoMemory>
-        ensures { IfOk result (λ good. (coming : Records) → effect (Field origin.now strip convert spot align) (desk_of self.old hand.now coming) ≡ (if good then Some (desk_of self.new hand.now coming) else None)) }
+        ensures stays { hand.new ≡ hand.old }
+        ensures effect { IfOk result (λ good. (coming : Records) → effect (Field origin.now strip convert spot align) (desk_of self.old hand.old coming) ≡ (if good then Some (desk_of self.new hand.old coming) else None)) }
     {
         let counter = self.printed(origin);
         let field = origin_of(origin, self.number, counter, hand, &mut self.digits)?;
@@ -251,21 +268,29 @@ impl Desk {
     }
 
     // Changes a counter. Where that is a fault, `false` says so.
-    fn set(&mut self, hand: &[u8], k: u8, op: SetOp, amount: Amount) -> bool
-        ensures { (coming : Records) → effect (Set k op amount) (desk_of self.old hand.now coming) ≡ (if result then Some (desk_of self.new hand.now coming) else None) }
+    fn set(
+        &mut self,
+        hand: &mut Hand<'_>,
+        k: u8,
+        op: SetOp,
+        amount: Amount,
+    ) -> Result<bool, NoMemory>
+        ensures stays { hand.new ≡ hand.old }
+        ensures effect { IfOk result (λ good. (coming : Records) → effect (Set k op amount) (desk_of self.old hand.old coming) ≡ (if good then Some (desk_of self.new hand.old coming) else None)) }
     {
-        match self.set_value(k, op, amount, hand) {
+        match self.set_value(k, op, amount, hand)? {
             Some(value) => {
                 self.set_counter(k, value);
-                true
+                Ok(true)
             }
-            None => false,
+            None => Ok(false),
         }
     }
 
     // Does what an item says, which is no READ, with the record at hand. Where that is a fault, `false` says so.
-    fn effect(&mut self, alloc: Global, item: &Item, hand: &[u8]) -> Result<bool, NoMemory>
-        ensures { IfOk result (λ good. is_read item.now ≡ false → (coming : Records) → effect item.now (desk_of self.old hand.now coming) ≡ (if good then Some (desk_of self.new hand.now coming) else None)) }
+    fn effect(&mut self, alloc: Global, item: &Item, hand: &mut Hand<'_>) -> Result<bool, NoMemory>
+        ensures stays { hand.new ≡ hand.old }
+        ensures effect { IfOk result (λ good. is_read item.now ≡ false → (coming : Records) → effect item.now (desk_of self.old hand.old coming) ≡ (if good then Some (desk_of self.new hand.old coming) else None)) }
     {
         match item {
             Item::Field {
@@ -288,18 +313,19 @@ impl Desk {
                 counter,
                 op,
                 amount,
-            } => Ok(self.set(hand, *counter, *op, *amount)),
+            } => self.set(hand, *counter, *op, *amount),
         }
     }
 
     // Does what the items before the first READ say, with the record at hand, and tells how many these are: None is a fault.
-    pub(crate) fn run(
+    fn run_items(
         &mut self,
         alloc: Global,
         items: &[Item],
-        hand: &[u8],
+        hand: &mut Hand<'_>,
     ) -> Result<Option<usize>, NoMemory>
-        ensures ran { IfOk result (λ count. (coming : Records) → run (before_read items.now) (desk_of self.old hand.now coming) ≡ (if is_some count then Some (desk_of self.new hand.now coming) else None)) }
+        ensures stays { hand.new ≡ hand.old }
+        ensures ran { IfOk result (λ count. (coming : Records) → run (before_read items.now) (desk_of self.old hand.old coming) ≡ (if is_some count then Some (desk_of self.new hand.old coming) else None)) }
         ensures count { IfOk result (λ count. IfSome count (λ n. n ≡ length (before_read items.now))) }
     {
         let mut count = 0;
@@ -314,6 +340,24 @@ impl Desk {
         }
         Ok(Some(count))
     }
+
+    // Does so with a record of which no word was found so far.
+    pub(crate) fn run(
+        &mut self,
+        alloc: Global,
+        items: &[Item],
+        rec: &[u8],
+    ) -> Result<Option<usize>, NoMemory>
+        ensures ran { IfOk result (λ count. (coming : Records) → run (before_read items.now) (desk_of self.old rec.now coming) ≡ (if is_some count then Some (desk_of self.new rec.now coming) else None)) }
+        ensures count { IfOk result (λ count. IfSome count (λ n. n ≡ length (before_read items.now))) }
+    {
+        let words = mem::replace(&mut self.words, Vec::new(alloc));
+        let mut hand = Hand::new(rec, words);
+        let count = self.run_items(alloc, items, &mut hand);
+        self.words = hand.into_found();
+        count
+    }
+
     // Begins the next cycle with a record, and does what the items before the first READ say.
     pub(crate) fn start(
         &mut self,
@@ -332,11 +376,12 @@ impl Desk {
     pub(crate) fn run_to_end(&mut self, alloc: Global, items: &[Item]) -> Result<bool, NoMemory>
         ensures { IfOk result (λ good. run items.now (desk_of self.old [] []) ≡ (if good then Some (desk_of self.new [] []) else None)) }
     {
+        let mut hand = Hand::new(b"", Vec::new(alloc));
         for item in items {
             if let Item::Read = item {
                 continue;
             }
-            if !self.effect(alloc, item, b"")? {
+            if !self.effect(alloc, item, &mut hand)? {
                 return Ok(false);
             }
         }

@@ -5,6 +5,7 @@
 mod copies;
 mod cycle;
 mod desk;
+mod hand;
 mod hex_digits;
 mod laws;
 mod numbers;

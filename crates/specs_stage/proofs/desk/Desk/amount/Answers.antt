@@ -5,8 +5,8 @@ use Rattle.pipe_model.specs.SpecsRows.{amount_of}
 use Rattle.specs_stage.specs.Desks.{desk_of}
 use Rattle.specs_stage.proofs.desk.Desk.amount.Goals as goal
 
-pub returns-in-Counter : goal.returns-in-Counter
-returns-in-Counter c = λ coming.
+pub returns-in-Counter-clause-value : goal.returns-in-Counter-clause-value
+returns-in-Counter-clause-value c = λ coming.
     let fits : FitsSigned w64 c.counter.result = search rules in
     ap Some (to_z-of_z w64 c.counter.result fits ∙ c.counter.ensures c.args.hand.now coming)
     ∙ ap (λ a. amount_of a (desk_of c.args.self.now c.args.hand.now coming)) (sym c.in-Counter.is)

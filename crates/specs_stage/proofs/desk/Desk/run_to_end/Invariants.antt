@@ -4,4 +4,7 @@ use Rattle.specs_stage.specs.Desks.{desk_of}
 use Rattle.specs_stage.proofs.desk.Desk.run_to_end.Given as goal
 
 abbrev pub invariant-loop-item : goal.invariant-loop-item
-invariant-loop-item l = run (drop l.item-index l.items) (desk_of l.self [] []) ≡ run l.items (desk_of l.fn.self [] [])
+invariant-loop-item l = record {
+  stays : l.hand ≡ [];
+  ran : run (drop l.item-index l.items) (desk_of l.self [] []) ≡ run l.items (desk_of l.fn.self [] []);
+}
