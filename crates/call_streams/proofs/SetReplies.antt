@@ -28,7 +28,7 @@ use Rattle.call_meaning.specs.Answer.MayRead.{nothing_read}
 use Rattle.call_streams.specs.declared.fetch.Found.{Found}
 use Rattle.call_streams.specs.Fetched.{AreOf, HasNoSets, HasSets, StopsListing, files_known}
 use Rattle.call_streams.specs.Feeding.{IsFed, IsFedPart, nets_in}
-use Rattle.call_streams.proofs.Feedings.{decides_no_memory, decides_unfed}
+use Rattle.call_streams.proofs.Feedings.{decides_unfed}
 use Rattle.call_streams.proofs.Fetches.{known_there}
 use Rattle.call_streams.proofs.Replies.{unreplaced}
 
@@ -104,8 +104,3 @@ module _ (words : List (List ℕ)) (name : List ℕ) (workers steps : ℕ) (comm
         pub sets_unfed : (outcome : Outcome) → IsFedPart nets found listed fed outcome → Decides words old fed outcome
         sets_unfed outcome part =
             decides_unfed words nets found old fed refl (feeds_sets found text has sets are) outcome (subst (λ z. IsFedPart nets found z fed outcome) listed_before part)
-
-        -- memory was wanted behind it
-        pub sets_no_memory : (after : Net) → IsFed nets found listed fed after → (told : Outcome) → told ≡ NoMemory → Decides words old fed told
-        sets_no_memory after is told wants = subst (λ o. Decides words old fed o) (sym wants)
-            (decides_no_memory words nets found old fed refl (feeds_sets found text has sets are) after (subst (λ z. IsFed nets found z fed after) listed_before is))

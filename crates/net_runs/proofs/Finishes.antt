@@ -9,10 +9,12 @@ use Rattle.call_meaning.specs.declared.status.Outcome.{Outcome}
 use Rattle.call_meaning.specs.Effects.{traced}
 use Rattle.call_meaning.specs.Meaning.{AreLeast, RunMeans, Exhausts, Finishes, outcome_of}
 use Rattle.call_meaning.specs.Meaning.RunMeans.{finishes, exhausts}
+use Rattle.net_runs.specs.declared.ready_run.Ready.{Ready}
 use Rattle.net_runs.specs.Ran.{EndsAs, IsRun, run_effect}
 use Rattle.net_runs.specs.Ran.EndsAs.{completes, spends}
+use Rattle.net_runs.specs.ReadyRuns.{IsReady, ready_effect}
 use Rattle.net_runs.proofs.CoreRuns.{stopped_complete}
-use Rattle.net_runs.proofs.RunEffects.{replied_effect}
+use Rattle.net_runs.proofs.RunEffects.{replied_effect, traced_effect}
 
 module _ (on : Net) (steps workers : ℕ) (core : Machine) (is : core.net ≡ on) (legal : IsLegal core.net core.journal) (least : workers ≡ 1 → AreLeast core.net core.journal) where
   pub legal_on : IsLegal on core.journal
@@ -42,7 +44,7 @@ module _ (on : Net) (steps workers : ℕ) (core : Machine) (is : core.net ≡ on
     more = (more.0, subst (λ z. IsLicensed z (play z core.journal) more.0) is more.1);
   }
 
-pub run_means : (on : Net) (steps workers : ℕ) (trace : Option (List ℕ)) (core : Machine) (outcome : Outcome) → IsRun on steps workers core outcome →
+run_means : (on : Net) (steps workers : ℕ) (trace : Option (List ℕ)) (core : Machine) (outcome : Outcome) → IsRun on steps workers core outcome →
     RunMeans on steps workers trace outcome (traced trace core.journal (run_effect core outcome))
 run_means on steps workers trace core outcome run = by run.ends
   where
@@ -54,3 +56,9 @@ run_means on steps workers trace core outcome run = by run.ends
     by (spends is full more) =
         exhausts (exhausted on steps workers core run.net_is run.legal run.least full more) is
         (ap (λ o. traced trace core.journal (run_effect core o)) is)
+
+-- and what it does, once its texts are made
+pub ready_means : {S : Type 0} (on : Net) (steps workers : ℕ) (trace : Option (List ℕ)) (ready : Ready S) → IsReady on steps workers trace ready → RunMeans on steps workers trace ready.told.outcome (ready_effect ready)
+ready_means on steps workers trace ready is =
+    subst (λ e. RunMeans on steps workers trace ready.told.outcome e) (traced_effect on steps workers trace ready is)
+    (run_means on steps workers trace ready.core ready.told.outcome is.run)

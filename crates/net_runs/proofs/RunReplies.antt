@@ -5,7 +5,6 @@ use Rattle.outside.specs.Faults.{Rose}
 use Rattle.outside.specs.Files.{Files}
 use Rattle.pipe_model.specs.declared.net.Net.{Net}
 use Rattle.call_streams.specs.declared.fetch.Found.{Found}
-use Rattle.net_runs.specs.declared.ready_run.Ready.{Ready}
 use Rattle.call_meaning.specs.declared.status.Outcome.{Outcome}
 use Rattle.call_meaning.specs.declared.status.Outcome.TheVariants.{NoMemory, ShelfFault}
 use Rattle.call_meaning.specs.Answer.{Decides, HasUsed, IsTorn}
@@ -14,16 +13,17 @@ use Rattle.call_meaning.specs.Answer.HasDone.{whole, half}
 use Rattle.call_meaning.specs.Answer.IsTorn.{torn_failed, torn_memory}
 use Rattle.call_meaning.specs.Devices.{Outside, Store, outside}
 use Rattle.call_meaning.specs.Effects.{ArePartReplaced, AreReplaced, Effect, output_of, replaced_by}
-use Rattle.call_meaning.specs.Meaning.{ComesTo, HasRun, RunMeans, RunsNet, net_on}
+use Rattle.call_meaning.specs.Meaning.{ComesTo, FeedsNet, HasRun, RunMeans, RunsNet, net_on}
 use Rattle.call_meaning.specs.Meaning.ComesTo.{ran}
+use Rattle.call_meaning.specs.Meaning.FeedsNet.{of_run}
 use Rattle.call_streams.specs.Feeding.{IsFed}
-use Rattle.net_runs.specs.ReadyRuns.{IsReady, PutsOut, ready_effect}
-use Rattle.net_runs.specs.Ran.{IsRun}
+use Rattle.call_streams.specs.Fetched.{AreOf}
+use Rattle.net_runs.specs.ReadyRuns.{CarriesOut, PutsOut}
+use Rattle.net_runs.specs.ReadyRuns.CarriesOut.{carried, unmade}
 use Rattle.net_runs.specs.Puts.{StopsStoring}
 use Rattle.net_runs.specs.ReadyRuns.PutsOut.{put_all, put_part, put_torn}
-use Rattle.net_runs.proofs.Finishes.{run_means}
+use Rattle.call_streams.proofs.Feedings.{decides_no_memory}
 use Rattle.call_streams.proofs.Replacements.{none_replaced}
-use Rattle.net_runs.proofs.RunEffects.{traced_effect}
 
 module _ (words : List (List ℕ)) (net : Net) (found : List Found) (input input' output : Device) (shelf fed_shelf : Store) (after : Net) (took : IsFed net found (outside input output shelf) (outside input' output fed_shelf) after) where
   -- What the words came to on what was fed was carried out, or its last part wasn't
@@ -78,17 +78,25 @@ module _ (words : List (List ℕ)) (net : Net) (found : List Found) (input input
       });
     }
 
+  -- memory was wanted behind it, and nothing was written
+  pub decides_unmade : (feeds : (files : Files) → AreOf files found → FeedsNet words files net) (output' : Device) (shelf' : Store) (told : Outcome) → output' ≡ output → shelf' ≡ fed_shelf → told ≡ NoMemory →
+      Decides words (outside input output shelf) (outside input' output' shelf') told
+  decides_unmade feeds output' shelf' told same kept is =
+      subst (λ o. Decides words (outside input output shelf) (outside input' output' shelf') o) (sym is)
+      (subst (λ d. Decides words (outside input output shelf) (outside input' d shelf') NoMemory) (sym same)
+      (subst (λ s. Decides words (outside input output shelf) (outside input' output s) NoMemory) (sym kept)
+      (decides_no_memory words net found (outside input output shelf) (outside input' output fed_shelf) refl feeds after took)))
+
   -- The run of a net
 
-  module _ {S : Type 0} (steps : ℕ) (trace : Option (List ℕ)) (runs : RunsNet words net steps trace) (workers : ℕ) (same : runs.run.workers ≡ workers) (ready : Ready S) (is : IsReady after steps workers trace ready) where
-    means : RunMeans (net_on took.given net) steps runs.run.workers trace ready.told.outcome (ready_effect ready)
-    means =
-        subst (λ n. RunMeans (net_on took.given net) steps n trace ready.told.outcome (ready_effect ready)) (sym same)
-        (subst (λ e. RunMeans (net_on took.given net) steps workers trace ready.told.outcome e) (traced_effect after steps workers trace ready is)
-        (run_means (net_on took.given net) steps workers trace ready.core ready.told.outcome (subst (λ on. IsRun on steps workers ready.core ready.told.outcome) took.after_is is.run)))
+  module _ (steps : ℕ) (trace : Option (List ℕ)) (runs : RunsNet words net steps trace) (workers : ℕ) (same : runs.run.workers ≡ workers) where
+    module _ (outcome : Outcome) (effect : Effect) (does : RunMeans after steps workers trace outcome effect) where
+      means : RunMeans (net_on took.given net) steps runs.run.workers trace outcome effect
+      means = subst (λ n. RunMeans (net_on took.given net) steps n trace outcome effect) (sym same) (subst (λ on. RunMeans on steps workers trace outcome effect) took.after_is does)
 
-    abbrev run : HasRun words took.given ready.told.outcome (ready_effect ready)
-    run = record { net = net; steps = steps; trace = trace; runs = runs; fits = took.fits; means = means }
+      abbrev run : HasRun words took.given outcome effect
+      run = record { net = net; steps = steps; trace = trace; runs = runs; fits = took.fits; means = means }
 
-    pub decides_run : (output' : Device) (shelf' : Store) (told : Outcome) → PutsOut (ready_effect ready) output output' fed_shelf shelf' ready.told.outcome told → Decides words (outside input output shelf) (outside input' output' shelf') told
-    decides_run output' shelf' = decides_put ready.told.outcome (ready_effect ready) (ran run) took.used output' shelf'
+    pub decides_run : (output' : Device) (shelf' : Store) (told : Outcome) → CarriesOut (RunMeans after steps workers trace) output output' fed_shelf shelf' told → Decides words (outside input output shelf) (outside input' output' shelf') told
+    decides_run output' shelf' told (carried outcome effect does puts) = decides_put outcome effect (ran (run outcome effect does)) took.used output' shelf' told puts
+    decides_run output' shelf' told (unmade kept kept_shelf is) = decides_unmade (λ files of. of_run steps trace runs) output' shelf' told kept kept_shelf is

@@ -1,4 +1,4 @@
--- A run of which nothing has been written, and how far its effect was carried out; it serves the inside.
+-- A run of which nothing has been written, and how far its effect was carried out.
 use Rattle.std.specs.Prelude.{◌≡◌, ℕ, ◌≤◌, List, length}
 use Rattle.std.specs.Option.{IfSome, option_map_or}
 use Rattle.std.specs.declared.option.Option.{Option}
@@ -6,6 +6,7 @@ use Rattle.std.specs.declared.option.Option.TheVariants.{Some, None}
 use Rattle.pipe_model.specs.declared.net.Net.{Net}
 use Rattle.outside.specs.Device.{Device}
 use Rattle.call_meaning.specs.declared.status.Outcome.{Outcome}
+use Rattle.call_meaning.specs.declared.status.Outcome.TheVariants.{NoMemory}
 use Rattle.net_runs.specs.declared.ready_run.Ready.{Ready}
 use Rattle.net_runs.specs.declared.trace.Trace.{Trace}
 use Rattle.call_meaning.specs.Devices.{Store}
@@ -34,3 +35,8 @@ pub data PutsOut (effect : Effect) (output output' : Device) (shelf shelf' : Sto
   put_all : IsWritten effect.output output output' → AreStored (replaced_by effect) shelf shelf' → decided ≡ outcome → PutsOut effect output output' shelf shelf' outcome decided
   put_part : IsPartWritten effect.output output output' decided → shelf' ≡ shelf → PutsOut effect output output' shelf shelf' outcome decided
   put_torn : (name : List ℕ) → IsWritten effect.output output output' → ArePartReplaced name (replaced_by effect) shelf.files shelf'.files → StopsStoring name shelf shelf' decided → PutsOut effect output output' shelf shelf' outcome decided
+
+-- an outcome and an effect of this meaning were come to, and the effect was carried out; or memory was wanted for them, and nothing was written
+pub data CarriesOut (Means : Outcome → Effect → Type 0) (output output' : Device) (shelf shelf' : Store) (decided : Outcome) : Type 0 where
+  carried : (outcome : Outcome) (effect : Effect) → Means outcome effect → PutsOut effect output output' shelf shelf' outcome decided → CarriesOut Means output output' shelf shelf' decided
+  unmade : output' ≡ output → shelf' ≡ shelf → decided ≡ NoMemory → CarriesOut Means output output' shelf shelf' decided

@@ -1,4 +1,4 @@
--- How sets ended; it serves the inside.
+-- How sets ended.
 use Rattle.std.specs.Prelude.{◌≡◌, ℕ, List, [], ◌∷◌, ◌++◌}
 use Rattle.std.specs.List.{AllZip}
 use Rattle.std.specs.declared.option.Option.{Option}
@@ -11,14 +11,30 @@ use Rattle.core_machine.specs.Answered.{Ends, HasRun}
 use Rattle.workers.specs.Driven.{HasAdvanced}
 use Rattle.call_meaning.specs.declared.nets.Set.{Set}
 use Rattle.call_meaning.specs.declared.nets.Set.TheVariants.{Whole, Refused}
-use Rattle.call_meaning.specs.Effects.{no_effect}
-use Rattle.call_meaning.specs.Sets.{SetEnd}
+use Rattle.call_meaning.specs.declared.status.Outcome.{Outcome}
+use Rattle.call_meaning.specs.Effects.{Effect, no_effect}
+use Rattle.call_meaning.specs.Meaning.{RunMeans}
+use Rattle.call_meaning.specs.Sets.{SetEnd, effect_of_sets, outcome_of_sets}
 use Rattle.call_streams.specs.declared.text.Told.{Told}
 use Rattle.call_streams.specs.Feeding.{nets_in}
 use Rattle.call_streams.specs.Texts.{IsTelling}
 use Rattle.net_runs.specs.declared.sets_run.Ended.{Ended}
 use Rattle.net_runs.specs.declared.sets_run.Ended.TheVariants.{Ran, Unread}
 use Rattle.net_runs.specs.ReadyRuns.{IsReady, ready_effect}
+
+-- a set whose stages are fed came to this end: its net was run by itself in so many steps at most, or it is refused
+abbrev pub EndsSo : ℕ → ℕ → Set → SetEnd → Type 0
+EndsSo steps workers (Whole net) end = RunMeans net steps workers None end.outcome end.effect
+EndsSo steps workers (Refused outcome) end = (end.outcome ≡ outcome) × (end.effect ≡ no_effect)
+
+-- what all of them came to
+pub record SetsMean (steps workers : ℕ) (sets : List Set) (outcome : Outcome) (effect : Effect) : Type 0 where
+  pub ends : List SetEnd
+  pub each : AllZip (λ set end. EndsSo steps workers set end) sets ends
+  pub outcome_is : outcome ≡ outcome_of_sets ends
+  pub effect_is : effect ≡ effect_of_sets ends
+
+-- Before anything of them is written
 
 -- how a set ended, and what is to be done of it
 abbrev pub end_of : {S : Type 0} → Ended S → SetEnd

@@ -1,11 +1,11 @@
 //! A journal is played on a net.
 ghost use Rattle.std.specs.Prelude.{◌≡◌, if◌then◌else◌, IfOk, codes};
 ghost use Rattle.pipe_model.specs.WellFormed.{IsWellFormed};
-ghost use Rattle.core_machine.specs.Start.{AreFresh};
 ghost use Rattle.call_meaning.specs.Effects.{output_of};
 ghost use Rattle.call_meaning.specs.Meaning.{CheckMeans, legal_line};
 ghost use Rattle.call_streams.specs.Texts.{IsTelling};
 
+use crate::maker::Maker;
 use call_meaning::Outcome;
 use call_streams::{Answer, add, add_number, with_text};
 use journal_file::{Checked, Journal, check};
@@ -13,19 +13,22 @@ use pipe_model::{Net, NoMemory};
 use stage_steps::Stage;
 use std::alloc::Global;
 
-/// Plays a journal on a net with these stages, each before its first event, and makes the line that tells a legal one, or the text that
-/// refuses another.
-pub fn judged<S: Stage>(
+/// Plays a journal on a net, with stages that the maker makes, and makes the line that tells a legal one, or the text that refuses another.
+///
+/// # Errors
+///
+/// `NoMemory` where there is no memory for the stages, the play or the text.
+pub fn judged<S: Stage, M: Maker<S>>(
     alloc: Global,
     net: Net,
-    stages: Vec<S>,
+    maker: &M,
     journal: &Journal,
 ) -> Result<Answer, NoMemory>
-    requires whole { IsWellFormed net }
-    requires fresh { AreFresh S.stands net.strands stages.items }
+    requires { IsWellFormed net }
     ensures means { IfOk result (λ answer. CheckMeans net journal.now answer.told.outcome (output_of answer.text.items)) }
     ensures text { IfOk result (λ answer. IsTelling answer.told) }
 {
+    let stages = maker.make(alloc, &net)?;
     let (text, outcome) = match check(alloc, net, stages, journal)? {
         Checked::Legal { complete } => {
             let line = legal_line(alloc, journal.len(), complete)?;

@@ -4,7 +4,6 @@ ghost use Rattle.pipe_model.specs.Reply.{WaitLine, reply, console_from};
 ghost use Rattle.pipe_model.specs.WellFormed.{IsWellFormed};
 ghost use Rattle.core_machine.specs.Answered.{Ends};
 ghost use Rattle.core_machine.specs.Machine.{HasStopped, state_of};
-ghost use Rattle.core_machine.specs.Start.{AreFresh};
 ghost use Rattle.pipe_model.specs.Form.{is_shown};
 ghost use Rattle.net_runs.specs.Kept.{keeping_of};
 ghost use Rattle.outside.specs.Device.{device};
@@ -12,6 +11,7 @@ ghost use Rattle.call_meaning.specs.Meaning.{outcome_of};
 ghost use Rattle.net_runs.specs.Ran.{EndsAs, IsRun};
 ghost use Rattle.call_streams.specs.Written.{IsWritten, IsPartWritten};
 
+use crate::maker::{Maker, start_net};
 use call_meaning::Outcome;
 use call_streams::write_all;
 use core_machine::{Core, RunEnd};
@@ -24,31 +24,30 @@ use std::sync::Wait;
 use std::thread::Threads;
 use workers::drive_kept;
 
-/// A core that ran a net to its end, or as far as the steps allow, and how that ended.
+// A core that ran a net to its end, or as far as the steps allow, and how that ended.
 #[derive(Drop)]
-pub struct Ran<S: Stage> {
+pub(crate) struct Ran<S: Stage> {
     pub core: Core<S>,
     pub outcome: Outcome,
 }
 
-// The net's core with these stages, each before its first event, after so many workers ran it so.
-pub(crate) fn run_net<S: Stage + Send, Rt: Threads + Wait + Sync, G: Gate + Sync>(
+// The net's core, with stages that the maker makes, after so many workers ran it so.
+pub(crate) fn run_net<S: Stage + Send, M: Maker<S>, Rt: Threads + Wait + Sync, G: Gate + Sync>(
     rt: &Rt,
     alloc: Global,
     net: Net,
-    stages: Vec<S>,
+    maker: &M,
     steps: u64,
     workers: u32,
     gate: &G,
 ) -> Result<Ran<S>, NoMemory>
     requires whole { IsWellFormed net }
-    requires fresh { AreFresh S.stands net.strands stages.items }
     requires few { steps ≤ 50000000 }
     requires workers { (0 < workers) × (workers ≤ 64) }
     ensures run { IfOk result (λ ran. IsRun net steps workers ran.core ran.outcome) }
     ensures few { IfOk result (λ ran. length ran.core.net.strands ≤ 65536) }
 {
-    let core = Core::start(alloc, net, stages, steps)?;
+    let core = start_net(alloc, net, maker, steps)?;
     let (core, end) = drive_kept(rt, alloc, core, workers, gate);
     let Some(end) = end else {
         return Err(NoMemory);

@@ -18,9 +18,9 @@ use pipe_model::{Kind, NoMemory, Rec};
 use stage_steps::{Stage, is_less};
 use std::alloc::Global;
 
-/// A file that is to be replaced by the text that a strand's stage keeps, and the text of its fault.
+// A file that is to be replaced by the text that a strand's stage keeps, and the text of its fault.
 #[derive(Drop)]
-pub struct Put {
+pub(crate) struct Put {
     pub name: Rec,
     pub strand: u32,
     pub fault: Rec,

@@ -3,12 +3,12 @@ ghost use Rattle.std.specs.Prelude.{◌≡◌, ◌<◌, ◌≤◌, [], length, I
 ghost use Rattle.pipe_model.specs.Reply.{console_from};
 ghost use Rattle.pipe_model.specs.WellFormed.{IsWellFormed};
 ghost use Rattle.core_machine.specs.Machine.{state_of};
-ghost use Rattle.core_machine.specs.Start.{AreFresh};
 ghost use Rattle.call_meaning.specs.Effects.{output_of};
 ghost use Rattle.call_meaning.specs.Meaning.{SampleMeans};
 ghost use Rattle.call_meaning.specs.Sample.{line_count, summary};
 ghost use Rattle.call_streams.specs.Texts.{IsTelling};
 
+use crate::maker::Maker;
 use crate::net_run::{console_text, run_net};
 use call_meaning::Outcome;
 use call_streams::{Answer, add, add_number, with_text};
@@ -20,25 +20,28 @@ use std::alloc::Global;
 use std::sync::Wait;
 use std::thread::Threads;
 
-/// Runs a net that is fed the sample's input of so many lines, with these stages, each before its first event, and makes all texts.
-pub fn summed_up<S: Stage + Send, Rt: Threads + Wait + Sync, G: Gate + Sync>(
+/// Runs a net that is fed the sample's input of so many lines, with stages that the maker makes, and makes all texts.
+///
+/// # Errors
+///
+/// `NoMemory` where there is no memory for the stages, the run or a text.
+pub fn summed_up<S: Stage + Send, M: Maker<S>, Rt: Threads + Wait + Sync, G: Gate + Sync>(
     rt: &Rt,
     alloc: Global,
     net: Net,
-    stages: Vec<S>,
+    maker: &M,
     count: u32,
     steps: u64,
     workers: u32,
     gate: &G,
 ) -> Result<Answer, NoMemory>
     requires whole { IsWellFormed net }
-    requires fresh { AreFresh S.stands net.strands stages.items }
     requires few { steps ≤ 50000000 }
     requires workers { (0 < workers) × (workers ≤ 64) }
     ensures means { IfOk result (λ answer. SampleMeans count net steps workers answer.told.outcome (output_of answer.text.items)) }
     ensures text { IfOk result (λ answer. IsTelling answer.told) }
 {
-    let ran = run_net(rt, alloc, net, stages, steps, workers, gate)?;
+    let ran = run_net(rt, alloc, net, maker, steps, workers, gate)?;
     let text = match ran.outcome {
         Outcome::Done => summary(alloc, count, &ran.core)?,
         _ => Vec::new(alloc),

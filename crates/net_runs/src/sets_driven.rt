@@ -1,49 +1,70 @@
-//! The sets of a file are run by the same workers.
+//! The sets of a file are run by the same workers, and what comes of them is put out.
 ghost use Rattle.std.specs.Prelude.{◌≡◌, ◌<◌, ◌≤◌, ℕ, List, ◌∷◌, Option, length, map, IfOk};
 ghost use Rattle.std.specs.List.{All, AllZip};
 ghost use Rattle.std.specs.Vec.Iter.{into_iter_items};
-ghost use Rattle.pipe_model.specs.WellFormed.{IsWellFormed};
-ghost use Rattle.core_machine.specs.Start.{AreFresh};
+ghost use Rattle.outside.specs.Device.{device};
 ghost use Rattle.call_meaning.specs.declared.nets.Set.{Set as SetIs};
+ghost use Rattle.call_meaning.specs.Devices.{store};
 ghost use Rattle.call_meaning.specs.Sets.{outcome_of_sets};
 ghost use Rattle.call_streams.specs.declared.text.Told.{Told as ToldIs};
 ghost use Rattle.call_streams.specs.Feeding.{IsWholeSet};
 ghost use Rattle.call_streams.specs.Texts.{IsTelling};
-ghost use Rattle.net_runs.specs.SetRuns.{AreLeft, HasBegun, HasEnded, end_of};
+ghost use Rattle.net_runs.specs.ReadyRuns.{CarriesOut};
+ghost use Rattle.net_runs.specs.SetRuns.{AreLeft, HasBegun, HasEnded, SetsMean, end_of};
 
+use crate::maker::{Maker, start_net};
 use crate::net_run::ran_to;
 use crate::ready_run::ready_of;
-use crate::sets_run::{Ended, Sets, tell_sets};
+use crate::sets_run::{Ended, Sets, put_sets_out, tell_sets};
 use call_meaning::Set;
-use call_streams::{Told, with_text};
+use call_streams::{Told, no_memory, with_text};
 use core_machine::{Core, RunEnd};
 use many_sets::drive_sets;
-use outside::Gate;
-use pipe_model::{Net, NoMemory};
+use outside::{Gate, Shelf, Sink};
+use pipe_model::NoMemory;
 use stage_steps::Stage;
 use std::alloc::Global;
 use std::sync::Wait;
 use std::thread::Threads;
 use std::vec::IntoIter;
 
-/// Makes the stages of nets.
-pub trait Maker<S: Stage> {
-    /// A stage for each strand of the net, before its first event.
-    ///
-    /// # Errors
-    ///
-    /// `NoMemory` where there is no memory for them.
-    fn make(&self, alloc: Global, net: &Net) -> Result<Vec<S>, NoMemory>
-        requires { IsWellFormed net.now }
-        ensures { IfOk result (λ stages. AreFresh S.stands net.now.strands stages.items) };
+/// Runs the net of each set that isn't refused, all by the same workers, in so many steps at most each, with stages that the maker makes, and
+/// makes all texts; then writes the output of each set, one after another, and replaces the files of each. Where there is no memory for the
+/// stages, a run or a text, that is told and nothing is written.
+pub fn carry_out_sets<
+    S: Stage + Send,
+    M: Maker<S>,
+    Rt: Threads + Wait + Sync,
+    O: Sink,
+    F: Shelf,
+    G: Gate + Sync,
+>(
+    rt: &Rt,
+    alloc: Global,
+    sets: Vec<Set>,
+    maker: &M,
+    steps: u64,
+    workers: u32,
+    output: &mut O,
+    shelf: &mut F,
+    gate: &G,
+) -> Told
+    requires whole { All IsWholeSet sets.items }
+    requires few { length sets.items ≤ 256 }
+    requires steps { steps ≤ 50000000 }
+    requires workers { (0 < workers) × (workers ≤ 64) }
+    ensures carries { let old = device (O.written output.old) (O.faults output.old) in let new = device (O.written output.new) (O.faults output.new) in
+        CarriesOut (SetsMean steps workers sets.items) old new (store (F.files shelf.old) (F.faults shelf.old) (F.wants shelf.old)) (store (F.files shelf.new) (F.faults shelf.new) (F.wants shelf.new)) result.outcome }
+    ensures text { IsTelling result }
+{
+    match run_sets(rt, alloc, sets, maker, steps, workers, gate) {
+        Ok(ready) => put_sets_out(alloc, ready, output, shelf),
+        Err(NoMemory) => no_memory(),
+    }
 }
 
-/// Runs the net of each set that isn't refused, all by the same workers, in so many steps at most each, and makes all texts.
-///
-/// # Errors
-///
-/// `NoMemory` where there is no memory for a run or a text.
-pub fn run_sets<S: Stage + Send, M: Maker<S>, Rt: Threads + Wait + Sync, G: Gate + Sync>(
+// Runs the nets and makes all texts.
+fn run_sets<S: Stage + Send, M: Maker<S>, Rt: Threads + Wait + Sync, G: Gate + Sync>(
     rt: &Rt,
     alloc: Global,
     sets: Vec<Set>,
@@ -88,8 +109,7 @@ fn begin_set<S: Stage, M: Maker<S>>(
 {
     match set {
         Set::Whole(net) => {
-            let stages = maker.make(alloc, &net)?;
-            cores.push(Core::start(alloc, net, stages, steps)?)?;
+            cores.push(start_net(alloc, net, maker, steps)?)?;
             Ok(None)
         }
         Set::Refused(outcome) => Ok(Some(with_text(alloc, outcome)?)),

@@ -19,16 +19,16 @@ use pipe_model::{NoMemory, Rec};
 use stage_steps::Stage;
 use std::alloc::Global;
 
-/// How a set ended: its net was run, or it is refused.
+// How a set ended: its net was run, or it is refused.
 #[derive(Drop)]
-pub enum Ended<S: Stage> {
+pub(crate) enum Ended<S: Stage> {
     Ran(Ready<S>),
     Unread(Told),
 }
 
-/// Sets that have ended, of which nothing has been written, and what is told of all of them.
+// Sets that have ended, of which nothing has been written, and what is told of all of them.
 #[derive(Drop)]
-pub struct Sets<S: Stage> {
+pub(crate) struct Sets<S: Stage> {
     pub ended: Vec<Ended<S>>,
     pub told: Told,
 }
@@ -81,9 +81,9 @@ fn add_set(lines: &mut Vec<u8>, number: u32, told: &Told) -> Result<(), NoMemory
     Ok(lines.extend_from_slice(told.text.bytes())?)
 }
 
-/// Writes the output of each set, one after another, and then replaces the files of each, in the order of the sets and of the names within one.
-/// A fault of the output leaves all files as they were, and one of the shelf those from there on.
-pub fn put_sets_out<S: Stage, O: Sink, F: Shelf>(
+// Writes the output of each set, one after another, and then replaces the files of each, in the order of the sets and of the names within one.
+// A fault of the output leaves all files as they were, and one of the shelf those from there on.
+pub(crate) fn put_sets_out<S: Stage, O: Sink, F: Shelf>(
     alloc: Global,
     sets: Sets<S>,
     output: &mut O,

@@ -15,9 +15,9 @@ use pipe_model::{NoMemory, Rec};
 use stage_steps::Stage;
 use std::alloc::Global;
 
-/// A file that is to be replaced by a journal's text, and the text of its fault.
+// A file that is to be replaced by a journal's text, and the text of its fault.
 #[derive(Drop)]
-pub struct Trace {
+pub(crate) struct Trace {
     pub name: Rec,
     pub text: Rec,
     pub fault: Rec,

@@ -1,17 +1,15 @@
 //! A check of a journal on a specification.
-ghost use Rattle.std.specs.Prelude.{ℕ, List, IfOk};
+ghost use Rattle.std.specs.Prelude.{ℕ, List};
 ghost use Rattle.outside.specs.Device.{device};
 ghost use Rattle.pipe_model.specs.WellFormed.{IsWellFormed};
 ghost use Rattle.net_graph.specs.Fed.{AreUnfiled};
 ghost use Rattle.call_meaning.specs.Answer.{Decides};
 ghost use Rattle.call_meaning.specs.Devices.{outside, store};
-ghost use Rattle.call_meaning.specs.Effects.{output_of};
-ghost use Rattle.call_meaning.specs.Meaning.{CheckMeans, ChecksNet};
+ghost use Rattle.call_meaning.specs.Meaning.{ChecksNet};
 ghost use Rattle.call_streams.specs.Texts.{IsTelling};
 
-use crate::stages::fresh_stages;
-use call_streams::{Answer, Stored, Told, feed_net, fetch_journal, give, no_memory};
-use journal_file::Journal;
+use crate::stages::BuiltInMaker;
+use call_streams::{Stored, Told, feed_net, fetch_journal, give, no_memory};
 use net_runs::judged;
 use outside::{Shelf, Sink, Source};
 use pipe_model::{Net, NoMemory, Rec};
@@ -42,18 +40,8 @@ pub(crate) fn check_call<I: Source, O: Sink, F: Shelf>(
         Ok(net) => net,
         Err(told) => return told,
     };
-    match played(alloc, net, &journal) {
+    match judged(alloc, net, &BuiltInMaker, &journal) {
         Ok(answer) => give(answer, output),
         Err(NoMemory) => no_memory(),
     }
-}
-
-// Plays the journal on the net, and makes what tells of it.
-fn played(alloc: Global, net: Net, journal: &Journal) -> Result<Answer, NoMemory>
-    requires { IsWellFormed net }
-    ensures means { IfOk result (λ answer. CheckMeans net journal.now answer.told.outcome (output_of answer.text.items)) }
-    ensures text { IfOk result (λ answer. IsTelling answer.told) }
-{
-    let stages = fresh_stages(alloc, &net)?;
-    judged(alloc, net, stages, journal)
 }

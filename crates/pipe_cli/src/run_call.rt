@@ -1,5 +1,5 @@
 //! A run of a specification.
-ghost use Rattle.std.specs.Prelude.{◌≡◌, ◌<◌, ◌≤◌, ℕ, List, Option, IfOk};
+ghost use Rattle.std.specs.Prelude.{◌≡◌, ◌<◌, ◌≤◌, ℕ, List};
 ghost use Rattle.outside.specs.Device.{device};
 ghost use Rattle.pipe_model.specs.WellFormed.{IsWellFormed};
 ghost use Rattle.net_graph.specs.Fed.{AreUnfiled};
@@ -7,14 +7,12 @@ ghost use Rattle.call_meaning.specs.Answer.{Decides};
 ghost use Rattle.call_meaning.specs.Devices.{outside, store};
 ghost use Rattle.call_meaning.specs.Meaning.{RunsNet};
 ghost use Rattle.call_streams.specs.Texts.{IsTelling};
-ghost use Rattle.net_runs.specs.ReadyRuns.{IsReady};
 
-use crate::stages::fresh_stages;
-use call_streams::{Told, feed_net, no_memory};
-use net_runs::{Ready, make_ready, put_out};
+use crate::stages::BuiltInMaker;
+use call_streams::{Told, feed_net};
+use net_runs::carry_out;
 use outside::{Gate, Shelf, Sink, Source};
-use pipe_model::{Net, NoMemory, Rec};
-use stage_table::BuiltIn;
+use pipe_model::{Net, Rec};
 use std::alloc::Global;
 use std::sync::Wait;
 use std::thread::Threads;
@@ -47,27 +45,16 @@ pub(crate) fn run_call<Rt: Threads + Wait + Sync, I: Source, O: Sink, F: Shelf, 
         Ok(net) => net,
         Err(told) => return told,
     };
-    match run_fed(rt, alloc, net, steps, workers, trace, gate) {
-        Ok(ready) => put_out(alloc, ready, output, shelf),
-        Err(NoMemory) => no_memory(),
-    }
-}
-
-// Runs a net whose stages are fed, and makes all texts.
-fn run_fed<Rt: Threads + Wait + Sync, G: Gate + Sync>(
-    rt: &Rt,
-    alloc: Global,
-    net: Net,
-    steps: u64,
-    workers: u32,
-    trace: Option<Rec>,
-    gate: &G,
-) -> Result<Ready<BuiltIn>, NoMemory>
-    requires whole { IsWellFormed net }
-    requires few { steps ≤ 50000000 }
-    requires workers { (0 < workers) × (workers ≤ 64) }
-    ensures { IfOk result (λ ready. IsReady net steps workers trace ready) }
-{
-    let stages = fresh_stages(alloc, &net)?;
-    make_ready(rt, alloc, net, stages, steps, workers, trace, gate)
+    carry_out(
+        rt,
+        alloc,
+        net,
+        &BuiltInMaker,
+        steps,
+        workers,
+        trace,
+        output,
+        shelf,
+        gate,
+    )
 }

@@ -10,7 +10,7 @@ ghost use Rattle.call_meaning.specs.Meaning.{SampleMeans, SamplesNet};
 ghost use Rattle.call_meaning.specs.Sample.{sample_text};
 ghost use Rattle.call_streams.specs.Texts.{IsTelling};
 
-use crate::stages::fresh_stages;
+use crate::stages::BuiltInMaker;
 use call_streams::{Answer, Told, feed_input, give, no_memory, sample_input};
 use net_runs::summed_up;
 use outside::{Gate, Sink};
@@ -64,6 +64,5 @@ fn run_sample<Rt: Threads + Wait + Sync, G: Gate + Sync>(
     let bytes = sample_input(alloc, count)?;
     let mut net = net;
     feed_input(alloc, &mut net, bytes)?;
-    let stages = fresh_stages(alloc, &net)?;
-    summed_up(rt, alloc, net, stages, count, steps, workers, gate)
+    summed_up(rt, alloc, net, &BuiltInMaker, count, steps, workers, gate)
 }

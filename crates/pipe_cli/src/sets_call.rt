@@ -11,9 +11,9 @@ ghost use Rattle.call_streams.specs.Texts.{IsTelling};
 use crate::stages::BuiltInMaker;
 use call_meaning::sets_of;
 use call_streams::{Listed, Told, feed_sets, fetch_sets, no_memory};
-use net_runs::{put_sets_out, run_sets};
+use net_runs::carry_out_sets;
 use outside::{Gate, Shelf, Sink, Source};
-use pipe_model::{NoMemory, Rec};
+use pipe_model::Rec;
 use std::alloc::Global;
 use std::sync::Wait;
 use std::thread::Threads;
@@ -50,8 +50,15 @@ pub(crate) fn sets_call<Rt: Threads + Wait + Sync, I: Source, O: Sink, F: Shelf,
         Ok(sets) => sets,
         Err(told) => return told,
     };
-    match run_sets(rt, alloc, sets, &BuiltInMaker, steps, workers, gate) {
-        Ok(ready) => put_sets_out(alloc, ready, output, shelf),
-        Err(NoMemory) => no_memory(),
-    }
+    carry_out_sets(
+        rt,
+        alloc,
+        sets,
+        &BuiltInMaker,
+        steps,
+        workers,
+        output,
+        shelf,
+        gate,
+    )
 }

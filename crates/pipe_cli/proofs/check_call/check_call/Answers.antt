@@ -12,10 +12,10 @@ returns-in-Err-feed_net-clause-decides g c words checks =
     checks_unfed words c.args.net c.args.name checks (device _ _) (device _ _) (store _ _ _) (store _ _ _) c.in-Ok.stored.found.items c.in-Ok.stored.journal c.in-Ok.ensures.journal
     (device _ _) (store _ _ _) c.in-Err-feed_net.told.outcome (c.in-Err-feed_net.ensures.fed (device _ _))
 
-pub returns-in-Ok-played-clause-decides : goal.returns-in-Ok-played-clause-decides
-returns-in-Ok-played-clause-decides g c words checks =
+pub returns-in-Ok-judged-clause-decides : goal.returns-in-Ok-judged-clause-decides
+returns-in-Ok-judged-clause-decides g c words checks =
     decides_checked words c.args.net c.args.name checks (device _ _) (device _ _) (store _ _ _) (store _ _ _) c.in-Ok.stored.found.items c.in-Ok.stored.journal c.in-Ok.ensures.journal
-    (device _ _) (store _ _ _) c.in-Ok-feed_net.net (c.in-Ok-feed_net.ensures.fed (device _ _)) c.in-Ok-played.answer.told.outcome c.in-Ok-played.answer.text.items c.in-Ok-played.ensures.means
+    (device _ _) (store _ _ _) c.in-Ok-feed_net.net (c.in-Ok-feed_net.ensures.fed (device _ _)) c.in-Ok-judged.answer.told.outcome c.in-Ok-judged.answer.text.items c.in-Ok-judged.ensures.means
     (device _ _) c.give.result.outcome c.give.ensures.gives
 
 pub returns-clause-decides : goal.returns-clause-decides

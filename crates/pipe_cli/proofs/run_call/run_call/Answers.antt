@@ -1,7 +1,7 @@
 use Rattle.std.proofs.Common.{refl}
 use Rattle.outside.specs.Device.{Device, device}
 use Rattle.call_meaning.specs.Meaning.FeedsNet.{of_run}
-use Rattle.call_streams.proofs.Feedings.{decides_no_memory, decides_unfed}
+use Rattle.call_streams.proofs.Feedings.{decides_unfed}
 use Rattle.net_runs.proofs.RunReplies.{decides_run}
 use Rattle.pipe_cli.proofs.run_call.run_call.Goals as goal
 
@@ -10,12 +10,7 @@ returns-in-Err-clause-decides g c = λ words runs same.
     let output : Device = device (g.O.Sink.written c.args.output.now) (g.O.Sink.faults c.args.output.now) in
     decides_unfed words c.args.net _ _ _ refl (λ files of. of_run c.args.steps c.args.trace runs) c.in-Err.told.outcome (c.in-Err.ensures.fed output)
 
-pub returns-in-Ok-run_fed-clause-decides : goal.returns-in-Ok-run_fed-clause-decides
-returns-in-Ok-run_fed-clause-decides g c = λ words runs same.
+pub returns-clause-decides : goal.returns-clause-decides
+returns-clause-decides g c = λ words runs same.
     let output : Device = device (g.O.Sink.written c.args.output.now) (g.O.Sink.faults c.args.output.now) in
-    decides_run words c.args.net _ _ _ output _ _ c.in-Ok.net (c.in-Ok.ensures.fed output) c.args.steps c.args.trace runs c.args.workers same c.in-Ok-run_fed.ready c.in-Ok-run_fed.ensures _ _ c.put_out.result.outcome c.put_out.ensures.puts
-
-pub returns-in-Err-run_fed-clause-decides : goal.returns-in-Err-run_fed-clause-decides
-returns-in-Err-run_fed-clause-decides g c = λ words runs same.
-    let output : Device = device (g.O.Sink.written c.args.output.now) (g.O.Sink.faults c.args.output.now) in
-    rw c.no_memory.ensures.outcome (decides_no_memory words c.args.net _ _ _ refl (λ files of. of_run c.args.steps c.args.trace runs) c.in-Ok.net (c.in-Ok.ensures.fed output))
+    decides_run words c.args.net _ _ _ output _ _ c.in-Ok.net (c.in-Ok.ensures.fed output) c.args.steps c.args.trace runs c.args.workers same _ _ c.carry_out.result.outcome c.carry_out.ensures.carries

@@ -4,8 +4,8 @@ use Rattle.outside.specs.Device.{Device, device}
 use Rattle.pipe_model.specs.Records.{lines}
 use Rattle.call_meaning.specs.Calls.{IsSetOf}
 use Rattle.call_meaning.specs.Devices.{store}
-use Rattle.call_streams.proofs.SetReplies.{decides_listed_no_memory, decides_unlisted, sets_no_memory, sets_unfed}
-use Rattle.net_runs.proofs.SetReplies.{all_writable, decides_sets, fed_few}
+use Rattle.call_streams.proofs.SetReplies.{decides_listed_no_memory, decides_unlisted, sets_unfed}
+use Rattle.net_runs.proofs.SetReplies.{decides_sets, fed_few}
 use Rattle.pipe_cli.proofs.sets_call.sets_call.Goals as goal
 
 pub returns-in-Err-clause-decides : goal.returns-in-Err-clause-decides
@@ -23,29 +23,17 @@ returns-in-Err-feed_sets-clause-decides g c words command =
     sets_unfed words c.args.name c.args.workers c.args.steps command (store _ _ _) (store _ _ _) (device _ _) (device _ _) c.in-Ok.listed.found.items c.in-Ok.listed.text c.in-Ok.ensures.sets c.in-Ok-sets_of.sets.items of
     (device _ _) (store _ _ _) c.in-Err-feed_sets.told.outcome (c.in-Err-feed_sets.ensures.fed (device _ _))
 
-pub run_sets-requires-clause-few : goal.run_sets-requires-clause-few
-run_sets-requires-clause-few g c κs within =
+pub carry_out_sets-requires-clause-few : goal.carry_out_sets-requires-clause-few
+carry_out_sets-requires-clause-few g c κs within =
     let output : Device = device (g.O.Sink.written c.args.output.now) (g.O.Sink.faults c.args.output.now) in
     let of = subst (λ text. AllZip IsSetOf (lines text) c.in-Ok-sets_of.sets.items) c.bytes.ensures c.in-Ok-sets_of.ensures.sets in
     let fed = c.in-Ok-feed_sets.ensures.fed output in
     fed_few c.args.name c.args.steps (store _ _ _) (store _ _ _) c.in-Ok.listed.found.items c.in-Ok.listed.text c.in-Ok.ensures.sets c.in-Ok-sets_of.sets.items of c.in-Ok-feed_sets.sets.items fed.1.given fed.2
-
-pub put_sets_out-requires-clause-ready : goal.put_sets_out-requires-clause-ready
-put_sets_out-requires-clause-ready g c = all_writable c.args.steps c.args.workers c.in-Ok-feed_sets.sets.items c.in-Ok-run_sets.ready.ended.items c.in-Ok-run_sets.ensures.ended
-
-pub returns-in-Ok-run_sets-clause-decides : goal.returns-in-Ok-run_sets-clause-decides
-returns-in-Ok-run_sets-clause-decides g c words command =
-    let output : Device = device (g.O.Sink.written c.args.output.now) (g.O.Sink.faults c.args.output.now) in
-    let of = subst (λ text. AllZip IsSetOf (lines text) c.in-Ok-sets_of.sets.items) c.bytes.ensures c.in-Ok-sets_of.ensures.sets in
-    let fed = c.in-Ok-feed_sets.ensures.fed output in
-    let ran = c.in-Ok-run_sets in
-    decides_sets words c.args.name c.args.workers c.args.steps command (store _ _ _) (store _ _ _) (device _ _) output c.in-Ok.listed.found.items c.in-Ok.listed.text c.in-Ok.ensures.sets c.in-Ok-sets_of.sets.items of ran.ready.ended.items
-    (device _ _) (device _ _) (store _ _ _) (store _ _ _) fed.0 fed.1 c.in-Ok-feed_sets.sets.items fed.2 ran.ensures.ended ran.ready.told.outcome c.put_sets_out.result.outcome ran.ensures.outcome c.put_sets_out.ensures.puts
 
 pub returns-clause-decides : goal.returns-clause-decides
 returns-clause-decides g c words command =
     let output : Device = device (g.O.Sink.written c.args.output.now) (g.O.Sink.faults c.args.output.now) in
     let of = subst (λ text. AllZip IsSetOf (lines text) c.in-Ok-sets_of.sets.items) c.bytes.ensures c.in-Ok-sets_of.ensures.sets in
     let fed = c.in-Ok-feed_sets.ensures.fed output in
-    sets_no_memory words c.args.name c.args.workers c.args.steps command (store _ _ _) (store _ _ _) (device _ _) output c.in-Ok.listed.found.items c.in-Ok.listed.text c.in-Ok.ensures.sets c.in-Ok-sets_of.sets.items of
-    (device _ _) (store _ _ _) fed.0 fed.1 c.no_memory-in-Err-run_sets.result.outcome c.no_memory-in-Err-run_sets.ensures.outcome
+    decides_sets words c.args.name c.args.workers c.args.steps command (store _ _ _) (store _ _ _) (device _ _) output c.in-Ok.listed.found.items c.in-Ok.listed.text c.in-Ok.ensures.sets c.in-Ok-sets_of.sets.items of
+    (device _ _) (device _ _) (store _ _ _) (store _ _ _) fed.0 c.carry_out_sets.result.outcome fed.1 c.in-Ok-feed_sets.sets.items fed.2 c.carry_out_sets.ensures.carries
