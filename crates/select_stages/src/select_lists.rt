@@ -87,6 +87,14 @@ impl Lists for SelectLists {
     }
 
     #[inline(always)]
+    fn only_output(&self) -> Option<u16> {
+        match self {
+            SelectLists::Pick(_) => None,
+            SelectLists::Hold(lists) => lists.only_output(),
+        }
+    }
+
+    #[inline(always)]
     fn halts(&self) -> bool {
         match self {
             SelectLists::Pick(lists) => lists.halts(),

@@ -159,6 +159,14 @@ impl Lists for Window {
     }
 
     #[inline(always)]
+    fn only_output(&self) -> Option<u16> {
+        match self.due {
+            Due::AtHand | Due::Gone => Some(self.leaving),
+            Due::Nothing | Due::Rest => None,
+        }
+    }
+
+    #[inline(always)]
     fn halts(&self) -> bool {
         false
     }

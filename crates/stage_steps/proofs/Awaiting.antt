@@ -1,5 +1,5 @@
 -- What a driver of lists takes as it sees it.
-use Rattle.std.proofs.Common.{◌≡◌, ℕ, Bool, List, [], refl, sym, ◌∙◌, ap, None, Option, option_map}
+use Rattle.std.proofs.Common.{◌≡◌, ℕ, Bool, List, [], refl, sym, ◌∙◌, ap, None, Option, option_map, inl}
 use Rattle.pipe_model.specs.declared.step.Seen.TheVariants.{Saw, Took}
 use Rattle.pipe_model.specs.declared.step.Want.TheVariants.{Read}
 use Rattle.pipe_model.specs.Row.{Act}
@@ -31,4 +31,4 @@ takes_without stands is_looking made x string plain passes = λ bytes without.
     let kept = option_map (kept_after (Saw 0) bytes) w.kept in
     let sifts = passes bytes without in
     sifted stands is_looking made lists w kept bytes refl plain.0 lists w (Read 0) Takes refl
-    (closed stands made (is_looking lists) lists (record w { kept = kept }) plain.0 plain.1 bytes sifts.0 lists sifts.1 sifts.3 1 sifts.2 plain.4 w (Read 0) (looks_again w bytes plain.2 plain.3) Takes refl)
+    (inl (closed stands made (is_looking lists) lists (record w { kept = kept }) plain.0 plain.1 bytes sifts.0 lists sifts.1 sifts.3 1 sifts.2 plain.4 w (Read 0) (looks_again w bytes plain.2 plain.3) Takes refl))

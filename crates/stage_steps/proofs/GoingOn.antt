@@ -5,6 +5,7 @@ use Rattle.pipe_model.specs.declared.step.Want.TheVariants.{Read}
 use Rattle.pipe_model.specs.Row.{Act}
 use Rattle.pipe_model.specs.Shape.{Records, Stream, at_hand_of}
 use Rattle.stage_steps.specs.declared.listed.Listed.{Listed}
+use Rattle.stage_steps.specs.declared.order.Order.TheVariants.{TakesFirst}
 use Rattle.stage_steps.specs.declared.place.Place.{Place}
 use Rattle.stage_steps.specs.declared.place.Follow.TheVariants.{Look}
 use Rattle.stage_steps.specs.declared.place.Place.TheVariants.{Looking, Writing, Taking, Passing, Ending}
@@ -13,29 +14,29 @@ use Rattle.stage_steps.specs.Coroutine.{Resumes}
 use Rattle.stage_steps.specs.Drivers.{ListedStands}
 use Rattle.stage_steps.specs.Kept.{kept_after}
 use Rattle.stage_steps.specs.Group.{held_acts}
-use Rattle.stage_steps.specs.Lists.{Tells}
+use Rattle.stage_steps.specs.Lists.{IsSpent, Tells}
 use Rattle.stage_steps.specs.Outputs.{live}
 use Rattle.stage_steps.specs.Places.{taken_place}
-use Rattle.stage_steps.specs.Walk.{Hears, Asks, Fetches, CanGoOn, HasWrittenFirst, HasNoneToWrite, IsGoingOn}
+use Rattle.stage_steps.specs.Walk.{Hears, Asks, Fetches, CanGoOn, HasSpent, HasWrittenFirst, IsGoingOn}
 use Rattle.stage_steps.proofs.Drives.{steps}
 
 module _ {L : Type 0} (stands : L → Bool → Stream → Records → List Act → Type 0) (is_looking : L → Bool) (x : L) (w : Walk) where
-  abbrev with_walk : Walk → Listed L
-  with_walk v = record { lists = x; walk = v }
+  abbrev with_walk : L → Walk → Listed L
+  with_walk y v = record { lists = y; walk = v }
 
   abbrev looking_on : Walk
   looking_on = record w { place = Looking; kept = option_map (kept_after (Took 0) []) w.kept }
 
-  abbrev Resumed : Walk → Type 0
-  Resumed v = Resumes (λ y s h. ListedStands stands is_looking y s h) (with_walk w) (with_walk v) (Took 0) [] (Read 0)
+  abbrev Resumed : L → Walk → Type 0
+  Resumed y v = Resumes (λ z s h. ListedStands stands is_looking z s h) (with_walk x w) (with_walk y v) (Took 0) [] (Read 0)
 
   abbrev HearsAt : Place → Bool → Place → Type 0
   HearsAt from gives_up place = Hears stands (is_looking x) w.order gives_up x from (Took 0) [] x place
 
   -- the driver's step, where it hears so and asks for the next record
-  stepped : (from : Place) → ((gives_up : Bool) → HearsAt w.place gives_up from) → Asks stands (λ _. None) w.outputs.flags.items x w.hand from x w.hand Looking (Read 0) → Resumed looking_on
-  stepped from hears asks s h e told =
-      steps stands (λ _. None) (is_looking x) x x x (Took 0) [] w looking_on.kept w.outputs from looking_on (is_looking x) (Read 0) s h e refl refl
+  stepped : (y : L) → is_looking y ≡ is_looking x → (from : Place) → ((gives_up : Bool) → HearsAt w.place gives_up from) → Asks stands (λ _. None) w.outputs.flags.items x w.hand from y w.hand Looking (Read 0) → Resumed y looking_on
+  stepped y looks_same from hears asks s h e told =
+      steps stands (λ _. None) (is_looking x) x x y (Took 0) [] w looking_on.kept w.outputs from looking_on (is_looking y) (Read 0) s h e looks_same refl
       (record { stood = told.stood; answer = told.answer; seen_is = told.seen_is; bytes_are = told.bytes_are; room = told.room })
       refl refl refl (hears _) asks
 
@@ -50,31 +51,33 @@ module _ {L : Type 0} (stands : L → Bool → Stream → Records → List Act �
     heard gives_up (inl at) = subst (λ from. HearsAt from gives_up Looking) (sym at) (refl, looks_behind)
     heard gives_up (inr at) = subst (λ from. HearsAt from gives_up Looking) (sym at) (refl, looks_behind)
 
-    written : Resumed looking_on
-    written = stepped Looking (λ gives_up. heard gives_up has.0) (refl, refl, refl, refl)
+    written : Resumed x looking_on
+    written = stepped x refl Looking (λ gives_up. heard gives_up has.0) (refl, refl, refl, refl)
 
-  module _ (has : HasNoneToWrite stands x w) where
+  -- it takes before it writes, and nothing of what is left to write can be done
+  module _ (at : w.place ≡ Taking) (none : w.hand ≡ None) (first : w.order ≡ TakesFirst) (goes_on : Tells stands x false (λ t recs. t.stops recs)) (y : L) (spent : HasSpent stands w.outputs.flags.items x y) where
     -- when the record was taken its pairs are to be written
     heard_taking : (gives_up : Bool) → HearsAt w.place gives_up (Writing Look)
-    heard_taking gives_up = subst (λ from. HearsAt from gives_up (Writing Look)) (sym has.0) (refl, λ over t recs acts is. sym (ap (λ order. taken_place order t recs) has.1))
+    heard_taking gives_up = subst (λ from. HearsAt from gives_up (Writing Look)) (sym at) (refl, λ over t recs acts is. sym (ap (λ order. taken_place order t recs) first))
 
     -- and there are none
-    fetches : Fetches stands (λ _. None) w.outputs.flags.items x w.hand x None
+    fetches : Fetches stands (λ _. None) w.outputs.flags.items x w.hand y None
     fetches over t recs acts is =
-        let none = (has.3 over t recs acts is).0 in (
-          ap (λ hand. live w.outputs.flags.items (held_acts (at_hand_of recs) hand ++ acts)) has.2 ∙ ap (live w.outputs.flags.items) none,
-          subst (λ l. stands x over t recs l) none is,
-        )
+        let done = spent over t recs acts is in (ap (λ hand. live w.outputs.flags.items (held_acts (at_hand_of recs) hand ++ acts)) none ∙ done.0, done.1)
 
-    unwritten : Resumed looking_on
-    unwritten =
-        stepped (Writing Look) heard_taking
-        (x, None, fetches, (refl, has.2, λ t recs acts is. sym (ap (λ b. cond b (Ending (t.code recs)) Looking) (has.3 false t recs acts is).1), refl))
+    pub unwritten : is_looking y ≡ is_looking x → Resumed y looking_on
+    unwritten looks_same =
+        stepped y looks_same (Writing Look) heard_taking
+        (y, None, fetches, (refl, none, λ t recs acts rest was is. ap (λ b. cond b (Ending (t.code recs)) Looking) (goes_on false t recs acts was), refl))
 
-  resumed : CanGoOn stands x w → Resumed looking_on
+  -- where there are no pairs, they are left out as they are
+  has_spent : IsSpent stands x → HasSpent stands w.outputs.flags.items x x
+  has_spent spent over t recs acts is = let none = (spent over t recs acts is).0 in (ap (live w.outputs.flags.items) none, subst (λ l. stands x over t recs l) none is)
+
+  resumed : CanGoOn stands x w → Resumed x looking_on
   resumed (inl has) = written has
-  resumed (inr has) = unwritten has
+  resumed (inr has) = unwritten has.0 has.2 has.1 (λ over t recs acts is. sym (has.3 over t recs acts is).1) x (has_spent has.3) refl
 
   -- where it goes on, it did what it does when it is told that the record was taken
-  pub goes : (v : Walk) → IsGoingOn stands x w v true → Resumed v
-  goes v on = subst Resumed (sym on.1) (resumed on.0)
+  pub goes : (v : Walk) → IsGoingOn stands x w v true → Resumed x v
+  goes v on = subst (Resumed x) (sym on.1) (resumed on.0)

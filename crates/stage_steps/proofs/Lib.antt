@@ -20,6 +20,7 @@ pub mod Showing
 pub mod Sifting
 pub mod SiftingEach
 pub mod Sources
+pub mod Spending
 pub mod Starts
 pub mod Steps
 pub mod Walks

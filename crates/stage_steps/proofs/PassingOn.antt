@@ -131,7 +131,7 @@ module _ {L : Type 0} (stands : L → Bool → Stream → Records → List Act �
       let bytes = bytes_with (form s).looks (Put o rec) in
       let done = goes_on stands (λ _. None) looks x x x (told (Put o rec)) bytes (at_place (Writing Take)) w.kept w.outputs (Writing Take) Taking w.hand (Asked.Take 0) s h (Put o rec)
       is fits refl refl (λ i rec' saw. cc) (none_kept (kept_after (told (Put o rec)) bytes)) refl refl (refl, refl)
-      (x, None, fetches w.outputs.flags.items, (refl, in_hand, λ t recs acts is. refl, refl)) (going s h (Put o rec) fits).0 in
+      (x, None, fetches w.outputs.flags.items, (refl, in_hand, λ t recs acts rest was is. refl, refl)) (going s h (Put o rec) fits).0 in
       (done.0, sym done.1)
 
   -- told that it was taken, it looks at the next one

@@ -1,14 +1,15 @@
 -- What a driver of lists answers to the sight of a record.
-use Rattle.std.proofs.Common.{◌≡◌, ℕ, Bool, true, List, ◌∷◌, refl, sym, subst, Option, option_map, ◌⊎◌, inl, inr}
-use Rattle.pipe_model.specs.declared.step.Seen.TheVariants.{Saw}
+use Rattle.std.proofs.Common.{◌≡◌, ℕ, Bool, true, cond, List, [], ◌∷◌, refl, sym, ◌∙◌, ap, subst, Option, option_map, ◌⊎◌, inl, inr}
+use Rattle.pipe_model.specs.declared.step.Seen.TheVariants.{Saw, Took}
 use Rattle.pipe_model.specs.declared.step.Want.{Want}
+use Rattle.pipe_model.specs.declared.step.Want.TheVariants.{Read, Take}
 use Rattle.pipe_model.specs.declared.net.Strand.{Strand}
 use Rattle.pipe_model.specs.Event.{Event}
 use Rattle.pipe_model.specs.Row.{Act}
 use Rattle.pipe_model.specs.Shape.{Records, Stream}
 use Rattle.stage_steps.specs.declared.listed.Listed.{Listed}
 use Rattle.stage_steps.specs.declared.place.Place.{Place}
-use Rattle.stage_steps.specs.declared.place.Place.TheVariants.{Looking, Passing}
+use Rattle.stage_steps.specs.declared.place.Place.TheVariants.{Looking, Taking, Passing, Ending}
 use Rattle.stage_steps.specs.declared.reply.Reply.{Reply}
 use Rattle.stage_steps.specs.declared.walk.Walk.{Walk}
 use Rattle.stage_steps.specs.Coroutine.{Resumes}
@@ -16,11 +17,11 @@ use Rattle.stage_steps.specs.Drivers.{ListedStands}
 use Rattle.stage_steps.specs.KeptText.{KeptText}
 use Rattle.stage_steps.specs.Kept.{kept_after}
 use Rattle.stage_steps.specs.Lists.{Sees, Tells}
-use Rattle.stage_steps.specs.Places.{sight_place}
+use Rattle.stage_steps.specs.Places.{sight_place, place_with}
 use Rattle.stage_steps.specs.Replies.{Replies}
-use Rattle.stage_steps.specs.Walk.{Hears, IsReply, LooksPlainly, SiftsOn}
+use Rattle.stage_steps.specs.Walk.{Hears, IsReply, LooksPlainly, AsksOn, TakesOn, SiftsOn}
 use Rattle.stage_steps.proofs.Drives.{steps}
-use Rattle.stage_steps.proofs.GoingOn.{goes}
+use Rattle.stage_steps.proofs.GoingOn.{goes, unwritten}
 use Rattle.stage_steps.proofs.PassingOn.{stays, told_so}
 
 module _ {L : Type 0} (stands : L → Bool → Stream → Records → List Act → Type 0) (is_looking : L → Bool) where
@@ -53,9 +54,9 @@ module _ {L : Type 0} (stands : L → Bool → Stream → Records → List Act �
     heard gives_up between from sees tells (inl at) = subst (λ place. Hears stands (is_looking x) w.order gives_up x place (Saw 0) bytes between from) (sym at) (sees, tells)
     heard gives_up between from sees tells (inr at) = subst (λ place. Hears stands (is_looking x) w.order gives_up x place (Saw 0) bytes between from) (sym at) (sees, tells)
 
-    -- so do the lists, where they sift the record
-    pub sifted : LooksPlainly w → (y : L) (v : Walk) (asked : Want) (reply : Reply) → is_looking y ≡ is_looking x → SiftsOn stands made (is_looking x) x seen bytes y v asked reply → Replies Stood (with_walk x w) (with_walk y v) bytes asked reply
-    sifted plain y v asked reply looks_same sifts =
+    -- so do the lists, where they ask for what comes next
+    asked_on : LooksPlainly w → (y : L) (v : Walk) (asked : Want) (reply : Reply) → is_looking y ≡ is_looking x → AsksOn stands made (is_looking x) x seen bytes y v asked reply → Replies Stood (with_walk x w) (with_walk y v) bytes asked reply
+    asked_on plain y v asked reply looks_same sifts =
         let between = sifts.0 in
         let from = sifts.1 in
         let walk = record seen { place = sifts.3; hand = sifts.2 } in
@@ -63,3 +64,24 @@ module _ {L : Type 0} (stands : L → Bool → Stream → Records → List Act �
         steps stands made (is_looking x) x between y (Saw 0) bytes w kept w.outputs from walk (is_looking y) sifts.4 s h e looks_same refl
         (record { stood = t.stood; answer = t.answer; seen_is = t.seen_is; bytes_are = t.bytes_are; room = t.room })
         kept_is refl refl (heard _ between from sifts.5 sifts.6 plain.0) sifts.7) sifts.8
+
+    -- and where the record is taken at once
+    taken_on : LooksPlainly w → (y : L) (v : Walk) (asked : Want) (reply : Reply) → is_looking y ≡ is_looking x → TakesOn stands is_looking x seen bytes y v reply → Replies Stood (with_walk x w) (with_walk y v) bytes asked reply
+    taken_on plain y v asked reply looks_same takes =
+        let between = takes.0 in
+        let before = takes.3 in
+        let walk : Walk = record seen { place = Taking } in
+        let tells : Tells stands between Taking (sight_place w.order) =
+        λ over t recs acts is. sym (ap (λ halts. cond halts (Ending (t.code recs)) (place_with w.order)) (sym (before.1 over t recs acts is)) ∙ ap place_with before.0) in
+        let saw : Saws (with_walk x w) (with_walk between walk) bytes (Take 0) =
+        λ s h e t. steps stands made (is_looking x) x between between (Saw 0) bytes w kept w.outputs Taking walk (is_looking between) (Take 0) s h e takes.1 refl
+        (record { stood = t.stood; answer = t.answer; seen_is = t.seen_is; bytes_are = t.bytes_are; room = t.room })
+        kept_is refl refl (heard _ between Taking takes.2 tells plain.0) (refl, refl, refl, refl) in
+        let took = unwritten stands is_looking between walk refl plain.1 before.0 before.2 y takes.4 (looks_same ∙ sym takes.1) in
+        subst (Replies Stood (with_walk x w) (with_walk y v) bytes asked) (sym takes.6)
+        (with_walk between walk, saw, subst (λ u. Resumes Stood (with_walk between walk) (with_walk y u) (Took 0) [] (Read 0)) (sym takes.5) took)
+
+    -- so they sift the record
+    pub sifted : LooksPlainly w → (y : L) (v : Walk) (asked : Want) (reply : Reply) → is_looking y ≡ is_looking x → SiftsOn stands made is_looking x seen bytes y v asked reply → Replies Stood (with_walk x w) (with_walk y v) bytes asked reply
+    sifted plain y v asked reply looks_same (inl asks) = asked_on plain y v asked reply looks_same asks
+    sifted plain y v asked reply looks_same (inr takes) = taken_on plain y v asked reply looks_same takes

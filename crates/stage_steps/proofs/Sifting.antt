@@ -18,7 +18,7 @@ use Rattle.stage_steps.specs.Kept.{kept_after}
 use Rattle.stage_steps.specs.Lists.{Sees, GivesNext, GoesOn, Tells, once}
 use Rattle.stage_steps.specs.Outputs.{live}
 use Rattle.stage_steps.specs.Places.{sight_place, place_with}
-use Rattle.stage_steps.specs.Walk.{Fetches, Asks, LooksPlainly, IsReply, SiftsOn}
+use Rattle.stage_steps.specs.Walk.{Fetches, Asks, LooksPlainly, IsReply, AsksOn}
 use Rattle.stage_steps.proofs.Acts.{not_due}
 use Rattle.stage_steps.proofs.Groups.{passes_none, fetches_one, fetches_none}
 
@@ -54,8 +54,8 @@ module _ {L : Type 0} (stands : L → Bool → Stream → Records → List Act �
   fetches given = subst (λ hand. Fetches stands made flags between hand y given) (sym plain.1)
 
   -- nothing of it is to be written, and it is taken
-  takes : Leaves → Fetches stands made flags between None y None → (v : Walk) (asked : Want) → v ≡ looking_on → (reply : Reply) → reply ≡ Reply.Takes → SiftsOn stands made looks x w bytes y v asked reply
-  takes leaves fetched v asked is reply says = subst (SiftsOn stands made looks x w bytes y v asked) (sym says) (
+  takes : Leaves → Fetches stands made flags between None y None → (v : Walk) (asked : Want) → v ≡ looking_on → (reply : Reply) → reply ≡ Reply.Takes → AsksOn stands made looks x w bytes y v asked reply
+  takes leaves fetched v asked is reply says = subst (AsksOn stands made looks x w bytes y v asked) (sym says) (
     between,
     Writing Take,
     w.hand,
@@ -63,12 +63,12 @@ module _ {L : Type 0} (stands : L → Bool → Stream → Records → List Act �
     Asked.Take 0,
     sees,
     tells leaves,
-    (y, None, fetches None fetched, (refl, plain.1, λ t recs acts is. refl, refl)),
+    (y, None, fetches None fetched, (refl, plain.1, λ t recs acts rest was is. refl, refl)),
     (refl, (inl (inl refl, first, λ over t recs acts is. sym (on.0 over t recs acts is).1), is)),
   )
 
   -- the lists give nothing
-  pub drops : GivesNext stands made between y None → (v : Walk) (asked : Want) → v ≡ looking_on → (reply : Reply) → reply ≡ Reply.Takes → SiftsOn stands made looks x w bytes y v asked reply
+  pub drops : GivesNext stands made between y None → (v : Walk) (asked : Want) → v ≡ looking_on → (reply : Reply) → reply ≡ Reply.Takes → AsksOn stands made looks x w bytes y v asked reply
   drops gives = takes (λ over t recs acts is. ([], (gives over t recs acts is).1)) (fetches_none stands made flags between between y None (passes_none stands made flags between) gives)
 
   module _ (output : ℕ) (gives : GivesNext stands made between y (Some (once output))) where
@@ -84,7 +84,7 @@ module _ {L : Type 0} (stands : L → Bool → Stream → Records → List Act �
           subst (λ l. stands y over t recs l) none_left n.2,
         )
 
-    pub closed : flag_at flags output ≡ false → (v : Walk) (asked : Want) → v ≡ looking_on → (reply : Reply) → reply ≡ Reply.Takes → SiftsOn stands made looks x w bytes y v asked reply
+    pub closed : flag_at flags output ≡ false → (v : Walk) (asked : Want) → v ≡ looking_on → (reply : Reply) → reply ≡ Reply.Takes → AsksOn stands made looks x w bytes y v asked reply
     closed is = takes leaves_rest (passed_over is)
 
     module _ (opened : flag_at flags output ≡ true) where
@@ -92,12 +92,12 @@ module _ {L : Type 0} (stands : L → Bool → Stream → Records → List Act �
       asks : Asks stands made flags between w.hand (Writing Take) y w.hand (Writing Take) (Asked.Write output (Same 0))
       asks = (y, Some (once output), fetches (Some (once output)) (fetches_one stands made flags between between y None (once output) (passes_none stands made flags between) gives (ap (λ b. b && true) opened)), ((refl, plain.1, refl), refl))
 
-      writes : (v : Walk) (asked : Want) (reply : Reply) → IsReply stands y at_writing (Asked.Write output (Same 0)) v asked reply → SiftsOn stands made looks x w bytes y v asked reply
+      writes : (v : Walk) (asked : Want) (reply : Reply) → IsReply stands y at_writing (Asked.Write output (Same 0)) v asked reply → AsksOn stands made looks x w bytes y v asked reply
       writes v asked reply replied = (between, Writing Take, w.hand, Writing Take, Asked.Write output (Same 0), sees, tells leaves_rest, asks, replied)
 
       -- and is passed on, where nothing is kept
-      pub passes_on : is_some w.kept ≡ false → (v : Walk) (asked : Want) → v ≡ record w { place = Passing } → asked ≡ Asked.Write output (Same 0) → SiftsOn stands made looks x w bytes y v asked Reply.Passes
+      pub passes_on : is_some w.kept ≡ false → (v : Walk) (asked : Want) → v ≡ record w { place = Passing } → asked ≡ Asked.Write output (Same 0) → AsksOn stands made looks x w bytes y v asked Reply.Passes
       passes_on keeps v asked is asked_is = writes v asked Reply.Passes (asked_is, ((inl refl, none_kept w.kept keeps, plain.1, first, on.0), is))
 
-      pub asks_on : (v : Walk) (asked : Want) → v ≡ at_writing → asked ≡ Asked.Write output (Same 0) → SiftsOn stands made looks x w bytes y v asked Reply.Asks
+      pub asks_on : (v : Walk) (asked : Want) → v ≡ at_writing → asked ≡ Asked.Write output (Same 0) → AsksOn stands made looks x w bytes y v asked Reply.Asks
       asks_on v asked is asked_is = writes v asked Reply.Asks (asked_is, is)

@@ -462,11 +462,11 @@ module _ {L : Type 0} (stands : L → Bool → Stream → Records → List Act �
       is_put over given (New o) rest sight seen of puts stood =
           (puts.0 over t (records_of p.known.seen) rest stood, puts.1, ap (λ a. Some (meaning a (last_seen h))) puts.2, subst (λ a. IsSeenBefore a h) (sym puts.2) tt)
 
-  asks_at : (follow : Follow) (given : L) (group : Option Group) → last_seen_on 0 h ≡ at_hand_of (records_of p.known.seen) → (0 < length (records_of p.known.seen) → IsSome (record_seen_on 0 h)) → PlaceIs stands order t false x (Writing follow) hand flags p → Fetches stands made flags x hand given group → Turns stands made follow given group y hand' place' asked → HasAsked (Writing follow)
+  asks_at : (follow : Follow) (given : L) (group : Option Group) → last_seen_on 0 h ≡ at_hand_of (records_of p.known.seen) → (0 < length (records_of p.known.seen) → IsSome (record_seen_on 0 h)) → PlaceIs stands order t false x (Writing follow) hand flags p → Fetches stands made flags x hand given group → Turns stands made follow x given group y hand' place' asked → HasAsked (Writing follow)
   asks_at follow given None sight seen is fetches turn =
       let rec = at_hand_of (records_of p.known.seen) in
       let f = fetches (is_last follow) t (records_of p.known.seen) is.0 is.1 in
-      behind follow (subst (λ z. stands z (is_last follow) t (records_of p.known.seen) []) (sym turn.0) f.1) turn.1 (turn.2 t (records_of p.known.seen) [] f.1) turn.3
+      behind follow (subst (λ z. stands z (is_last follow) t (records_of p.known.seen) []) (sym turn.0) f.1) turn.1 (turn.2 t (records_of p.known.seen) is.0 [] is.1 f.1) turn.3
       (is.2 ∙ ap (λ l. Doing l (goal_behind follow t (records_of p.known.seen))) (live_behind flags follow (held_acts rec hand ++ is.0) ∙ ap (and_behind follow) f.0))
   asks_at follow given (Some g) sight seen is fetches turn =
       let f = fetches.2 (is_last follow) t (records_of p.known.seen) is.0 is.1 in

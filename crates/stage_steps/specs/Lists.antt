@@ -2,6 +2,7 @@
 use Rattle.std.specs.Prelude.{◌≡◌, ◌<◌, ◌||◌, ℕ, Bool, true, false, List, [], ◌∷◌, ◌++◌, length, is_some, unwrap_or}
 use Rattle.std.specs.declared.option.Option.{Option}
 use Rattle.std.specs.declared.option.Option.TheVariants.{Some, None}
+use Rattle.pipe_model.specs.Members.{flag_at}
 use Rattle.pipe_model.specs.Row.{Act}
 use Rattle.pipe_model.specs.Shape.{Records, Outs, Stream, each_record, writes, acts_of, last_pairs, at_hand_of}
 use Rattle.pipe_model.specs.declared.kind.Times.TheVariants.{Only}
@@ -10,6 +11,7 @@ use Rattle.stage_steps.specs.declared.group.Group.TheVariants.{AtHand}
 use Rattle.stage_steps.specs.declared.sifted.Sifted.{Sifted}
 use Rattle.stage_steps.specs.declared.sifted.Sifted.TheVariants.{Drops, Passes, Gives}
 use Rattle.stage_steps.specs.Group.{group_acts, IsHeld, IsOfRecord}
+use Rattle.stage_steps.specs.Outputs.{live}
 
 -- it gives the pairs at the start
 abbrev pub Begins : {L : Type 0} → (L → Bool → Stream → Records → List Act → Type 0) → L → L → Type 0
@@ -41,6 +43,10 @@ HandsOver stands made x rec y = is_some (made x) ≡ true → (rec ≡ unwrap_or
 -- nothing is left to write, and the stream doesn't stop after the records so far
 abbrev pub IsSpent : {L : Type 0} → (L → Bool → Stream → Records → List Act → Type 0) → L → Type 0
 IsSpent stands x = (over : Bool) (t : Stream) (recs : Records) (acts : List Act) → stands x over t recs acts → (acts ≡ []) × (t.stops recs ≡ false)
+
+-- all that is left to write is for this output: where that isn't open, nothing of it can be done
+abbrev pub IsAllFor : {L : Type 0} → (L → Bool → Stream → Records → List Act → Type 0) → L → ℕ → Type 0
+IsAllFor stands x output = (over : Bool) (t : Stream) (recs : Records) (acts : List Act) → stands x over t recs acts → (flags : List Bool) → flag_at flags output ≡ false → live flags acts ≡ []
 
 -- what it tells is what the stream says after the records so far
 abbrev pub Tells : {L A : Type 0} → (L → Bool → Stream → Records → List Act → Type 0) → L → A → (Stream → Records → A) → Type 0

@@ -96,14 +96,14 @@ Puts stands made y (New o) z hand asked = StandsOn stands y z × (hand ≡ None)
 abbrev pub TellsBehind : {L : Type 0} → (L → Bool → Stream → Records → List Act → Type 0) → L → Follow → Place → Type 0
 TellsBehind stands x follow place = (t : Stream) (recs : Records) (acts : List Act) → stands x (is_last follow) t recs acts → place ≡ place_behind follow t recs
 
--- a group is written, or where there is none the walk goes on
-abbrev pub Turns : {L : Type 0} → (L → Bool → Stream → Records → List Act → Type 0) → (L → Option (List ℕ)) → Follow → L → Option Group → L → Option Repeat → Place → Want → Type 0
-Turns stands made follow y (Some g) z hand place asked = Puts stands made y g z hand asked × (place ≡ Writing follow)
-Turns stands made follow y None z hand place asked = (z ≡ y) × (hand ≡ None) × TellsBehind stands y follow place × (asked ≡ want_at place)
+-- a group is written, or where there is none the walk goes on, where the lists that gave it stand and stood so
+abbrev pub Turns : {L : Type 0} → (L → Bool → Stream → Records → List Act → Type 0) → (L → Option (List ℕ)) → Follow → L → L → Option Group → L → Option Repeat → Place → Want → Type 0
+Turns stands made follow x y (Some g) z hand place asked = Puts stands made y g z hand asked × (place ≡ Writing follow)
+Turns stands made follow x y None z hand place asked = (z ≡ y) × (hand ≡ None) × ((t : Stream) (recs : Records) (acts rest : List Act) → stands x (is_last follow) t recs acts → stands y (is_last follow) t recs rest → place ≡ place_behind follow t recs) × (asked ≡ want_at place)
 
 -- what is asked for in a place, and what is so then
 abbrev pub Asks : {L : Type 0} → (L → Bool → Stream → Records → List Act → Type 0) → (L → Option (List ℕ)) → List Bool → L → Option Repeat → Place → L → Option Repeat → Place → Want → Type 0
-Asks {L} stands made flags x hand (Writing follow) z hand' place asked = (y : L) × (given : Option Group) × Fetches stands made flags x hand y given × Turns stands made follow y given z hand' place asked
+Asks {L} stands made flags x hand (Writing follow) z hand' place asked = (y : L) × (given : Option Group) × Fetches stands made flags x hand y given × Turns stands made follow x y given z hand' place asked
 Asks stands made flags x hand from z hand' place asked = (z ≡ x) × (hand' ≡ hand) × (place ≡ from) × (asked ≡ want_at from)
 
 -- it looks at the next record, and has nothing in hand
@@ -126,9 +126,32 @@ IsReply stands x w want v asked Reply.Takes = (want ≡ Consumes 0) × IsGoingOn
 IsReply stands x w want v asked Reply.Passes = (asked ≡ want) × IsPassing stands x w v true
 IsReply stands x w want v asked Reply.Asks = (asked ≡ want) × (v ≡ w)
 
--- the answer to the sight of a record, where it looks plainly at it: the lists give its pairs, the first of them is asked for, or the record is taken
-abbrev pub SiftsOn : {L : Type 0} → (L → Bool → Stream → Records → List Act → Type 0) → (L → Option (List ℕ)) → Bool → L → Walk → List ℕ → L → Walk → Want → Reply → Type 0
-SiftsOn {L} stands made looks x w bytes y v asked reply =
+-- the answer where it asks for what comes next, at the sight of a record at which it looks plainly: the lists give its pairs, the first of them is asked for, or the record is taken
+abbrev pub AsksOn : {L : Type 0} → (L → Bool → Stream → Records → List Act → Type 0) → (L → Option (List ℕ)) → Bool → L → Walk → List ℕ → L → Walk → Want → Reply → Type 0
+AsksOn {L} stands made looks x w bytes y v asked reply =
     (between : L) × (from : Place) × (hand : Option Repeat) × (place : Place) × (want : Want)
     × Sees stands looks x between bytes × Tells stands between from (sight_place w.order) × Asks stands made w.outputs.flags.items between w.hand from y hand place want
     × IsReply stands y (record w { place = place; hand = hand }) want v asked reply
+
+-- it takes the record at hand before it writes the pairs of that, and looks at the next one behind them
+abbrev pub TakesBefore : {L : Type 0} → (L → Bool → Stream → Records → List Act → Type 0) → L → Order → Type 0
+TakesBefore stands x order = (order ≡ TakesFirst) × Tells stands x false (λ t recs. t.halts recs) × Tells stands x false (λ t recs. t.stops recs)
+
+-- nothing of what was left to write can be done, and nothing is left now
+abbrev pub HasSpent : {L : Type 0} → (L → Bool → Stream → Records → List Act → Type 0) → List Bool → L → L → Type 0
+HasSpent stands flags x y = (over : Bool) (t : Stream) (recs : Records) (acts : List Act) → stands x over t recs acts → (live flags acts ≡ []) × stands y over t recs []
+
+-- whether it was left out
+abbrev pub Spends : {L : Type 0} → (L → Bool → Stream → Records → List Act → Type 0) → List Bool → L → L → Bool → Type 0
+Spends stands flags x y true = HasSpent stands flags x y
+Spends stands flags x y false = y ≡ x
+
+-- the answer where the record is taken at once, as the lists give pairs of it that can't be written
+abbrev pub TakesOn : {L : Type 0} → (L → Bool → Stream → Records → List Act → Type 0) → (L → Bool) → L → Walk → List ℕ → L → Walk → Reply → Type 0
+TakesOn {L} stands is_looking x w bytes y v reply =
+    (between : L) × (is_looking between ≡ is_looking x) × Sees stands (is_looking x) x between bytes × TakesBefore stands between w.order × HasSpent stands w.outputs.flags.items between y
+    × (v ≡ record w { place = Looking; kept = option_map (kept_after (Took 0) []) w.kept }) × (reply ≡ Reply.Takes)
+
+-- the answer to the sight of a record at which it looks plainly
+abbrev pub SiftsOn : {L : Type 0} → (L → Bool → Stream → Records → List Act → Type 0) → (L → Option (List ℕ)) → (L → Bool) → L → Walk → List ℕ → L → Walk → Want → Reply → Type 0
+SiftsOn stands made is_looking x w bytes y v asked reply = AsksOn stands made (is_looking x) x w bytes y v asked reply ⊎ TakesOn stands is_looking x w bytes y v reply

@@ -2,7 +2,7 @@ ghost use Rattle.std.specs.Prelude.{◌≡◌, ◌<◌, ℕ, List, [], Bool, tru
 ghost use Rattle.pipe_model.specs.Row.{Act};
 ghost use Rattle.pipe_model.specs.Shape.{Records, Stream};
 ghost use Rattle.stage_steps.specs.Awaits.{PassesWithout};
-ghost use Rattle.stage_steps.specs.Lists.{Begins, Sees, Finishes, GivesNext, HandsOver, IsSpent, Tells, TellsAtEnd, Sifts};
+ghost use Rattle.stage_steps.specs.Lists.{Begins, Sees, Finishes, GivesNext, HandsOver, IsAllFor, IsSpent, Tells, TellsAtEnd, Sifts};
 
 use crate::group::Group;
 use crate::sifted::Sifted;
@@ -78,6 +78,14 @@ pub trait Lists: Sized + Drop {
         ensures { result ≡ true → IsSpent stands self.now }
     {
         false
+    }
+
+    /// The one output for which all is that is left of the list that it gives now. The answer may always be `None`.
+    #[inline(always)]
+    fn only_output(&self) -> Option<u16>
+        ensures { IfSome result (λ output. IsAllFor stands self.now output) }
+    {
+        None
     }
 
     /// Whether it ends at the sight of the record at hand.

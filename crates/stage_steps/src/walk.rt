@@ -5,7 +5,7 @@ ghost use Rattle.stage_steps.specs.Outputs.{none_left};
 ghost use Rattle.stage_steps.specs.Group.{less, less_one, IsHeld};
 ghost use Rattle.stage_steps.specs.Places.{look_place, sight_place, taken_place};
 ghost use Rattle.stage_steps.specs.Lists.{Sifts, Tells};
-ghost use Rattle.stage_steps.specs.Walk.{IsBegun, Hears, CanPass, IsPassing, CanGoOn, IsGoingOn, Fetches, Puts, Asks, TellsBehind, LooksPlainly, WritesPlainly, IsReply, IsGivenBy, SiftsOn};
+ghost use Rattle.stage_steps.specs.Walk.{IsBegun, Hears, CanPass, IsPassing, CanGoOn, IsGoingOn, Fetches, Puts, Asks, TellsBehind, LooksPlainly, WritesPlainly, IsReply, IsGivenBy, SiftsOn, Spends, TakesBefore};
 ghost use Rattle.stage_steps.specs.Kept.{kept_after};
 ghost use Rattle.stage_steps.specs.Awaits.{TakesPlainly};
 ghost use Rattle.stage_steps.specs.declared.place.Place.TheVariants.{Looking};
@@ -409,6 +409,31 @@ fn take_on(walk: &mut Walk) -> Reply
     Reply::Takes
 }
 
+// Whether it takes the record at hand before it writes the pairs of that, and looks at the next one behind them.
+#[inline(always)]
+fn takes_before<L: Lists>(lists: &L, order: Order) -> bool
+    ensures { result ≡ true → TakesBefore L.stands lists.now order }
+{
+    matches!(order, Order::TakesFirst) && !lists.halts() && !lists.stops()
+}
+
+// Leaves out all that is left to write, where it is for one output and that isn't open.
+#[inline(always)]
+fn spend<L: Lists>(lists: &mut L, outputs: &Outputs, alloc: Global) -> Result<bool, NoMemory>
+    ensures looks_same { L.is_looking lists.new ≡ L.is_looking lists.old }
+    ensures spends { IfOk result (λ spent. Spends L.stands outputs.now.flags.items lists.old lists.new spent) }
+{
+    match lists.only_output() {
+        Some(output) => if outputs.is_open(output) {
+            Ok(false)
+        } else {
+            next_group(lists, outputs, alloc)?;
+            Ok(true)
+        },
+        None => Ok(false),
+    }
+}
+
 // The lists see a record, and may say at once what they give for it, where that is written before the record is taken.
 #[inline(always)]
 fn sift_by<L: Lists>(
@@ -441,7 +466,7 @@ pub(crate) fn sift<L: Lists>(
 ) -> Result<Reply, NoMemory>
     requires plain { LooksPlainly walk.old }
     ensures looks_same { L.is_looking lists.new ≡ L.is_looking lists.old }
-    ensures sifts { IfOk result (λ reply. SiftsOn L.stands L.made (L.is_looking lists.old) lists.old walk.old bytes.now lists.new walk.new asked.new reply) }
+    ensures sifts { IfOk result (λ reply. SiftsOn L.stands L.made L.is_looking lists.old walk.old bytes.now lists.new walk.new asked.new reply) }
 {
     match sift_by(lists, walk.order, alloc, bytes)? {
         Sifted::Drops => Ok(take_on(walk)),
@@ -458,6 +483,11 @@ pub(crate) fn sift<L: Lists>(
             }
         },
         Sifted::Gives => {
+            if takes_before(lists, walk.order) {
+                if spend(lists, &walk.outputs, alloc)? {
+                    return Ok(take_on(walk));
+                }
+            }
             let place = sight_place(lists, walk.order);
             let want = ask(lists, walk, place, alloc)?;
             Ok(reply(lists, walk, want, asked))

@@ -26,6 +26,7 @@ pub struct Counts {
 }
 
 // What a record adds to a total.
+#[inline(always)]
 fn added_by(rec: &[u8], total: Total) -> u128
     ensures { result ≡ added_by rec.now total }
 {
@@ -37,6 +38,7 @@ fn added_by(rec: &[u8], total: Total) -> u128
 }
 
 // Adds to each tally what a record adds to it.
+#[inline(always)]
 fn add(tallies: &mut Vec<Tally>, rec: &[u8])
     ensures { tallies.new.items ≡ map (tally_with rec.now) tallies.old.items }
 {

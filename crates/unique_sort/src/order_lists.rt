@@ -71,6 +71,7 @@ impl Lists for OrderLists {
         }
     }
 
+    #[inline(always)]
     fn see(&mut self, alloc: Global, bytes: &[u8]) -> Result<(), NoMemory> {
         match self {
             OrderLists::First(lists) => lists.see(alloc, bytes),
@@ -127,6 +128,14 @@ impl Lists for OrderLists {
             OrderLists::Hold(lists) => lists.is_spent(),
             OrderLists::Sort(lists) => lists.is_spent(),
             OrderLists::Count(lists) => lists.is_spent(),
+        }
+    }
+
+    #[inline(always)]
+    fn only_output(&self) -> Option<u16> {
+        match self {
+            OrderLists::Hold(lists) => lists.only_output(),
+            _ => None,
         }
     }
 

@@ -71,6 +71,8 @@ impl Lists for Sorts {
 
     fn begin(&mut self) {}
 
+    // It is a call of its own, so that the loop that runs all stages stays short.
+    #[inline(never)]
     fn see(&mut self, alloc: Global, bytes: &[u8]) -> Result<(), NoMemory> {
         let rec = Keyed::new(alloc, self.keys.as_slice(), bytes)?;
         self.records.push(rec)?;

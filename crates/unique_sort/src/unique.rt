@@ -169,6 +169,8 @@ impl Lists for Holds {
 
     fn begin(&mut self) {}
 
+    // It is a call of its own, so that the loop that runs all stages stays short.
+    #[inline(never)]
     fn see(&mut self, alloc: Global, bytes: &[u8]) -> Result<(), NoMemory> {
         let next = Rec::from_slice(alloc, bytes)?;
         let k = self.run.count();
@@ -205,6 +207,11 @@ impl Lists for Holds {
     #[inline(always)]
     fn is_spent(&self) -> bool {
         self.due.is_none()
+    }
+
+    #[inline(always)]
+    fn only_output(&self) -> Option<u16> {
+        self.due
     }
 
     fn halts(&self) -> bool {
