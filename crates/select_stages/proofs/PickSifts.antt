@@ -4,7 +4,7 @@ use Rattle.std.proofs.lemmas.List.{length-append}
 use Rattle.pipe_model.specs.Row.Act.{Writes}
 use Rattle.pipe_model.specs.SelectionRows.{selected}
 use Rattle.pipe_model.specs.Shape.{Records, Stream, acts_of, writes, at_hand_of}
-use Rattle.stage_steps.specs.Lists.{Sees, Sifts, once}
+use Rattle.stage_steps.specs.Lists.{Sees, Sifts}
 use Rattle.stage_steps.specs.declared.sifted.Sifted.TheVariants.{Passes}
 use Rattle.select_stages.specs.declared.picks.Picked.{Picked}
 use Rattle.select_stages.specs.PickLists.{PickedStand}

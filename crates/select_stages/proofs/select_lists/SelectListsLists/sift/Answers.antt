@@ -1,4 +1,4 @@
-use Rattle.std.proofs.Common.{ℕ, Bool, List, None, sym, subst}
+use Rattle.std.proofs.Common.{ℕ, List, None, sym, subst}
 use Rattle.std.proofs.lemmas.Result.{IfOk-weaker}
 use Rattle.stage_steps.specs.declared.sifted.Sifted.{Sifted}
 use Rattle.stage_steps.specs.declared.sifted.Sifted.TheVariants.{Drops, Passes, Gives}
