@@ -7,7 +7,7 @@ use Rattle.std.proofs.lemmas.Bool.{cases_lt, ne_eqb}
 use Rattle.std.proofs.lemmas.List.{take_all, drop_all, drop_more, drop-drop, drop-take, take-append-le, append-nil}
 use Rattle.pipe_model.specs.Ranges.{Place, between, words_from, spanned, words_spanned}
 use Rattle.stage_steps.proofs.Words.{blanks, letters, past_blanks, past_word, is_word, word_len-le, spanned-take, length-words}
-use Rattle.specs_stage.specs.Hands.{words_at_end, AreFound, HasNoWord, IsNextWord, words_wanted}
+use Rattle.specs_stage.specs.Hands.{words_at_end, AreEnough, AreFound, HasNoWord, IsNextWord}
 
 empty_of : {A : Type 0} (xs : List A) (empty : Bool) → empty ≡ (length xs == 0) → empty ≡ true → xs ≡ []
 empty_of [] empty e f = refl
@@ -65,9 +65,13 @@ taken count rec rest found are enough = ⊎_elim
     (λ le. sym (take-append-le count found (words_at_end (length rec) rest) le) ∙ ap (take count) are.words)
     (λ none. ap (take count) (sym (append-nil found) ∙ ap (λ l. found ++ words_at_end (length rec) l) (sym none) ∙ are.words)) enough
 
-named : (first : ℕ) (last : Option ℕ) (len : ℕ) (ws : List Place) → length ws ≤ len → drop (first - 1) (take (words_wanted len first last) ws) ≡ between first last ws
-named first None len ws short = ap (drop (first - 1)) (take_all len ws short)
-named first (Some last) len ws short = drop-take (first - 1) (last + 1 - first) ws
+-- all words, which are no more than there are bytes
+pub all_enough : (len first : ℕ) → AreEnough len first None len
+all_enough len first words short = ap (drop (first - 1)) (take_all len words short)
+
+-- or those up to the last one
+pub up_to_last : (len first last : ℕ) → AreEnough len first (Some last) ((first - 1) + (last + 1 - first))
+up_to_last len first last words short = drop-take (first - 1) (last + 1 - first) words
 
 -- the end of a list, cut where the list is cut
 cut : (skipped begin end : ℕ) (ws : List Place) → begin ≡ min end skipped → take (end - begin) (drop begin ws) ≡ drop skipped (take end ws)
@@ -83,11 +87,11 @@ take_less count end ws end_is = ⊎_elim
     (λ low. let same : end ≡ count = omega (arith, end_is, low) in ap (λ k. take k ws) same)
     (λ high. take_all end ws (omega (arith, end_is, high)) ∙ sym (take_all count ws high)) (cases_lt count (length ws))
 
-pub words_named : (first : ℕ) (last : Option ℕ) (count begin end : ℕ) (rec rest : List ℕ) (found : List Place) → AreFound rec rest found → count ≡ words_wanted (length rec) first last
+pub words_named : (first : ℕ) (last : Option ℕ) (count begin end : ℕ) (rec rest : List ℕ) (found : List Place) → AreFound rec rest found → AreEnough (length rec) first last count
     → (count ≤ length found) ⊎ (rest ≡ []) → end ≡ min count (length found) → begin ≡ min end (first - 1) → take (end - begin) (drop begin found) ≡ between first last (words_from 0 rec)
-words_named first last count begin end rec rest found are count_is enough end_is begin_is =
-    cut (first - 1) begin end found begin_is ∙ ap (drop (first - 1)) (take_less count end found end_is ∙ taken count rec rest found are enough ∙ ap (λ k. take k (words_from 0 rec)) count_is)
-    ∙ named first last (length rec) (words_from 0 rec) (length-words 0 rec)
+words_named first last count begin end rec rest found are names enough end_is begin_is =
+    cut (first - 1) begin end found begin_is ∙ ap (drop (first - 1)) (take_less count end found end_is ∙ taken count rec rest found are enough)
+    ∙ names (words_from 0 rec) (length-words 0 rec)
 
 -- from the first word to the end of the last
 spanned_by : (ws : List Place) (rec : List ℕ) (first last : Place) → ws ≢ [] → first ≡ get_or ws 0 first → last ≡ get_or ws (length ws - 1) last → take (last.1 - first.0) (drop first.0 rec) ≡ words_spanned ws rec

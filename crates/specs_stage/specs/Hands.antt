@@ -1,8 +1,7 @@
 -- What the words found of a record stand for; it serves the inside.
-use Rattle.std.specs.Prelude.{◌≡◌, ◌≤◌, ◌<◌, ◌+◌, ◌-◌, ℕ, List, [], ◌∷◌, ◌++◌, length, drop}
+use Rattle.std.specs.Prelude.{◌≡◌, ◌≤◌, ◌<◌, ◌-◌, ℕ, List, [], ◌∷◌, ◌++◌, length, drop, take}
 use Rattle.std.specs.declared.option.Option.{Option}
-use Rattle.std.specs.declared.option.Option.TheVariants.{Some, None}
-use Rattle.pipe_model.specs.Ranges.{Place, words_from}
+use Rattle.pipe_model.specs.Ranges.{Place, between, words_from}
 
 -- the places of the words of what stands at the end of a record of this length
 abbrev pub words_at_end : ℕ → List ℕ → List Place
@@ -24,8 +23,6 @@ pub record IsNextWord (len : ℕ) (rest : List ℕ) (word : Place) (behind : Lis
   pub behind_is : behind ≡ drop (length rest - length behind) rest
   pub less : length behind < length rest
 
--- how many words of a record of this length are to be found for a range; without a last one all, which are no more than
--- there are bytes
-abbrev pub words_wanted : ℕ → ℕ → Option ℕ → ℕ
-words_wanted len first None = len
-words_wanted len first (Some last) = (first - 1) + (last + 1 - first)
+-- with so many of the words found, those that a range names are found: of the words of a record, which are no more than it has bytes
+abbrev pub AreEnough : ℕ → ℕ → Option ℕ → ℕ → Type 0
+AreEnough len first last count = (words : List Place) → length words ≤ len → drop (first - 1) (take count words) ≡ between first last words

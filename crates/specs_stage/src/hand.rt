@@ -1,7 +1,7 @@
 ghost use Rattle.std.specs.Prelude.{◌≡◌, ◌≤◌, ◌+◌, ◌-◌, length, MatchOption, IfOk};
 ghost use Rattle.pipe_model.specs.Ranges.{cut_by, part_of, words_spanned};
 ghost use Rattle.pipe_model.specs.declared.range.Span.TheVariants.{Words};
-ghost use Rattle.specs_stage.specs.Hands.{HasNoWord, IsNextWord, words_wanted};
+ghost use Rattle.specs_stage.specs.Hands.{AreEnough, HasNoWord, IsNextWord};
 
 use pipe_model::{NoMemory, Range, Span, behind, first_word, front, without_blanks};
 use stage_steps::part_of;
@@ -46,7 +46,7 @@ impl<'a> Model for Hand<'a> {
 // How many words of a record of `len` bytes a range wants found, which may be more than there are.
 #[inline]
 fn wanted(len: usize, first: u32, last: Option<u32>) -> usize
-    ensures { result ≡ words_wanted len first last }
+    ensures { AreEnough len first last result }
 {
     match last {
         None => len,
